@@ -1,0 +1,68 @@
+-- Errors that a server answers (RESP, "Simple errors", "Bulk errors").
+use Rattle.std.specs.Prelude.{ℕ, List, Bool, codes, cond, Option, None, Some, ◌==◌, length}
+use Rattle.std.specs.Str.{bytes_eq}
+use Rattle.std.specs.List.{position_or_len, before_first, after_first}
+use Rattle.resp_value.specs.declared.errors.kinds.ServerErrorKind.{ServerErrorKind}
+use Rattle.resp_value.specs.declared.errors.kinds.ServerErrorKind.TheVariants.{ResponseError, ExecAbort, BusyLoading, NoScript, Moved, Ask, TryAgain, ClusterDown, CrossSlot, MasterDown, ReadOnly, NotBusy, NoSub, NoPerm}
+use Rattle.resp_value.specs.declared.errors.server_error.ServerError.{ServerError}
+use Rattle.resp_value.specs.declared.errors.server_error.ServerError.TheVariants.{Known, Extension}
+
+-- the code of each known kind
+abbrev pub code_of_kind : ServerErrorKind → List ℕ
+code_of_kind ResponseError = codes "ERR"
+code_of_kind ExecAbort = codes "EXECABORT"
+code_of_kind BusyLoading = codes "LOADING"
+code_of_kind NoScript = codes "NOSCRIPT"
+code_of_kind Moved = codes "MOVED"
+code_of_kind Ask = codes "ASK"
+code_of_kind TryAgain = codes "TRYAGAIN"
+code_of_kind ClusterDown = codes "CLUSTERDOWN"
+code_of_kind CrossSlot = codes "CROSSSLOT"
+code_of_kind MasterDown = codes "MASTERDOWN"
+code_of_kind ReadOnly = codes "READONLY"
+code_of_kind NotBusy = codes "NOTBUSY"
+code_of_kind NoSub = codes "NOSUB"
+code_of_kind NoPerm = codes "NOPERM"
+
+-- the kind whose code this is, if it is a known code
+unfoldable pub kind_of_code : List ℕ → Option ServerErrorKind
+kind_of_code code =
+    cond (bytes_eq code (codes "ERR")) (Some ResponseError)
+    (cond (bytes_eq code (codes "EXECABORT")) (Some ExecAbort)
+    (cond (bytes_eq code (codes "LOADING")) (Some BusyLoading)
+    (cond (bytes_eq code (codes "NOSCRIPT")) (Some NoScript)
+    (cond (bytes_eq code (codes "MOVED")) (Some Moved)
+    (cond (bytes_eq code (codes "ASK")) (Some Ask)
+    (cond (bytes_eq code (codes "TRYAGAIN")) (Some TryAgain)
+    (cond (bytes_eq code (codes "CLUSTERDOWN")) (Some ClusterDown)
+    (cond (bytes_eq code (codes "CROSSSLOT")) (Some CrossSlot)
+    (cond (bytes_eq code (codes "MASTERDOWN")) (Some MasterDown)
+    (cond (bytes_eq code (codes "READONLY")) (Some ReadOnly)
+    (cond (bytes_eq code (codes "NOTBUSY")) (Some NotBusy)
+    (cond (bytes_eq code (codes "NOSUB")) (Some NoSub)
+    (cond (bytes_eq code (codes "NOPERM")) (Some NoPerm) None)))))))))))))
+
+-- an error of this code and detail
+abbrev pub error_with : List ℕ → Option (List ℕ) → ServerError
+error_with code detail = elim (kind_of_code code) [ Some kind ↦ Known kind detail | None ↦ Extension code detail ]
+
+abbrev pub is_space : ℕ → Bool
+is_space byte = byte == 32
+
+-- the error of a reply's text: the code up to the first space, then the detail, if there is a space
+unfoldable pub server_error : List ℕ → ServerError
+server_error text = cond (position_or_len is_space text == length text)
+    (error_with text None)
+    (error_with (before_first is_space text) (Some (after_first is_space text)))
+
+abbrev pub kind_of : ServerError → Option ServerErrorKind
+kind_of (Known kind detail) = Some kind
+kind_of (Extension code detail) = None
+
+abbrev pub code_of : ServerError → List ℕ
+code_of (Known kind detail) = code_of_kind kind
+code_of (Extension code detail) = code
+
+abbrev pub details_of : ServerError → Option (List ℕ)
+details_of (Known kind detail) = detail
+details_of (Extension code detail) = detail

@@ -1,0 +1,137 @@
+//! Errors that a server answers.
+
+ghost use Rattle.std.specs.Prelude.{◌≡◌, IfOk};
+ghost use Rattle.std.specs.Option.{option_copied};
+ghost use Rattle.resp_value.specs.ServerErrors.{kind_of, code_of, details_of, server_error, error_with};
+ghost use Rattle.resp_value.specs.Memory.{OnlyMemory};
+
+use crate::errors::{RedisResult, ServerErrorKind};
+use crate::text::Text;
+use std::alloc::{AllocError, Global};
+use std::error::Error;
+use std::fmt;
+
+/// An error that a server answered: a code, and what it says about it.
+///
+/// An error reply is a line such as `ERR unknown command` (RESP, "Simple errors" and "Bulk
+/// errors"). Its first word is the code, the rest the detail.
+#[derive(PartialEq, Eq, Debug, Drop)]
+pub enum ServerError {
+    /// An error with one of the codes that [`ServerErrorKind`] names.
+    Known {
+        kind: ServerErrorKind,
+        detail: Option<Text>,
+    },
+    /// An error with a code of its own.
+    Extension {
+        code: Text,
+        detail: Option<Text>,
+    },
+}
+
+impl ServerError {
+    /// The error of an error reply's text: the code up to the first space, then the detail.
+    ///
+    /// Without a space the whole text is the code and there is no detail. Fails only for want of
+    /// memory.
+    #[tactic(auto, unfolding(crate::specs::ServerErrors::server_error))]
+    pub fn from_text(alloc: Global, text: &str) -> RedisResult<ServerError>
+        ensures read { IfOk result (λ e. e ≡ server_error text.now) }
+        ensures memory { OnlyMemory result }
+    {
+        match text.split_once(' ') {
+            Some((code, detail)) => {
+                let detail = Text::from_str(alloc, detail)?;
+                ServerError::with_code(alloc, code, Some(detail))
+            }
+            None => ServerError::with_code(alloc, text, None),
+        }
+    }
+
+    fn with_code(alloc: Global, code: &str, detail: Option<Text>) -> RedisResult<ServerError>
+        ensures read { IfOk result (λ e. e ≡ error_with code.now detail) }
+        ensures memory { OnlyMemory result }
+    {
+        match ServerErrorKind::from_code(code) {
+            Some(kind) => Ok(ServerError::Known { kind, detail }),
+            None => Ok(ServerError::Extension {
+                code: Text::from_str(alloc, code)?,
+                detail,
+            }),
+        }
+    }
+
+    /// The kind, if the code is a known one.
+    pub fn kind(&self) -> Option<ServerErrorKind>
+        ensures { result ≡ kind_of self.now }
+    {
+        match self {
+            ServerError::Known { kind, .. } => Some(*kind),
+            ServerError::Extension { .. } => None,
+        }
+    }
+
+    /// The code, as `ERR`.
+    pub fn code(&self) -> &str
+        ensures { result.now ≡ code_of self.now }
+    {
+        match self {
+            ServerError::Known { kind, .. } => kind.code(),
+            ServerError::Extension { code, .. } => code.as_str(),
+        }
+    }
+
+    /// What the server says after the code, if it says anything.
+    pub fn details(&self) -> Option<&str>
+        ensures { option_copied result ≡ details_of self.now }
+    {
+        match self {
+            ServerError::Known { detail, .. } | ServerError::Extension { detail, .. } => {
+                match detail {
+                    Some(detail) => Some(detail.as_str()),
+                    None => None,
+                }
+            }
+        }
+    }
+
+    /// An equal error.
+    pub fn try_clone(&self, alloc: Global) -> Result<ServerError, AllocError>
+        ensures { IfOk result (λ e. e ≡ self.now) }
+    {
+        match self {
+            ServerError::Known { kind, detail } => Ok(ServerError::Known {
+                kind: *kind,
+                detail: clone_detail(alloc, detail)?,
+            }),
+            ServerError::Extension { code, detail } => Ok(ServerError::Extension {
+                code: code.try_clone(alloc)?,
+                detail: clone_detail(alloc, detail)?,
+            }),
+        }
+    }
+}
+
+fn clone_detail(alloc: Global, detail: &Option<Text>) -> Result<Option<Text>, AllocError>
+    ensures { IfOk result (λ d. d ≡ detail.now) }
+{
+    match detail {
+        Some(detail) => Ok(Some(detail.try_clone(alloc)?)),
+        None => Ok(None),
+    }
+}
+
+impl fmt::Display for ServerError {
+    fn fmt<W: fmt::Write>(&self, f: &mut fmt::Formatter<W>) -> fmt::Result {
+        match self {
+            ServerError::Known { kind, .. } => write!(f, "{kind:?}")?,
+            ServerError::Extension { code, .. } => write!(f, "{code:?}")?,
+        }
+        match self.details() {
+            Some(detail) => write!(f, ": {detail}"),
+            None => Ok(()),
+        }
+    }
+}
+
+impl Error for ServerError {}

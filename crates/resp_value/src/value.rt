@@ -1,0 +1,191 @@
+//! Replies as trees.
+
+ghost use Rattle.std.specs.Prelude.{◌≡◌, IfOk};
+
+use crate::boxed::Boxed;
+use crate::errors::ServerError;
+use crate::items::Items;
+use crate::names::{PushKind, VerbatimFormat};
+use crate::text::Text;
+use std::alloc::{AllocError, Global};
+use std::fmt;
+
+/// A reply of a server, as a tree.
+///
+/// Lists are [`Items`] and texts are [`Text`]: small wrappers of `Vec` and `String` whose equality
+/// is that of their elements, in code and in contracts.
+#[derive(PartialEq, Eq, Drop)]
+pub enum Value {
+    /// Nothing: a null, or a bulk string or an aggregate of negative length.
+    Nil,
+    /// The simple string `OK`.
+    Okay,
+    /// An integer.
+    Int(i64),
+    /// A line of text.
+    SimpleString(Text),
+    /// Any bytes.
+    BulkString(Items<u8>),
+    /// A list of values.
+    Array(Items<Value>),
+    /// A list of pairs (RESP3).
+    Map(Items<(Value, Value)>),
+    /// A value with out-of-band pairs that describe it (RESP3).
+    Attribute {
+        payload: Boxed<Value>,
+        attributes: Items<(Value, Value)>,
+    },
+    /// An error.
+    ServerError(ServerError),
+    /// A truth value (RESP3).
+    Boolean(bool),
+    /// A floating point number, as the text that the server sent without white space around it
+    /// (RESP3).
+    Double(Text),
+    /// An integer of any size, as the bytes that the server sent (RESP3).
+    BigNumber(Items<u8>),
+    /// A list of values without an order (RESP3).
+    Set(Items<Value>),
+    /// A text for display, with its format (RESP3).
+    VerbatimString {
+        format: VerbatimFormat,
+        text: Text,
+    },
+    /// Out-of-band data that no request asked for (RESP3).
+    Push {
+        kind: PushKind,
+        payload: Items<Value>,
+    },
+}
+
+/// A push message that was set aside.
+#[derive(PartialEq, Eq, Debug, Drop)]
+pub struct PushInfo {
+    /// What it is about.
+    pub kind: PushKind,
+    /// The values after the kind.
+    pub payload: Items<Value>,
+}
+
+impl PushInfo {
+    /// An equal message.
+    pub fn try_clone(&self, alloc: Global) -> Result<PushInfo, AllocError>
+        ensures { IfOk result (λ p. p ≡ self.now) }
+    {
+        Ok(PushInfo {
+            kind: self.kind.try_clone(alloc)?,
+            payload: clone_parts(alloc, &self.payload)?,
+        })
+    }
+}
+
+impl Default for Value {
+    fn default() -> Value {
+        Value::Nil
+    }
+}
+
+impl Value {
+    /// An equal value. Fails only for want of memory.
+    #[cycle(clone)]
+    pub fn try_clone(&self, alloc: Global) -> Result<Value, AllocError>
+        ensures { IfOk result (λ v. v ≡ self.now) }
+    {
+        match self {
+            Value::Nil => Ok(Value::Nil),
+            Value::Okay => Ok(Value::Okay),
+            Value::Int(n) => Ok(Value::Int(*n)),
+            Value::SimpleString(text) => Ok(Value::SimpleString(text.try_clone(alloc)?)),
+            Value::BulkString(bytes) => {
+                Ok(Value::BulkString(Items::from_slice(alloc, bytes.as_slice())?))
+            }
+            Value::Array(parts) => Ok(Value::Array(clone_parts(alloc, parts)?)),
+            Value::Map(pairs) => Ok(Value::Map(clone_pairs(alloc, pairs)?)),
+            Value::Attribute {
+                payload,
+                attributes,
+            } => Ok(Value::Attribute {
+                payload: Boxed::new(alloc, payload.get().try_clone(alloc)?)?,
+                attributes: clone_pairs(alloc, attributes)?,
+            }),
+            Value::ServerError(error) => Ok(Value::ServerError(error.try_clone(alloc)?)),
+            Value::Boolean(truth) => Ok(Value::Boolean(*truth)),
+            Value::Double(text) => Ok(Value::Double(text.try_clone(alloc)?)),
+            Value::BigNumber(bytes) => {
+                Ok(Value::BigNumber(Items::from_slice(alloc, bytes.as_slice())?))
+            }
+            Value::Set(parts) => Ok(Value::Set(clone_parts(alloc, parts)?)),
+            Value::VerbatimString { format, text } => Ok(Value::VerbatimString {
+                format: format.try_clone(alloc)?,
+                text: text.try_clone(alloc)?,
+            }),
+            Value::Push { kind, payload } => Ok(Value::Push {
+                kind: kind.try_clone(alloc)?,
+                payload: clone_parts(alloc, payload)?,
+            }),
+        }
+    }
+}
+
+#[cycle(clone)]
+fn clone_parts(alloc: Global, parts: &Items<Value>) -> Result<Items<Value>, AllocError>
+    ensures { IfOk result (λ copies. copies ≡ parts.now) }
+{
+    let mut copies = Items::new(alloc);
+    for part in parts.as_slice() {
+        copies.push(part.try_clone(alloc)?)?;
+    }
+    Ok(copies)
+}
+
+#[cycle(clone)]
+fn clone_pairs(
+    alloc: Global,
+    pairs: &Items<(Value, Value)>,
+) -> Result<Items<(Value, Value)>, AllocError>
+    ensures { IfOk result (λ copies. copies ≡ pairs.now) }
+{
+    let mut copies = Items::new(alloc);
+    for (key, value) in pairs.as_slice() {
+        copies.push((key.try_clone(alloc)?, value.try_clone(alloc)?))?;
+    }
+    Ok(copies)
+}
+
+impl fmt::Debug for Value {
+    fn fmt<W: fmt::Write>(&self, f: &mut fmt::Formatter<W>) -> fmt::Result {
+        match self {
+            Value::Nil => write!(f, "nil"),
+            Value::Okay => write!(f, "ok"),
+            Value::Int(n) => write!(f, "int({n})"),
+            Value::SimpleString(text) => write!(f, "simple-string({text:?})"),
+            Value::BulkString(bytes) => match std::str::from_utf8(bytes.as_slice()) {
+                Ok(text) => write!(f, "bulk-string('{text:?}')"),
+                Err(_) => write!(f, "binary-data({bytes:?})"),
+            },
+            Value::Array(parts) => write!(f, "array({parts:?})"),
+            Value::Map(pairs) => write!(f, "map({pairs:?})"),
+            Value::Attribute { payload, .. } => write!(f, "attribute({payload:?})"),
+            Value::ServerError(error) => write_server_error(f, error),
+            Value::Boolean(truth) => write!(f, "boolean({truth})"),
+            Value::Double(text) => write!(f, "double({text})"),
+            Value::BigNumber(bytes) => write!(f, "big-number({bytes:?})"),
+            Value::Set(parts) => write!(f, "set({parts:?})"),
+            Value::VerbatimString { format, text } => {
+                write!(f, "verbatim-string({format:?},{text:?})")
+            }
+            Value::Push { kind, payload } => write!(f, "push({kind:?}, {payload:?})"),
+        }
+    }
+}
+
+fn write_server_error<W: fmt::Write>(
+    f: &mut fmt::Formatter<W>,
+    error: &ServerError,
+) -> fmt::Result {
+    let code = error.code();
+    match error.details() {
+        Some(detail) => write!(f, "Server error: `{code}: {detail}`"),
+        None => write!(f, "Server error: `{code}`"),
+    }
+}
