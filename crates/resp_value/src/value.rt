@@ -1,9 +1,11 @@
 //! Replies as trees.
 
-ghost use Rattle.std.specs.Prelude.{◌≡◌, IfOk};
+ghost use Rattle.std.specs.Prelude.{◌≡◌, IfOk, map, is_some, MatchOption, Ok, Err};
+ghost use Rattle.resp_value.specs.Tree.{first_error, first_some, first_of_pairs};
+ghost use Rattle.resp_value.specs.declared.errors.redis_error.RedisError.TheVariants as form;
 
 use crate::boxed::Boxed;
-use crate::errors::ServerError;
+use crate::errors::{RedisError, RedisResult, ServerError};
 use crate::items::Items;
 use crate::names::{PushKind, VerbatimFormat};
 use crate::text::Text;
@@ -125,6 +127,111 @@ impl Value {
             }),
         }
     }
+
+    /// The value, or the first server error in it.
+    ///
+    /// The leaves are looked at in order: parts in order, a key before its value, an attribute's
+    /// data before its pairs. Takes no memory.
+    pub fn extract_error(self) -> RedisResult<Value>
+        ensures { MatchOption (first_error self) (result ≡ Ok self) (λ e. result ≡ Err (form.Server e)) }
+    {
+        if self.has_error() {
+            match self.into_first_error() {
+                Some(error) => Err(RedisError::from(error)),
+                None => unreachable!(),
+            }
+        } else {
+            Ok(self)
+        }
+    }
+
+    #[cycle(look)]
+    fn has_error(&self) -> bool
+        ensures { result ≡ is_some (first_error self.now) }
+    {
+        match self {
+            Value::ServerError(_) => true,
+            Value::Array(parts) | Value::Set(parts) => any_has_error(parts.as_slice()),
+            Value::Push { payload, .. } => any_has_error(payload.as_slice()),
+            Value::Map(pairs) => any_pair_has_error(pairs.as_slice()),
+            Value::Attribute {
+                payload,
+                attributes,
+            } => payload.get().has_error() || any_pair_has_error(attributes.as_slice()),
+            _ => false,
+        }
+    }
+
+    #[cycle(find)]
+    fn into_first_error(self) -> Option<ServerError>
+        ensures { result ≡ first_error self }
+    {
+        match self {
+            Value::ServerError(error) => Some(error),
+            Value::Array(parts) | Value::Set(parts) => first_error_in(parts),
+            Value::Push { payload, .. } => first_error_in(payload),
+            Value::Map(pairs) => first_error_in_pairs(pairs),
+            Value::Attribute {
+                payload,
+                attributes,
+            } => match payload.into_inner().into_first_error() {
+                Some(error) => Some(error),
+                None => first_error_in_pairs(attributes),
+            },
+            _ => None,
+        }
+    }
+}
+
+#[cycle(look)]
+fn any_has_error(parts: &[Value]) -> bool
+    ensures { result ≡ is_some (first_some (map first_error parts.now)) }
+{
+    for part in parts {
+        if part.has_error() {
+            return true;
+        }
+    }
+    false
+}
+
+#[cycle(look)]
+fn any_pair_has_error(pairs: &[(Value, Value)]) -> bool
+    ensures { result ≡ is_some (first_of_pairs (map (λ p. (first_error p.0, first_error p.1)) pairs.now)) }
+{
+    for (key, value) in pairs {
+        if key.has_error() || value.has_error() {
+            return true;
+        }
+    }
+    false
+}
+
+#[cycle(find)]
+fn first_error_in(parts: Items<Value>) -> Option<ServerError>
+    ensures { result ≡ first_some (map first_error parts) }
+{
+    for part in parts.into_vec() {
+        if let Some(error) = part.into_first_error() {
+            return Some(error);
+        }
+    }
+    None
+}
+
+#[cycle(find)]
+fn first_error_in_pairs(pairs: Items<(Value, Value)>) -> Option<ServerError>
+    ensures { result ≡ first_of_pairs (map (λ p. (first_error p.0, first_error p.1)) pairs) }
+{
+    for (key, value) in pairs.into_vec() {
+        if key.has_error() {
+            return key.into_first_error();
+        }
+        if value.has_error() {
+            return value.into_first_error();
+        }
+    }
+    None
 }
 
 #[cycle(clone)]
