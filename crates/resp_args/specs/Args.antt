@@ -1,0 +1,82 @@
+-- Arguments of a command (RESP, "Sending commands to a Redis server"): a client sends a command as an array
+-- of bulk strings, so every argument is a list of bytes.
+use Rattle.std.specs.Prelude.{◌≡◌, ℕ, Bool, true, false, List, [], ◌∷◌, ◌++◌, map, Result, Ok, Err, Vec, nat_le, ◌⊎◌}
+use Rattle.std.specs.Global.{Global}
+use Rattle.std.specs.List.{Any, AllZip, flat_map}
+use Rattle.resp_value.specs.declared.errors.redis_error.RedisError.{RedisError}
+use Rattle.resp_value.specs.declared.errors.redis_error.RedisError.TheVariants.{OutOfMemory}
+use Rattle.resp_value.specs.declared.errors.kinds.ErrorKind.TheVariants.{Client}
+use Rattle.resp_value.specs.Errors.{kind_of}
+
+-- the arguments of a command, in order
+abbrev pub Args : Type 0
+Args = List (List ℕ)
+
+-- the bytes of each vector
+abbrev pub args_of : List (Vec ℕ Global) → Args
+args_of vectors = map (λ v. v.items) vectors
+
+-- the arguments with more bytes at the end of the last one
+abbrev pub extended : Args → List ℕ → Args
+extended [] bytes = []
+extended (arg ∷ []) bytes = (arg ++ bytes) ∷ []
+extended (arg ∷ next ∷ args) bytes = arg ∷ extended (next ∷ args) bytes
+
+-- old is in front of new
+abbrev pub IsFront : Args → Args → Type 0
+IsFront old new = (more : Args) × (new ≡ old ++ more)
+
+-- new is old and then some arguments that a value gives
+abbrev pub Appends : (Args → Type 0) → Args → Args → Type 0
+Appends Gives old new = (more : Args) × (new ≡ old ++ more) × Gives more
+
+-- why a value is refused: memory ran out, or it can't be written, which is the client's fault
+abbrev pub IsRefusal : Type 0 → RedisError → Type 0
+IsRefusal Refused e = (e ≡ OutOfMemory) ⊎ ((kind_of e ≡ Client) × Refused)
+
+-- what writing a value leaves and answers: at Ok, arguments that it gives were appended, and it is none that is
+-- refused; at Err, the old arguments stand in front
+abbrev pub Writes : (Args → Type 0) → Type 0 → Args → Args → Result (Unit {0}) RedisError → Type 0
+Writes Gives Refused old new (Ok _) = Appends Gives old new × (Refused → ⊥)
+Writes Gives Refused old new (Err e) = IsFront old new × IsRefusal Refused e
+
+-- just this argument
+abbrev pub IsOnly : List ℕ → Args → Type 0
+IsOnly arg args = args ≡ arg ∷ []
+
+-- a value gives one argument, of these bytes
+abbrev pub GivesOne : {X : Type 0} → (X → List ℕ) → X → Args → Type 0
+GivesOne bytes x args = IsOnly (bytes x) args
+
+-- parts that the items give, one each, joined in order
+abbrev pub GivesEach : {X : Type 0} → (X → Args → Type 0) → List X → Args → Type 0
+GivesEach Gives items args = (parts : List Args) × AllZip Gives items parts × (args ≡ flat_map (λ part. part) parts)
+
+-- no value is refused
+abbrev pub Never : {X : Type 0} → X → Type 0
+Never _ = ⊥
+
+-- whether items make a single argument: there is one, and it answers at most 1
+abbrev pub is_single : {X : Type 0} → (X → ℕ) → List X → Bool
+is_single count [] = false
+is_single count (item ∷ []) = nat_le (count item) 1
+is_single count (item ∷ next ∷ items) = false
+
+-- how slices of a type are written: which arguments one gives, whether it is refused, and whether it counts as a
+-- single argument
+pub record SliceRule (X : Type 0) : Type 1 where
+  pub Gives : List X → Args → Type 0
+  pub Refuses : List X → Type 0
+  pub is_single : List X → Bool
+
+-- a slice is written item by item
+abbrev pub item_by_item : {X : Type 0} → (X → Args → Type 0) → (X → Type 0) → (X → ℕ) → SliceRule X
+item_by_item Gives Refuses count = record { Gives = GivesEach Gives; Refuses = Any Refuses; is_single = is_single count }
+
+-- a slice is written item by item, and each item gives one argument, of these bytes
+abbrev pub one_each : {X : Type 0} → (X → List ℕ) → SliceRule X
+one_each bytes = item_by_item (GivesOne bytes) Never (λ _. 1)
+
+-- a slice of bytes is one argument, even an empty one
+abbrev pub bytes_as_one : SliceRule ℕ
+bytes_as_one = record { Gives = IsOnly; Refuses = Never; is_single = λ _. true }

@@ -1,0 +1,86 @@
+ghost use Rattle.std.specs.Prelude.{◌≡◌, ◌<◌, ◌↔◌, [], length, take, IsTrue, Some, slice_get};
+ghost use Rattle.std.specs.Option.{option_copied};
+
+use crate::write::RedisWrite;
+use resp_value::RedisResult;
+use std::alloc::Global;
+use std::marker::Model;
+
+/// The arguments of a command, in order. Contracts see a list of byte lists.
+#[derive(Drop)]
+pub struct ArgList {
+    args: Vec<Vec<u8>>,
+}
+
+impl Model for ArgList {
+    ghost use Rattle.resp_args.specs.Args.{Args, args_of};
+
+    ghost Value = { Args };
+
+    ghost view = { λ list. args_of list.args.items };
+}
+
+impl ArgList {
+    /// No arguments; takes no memory.
+    pub fn new(alloc: Global) -> ArgList
+        ensures { result ≡ [] }
+    {
+        ArgList {
+            args: Vec::new(alloc),
+        }
+    }
+
+    /// How many arguments there are.
+    pub fn len(&self) -> usize
+        ensures { result ≡ length self.now }
+    {
+        self.args.len()
+    }
+
+    /// Whether there is no argument.
+    pub fn is_empty(&self) -> bool
+        ensures { IsTrue result ↔ (self.now ≡ []) }
+    {
+        self.args.is_empty()
+    }
+
+    /// The bytes of the argument at this index, if there are so many.
+    pub fn get(&self, index: usize) -> Option<&[u8]>
+        ensures { option_copied result ≡ slice_get self.now index }
+    {
+        match self.args.get(index) {
+            Some(arg) => Some(arg.as_slice()),
+            None => None,
+        }
+    }
+
+    /// Keeps the first arguments, as many as this; does nothing where there are no more.
+    pub fn truncate(&mut self, len: usize)
+        ensures { self.new ≡ take len self.old }
+    {
+        self.args.truncate(len);
+    }
+
+    /// Leaves no arguments.
+    pub fn clear(&mut self)
+        ensures { self.new ≡ [] }
+    {
+        self.args.clear();
+    }
+}
+
+impl RedisWrite for ArgList {
+    ghost args = { λ list. list };
+
+    fn write_arg(&mut self, arg: &[u8]) -> RedisResult<()> {
+        self.args.write_arg(arg)
+    }
+
+    fn open_arg(&mut self) -> RedisResult<()> {
+        self.args.open_arg()
+    }
+
+    fn extend_arg(&mut self, more: &[u8]) -> RedisResult<()> {
+        self.args.extend_arg(more)
+    }
+}

@@ -1,0 +1,93 @@
+//! What can be an argument of a command.
+
+ghost use Rattle.std.specs.Prelude.{◌≡◌, ℕ, Bool, List, IfOk, IfErr};
+ghost use Rattle.std.specs.List.{Any};
+ghost use Rattle.resp_args.specs.Args.{Args, args_of, Writes, IsRefusal, Never, GivesEach, SliceRule};
+ghost use Rattle.resp_args.specs.declared.args.NumericBehavior.{NumericBehavior};
+ghost use Rattle.resp_args.specs.declared.args.NumericBehavior.TheVariants.{NonNumeric};
+
+use crate::write::RedisWrite;
+use resp_value::RedisResult;
+use std::alloc::Global;
+
+/// What kind of number a value is written as, if it is one.
+#[derive(Clone, Copy, PartialEq, Eq, Debug)]
+pub enum NumericBehavior {
+    /// It is no number.
+    NonNumeric,
+    /// A whole number.
+    NumberIsInteger,
+    /// A number that may have a fraction.
+    NumberIsFloat,
+}
+
+/// A value that can be written as arguments of a command.
+pub trait ToRedisArgs: Sized {
+    /// Which arguments a value gives.
+    ghost gives: { Self → Args → Type 0 };
+
+    /// The value can't be written.
+    ghost refuses: { Self → Type 0 } = { Never };
+
+    /// What `num_of_args` answers.
+    ghost count: { Self → ℕ } = { λ _. 1 };
+
+    /// What `describe_numeric_behavior` answers.
+    ghost behaviour: { Self → NumericBehavior } = { λ _. NonNumeric };
+
+    /// How slices of values are written.
+    ghost slices: { SliceRule Self };
+
+    /// Appends the value's arguments. Fails with kind `Client` for a value that can't be written,
+    /// and else only for want of memory; the old arguments then stand in front.
+    fn write_redis_args<W: RedisWrite>(&self, out: &mut W) -> RedisResult<()>
+        ensures written { Writes (gives self.now) (refuses self.now) (W.args out.old) (W.args out.new) result };
+
+    /// Appends the arguments of a slice of values: item by item, by `write_each_arg`, unless the
+    /// type has a rule of its own, as `u8`, whose slices are one argument. Fails as
+    /// `write_redis_args` does.
+    fn write_args_from_slice<W: RedisWrite>(items: &[Self], out: &mut W) -> RedisResult<()>
+        ensures written { Writes (slices.Gives items.now) (slices.Refuses items.now) (W.args out.old) (W.args out.new) result };
+
+    /// How many arguments the value counts for, which need not be as many as it writes.
+    fn num_of_args(&self) -> usize
+        ensures { result ≡ count self.now };
+
+    /// What kind of number the value is written as, if it is one.
+    fn describe_numeric_behavior(&self) -> NumericBehavior
+        ensures { result ≡ behaviour self.now };
+
+    /// Whether a slice of values counts as a single argument.
+    fn is_single_vec_arg(items: &[Self]) -> bool
+        ensures { result ≡ slices.is_single items.now };
+
+    /// Appends the arguments of each item, in order. Fails as `write_redis_args` does, at the
+    /// first item that fails.
+    fn write_each_arg<W: RedisWrite>(items: &[Self], out: &mut W) -> RedisResult<()>
+        ensures written { Writes (GivesEach gives items.now) (Any refuses items.now) (W.args out.old) (W.args out.new) result }
+    {
+        for item in items {
+            item.write_redis_args(out)?;
+        }
+        Ok(())
+    }
+
+    /// The value's arguments. Fails with kind `Client` for a value that can't be written, and else
+    /// only for want of memory.
+    final fn to_redis_args(&self, alloc: Global) -> RedisResult<Vec<Vec<u8>>>
+        ensures given { IfOk result (λ args. gives self.now (args_of args.items) × (refuses self.now → ⊥)) }
+        ensures refused { IfErr result (IsRefusal (refuses self.now)) }
+    {
+        let mut args = Vec::new(alloc);
+        self.write_redis_args(&mut args)?;
+        Ok(args)
+    }
+}
+
+/// Appends the arguments of each item, in order: what `write_args_from_slice` of an ordinary type
+/// is. Fails as `write_redis_args` does, at the first item that fails.
+pub fn write_each_arg<T: ToRedisArgs, W: RedisWrite>(items: &[T], out: &mut W) -> RedisResult<()>
+    ensures written { Writes (GivesEach T.gives items.now) (Any T.refuses items.now) (W.args out.old) (W.args out.new) result }
+{
+    T::write_each_arg(items, out)
+}

@@ -1,0 +1,4 @@
+//! The types of the standard library as arguments.
+
+mod integers;
+mod texts;
