@@ -1,0 +1,12 @@
+use Rattle.std.proofs.Common.{◌≡◌, string_bytes, rules, subst, sym, ap, ◌∙◌}
+use Rattle.std.specs.Str.{IsUtf8}
+use Rattle.std.proofs.lemmas.Str.{IsUtf8-string_bytes}
+use Rattle.resp_value.specs.declared.value.Value.{out-Value}
+use Rattle.resp_from.specs.Texts.{IsText}
+use Rattle.resp_from.proofs.Layers.{out-BulkString}
+use Rattle.resp_from.proofs.texts.StringFromRedisValue.from_redis_value.Goals as goal
+
+pub returns-in-Ok : goal.returns-in-Ok
+returns-in-Ok c =
+    let same : string_bytes c.in-Ok.text ≡ c.in-BulkString.bytes = search rules in
+    record { converts = subst (λ w. IsText w (string_bytes c.in-Ok.text)) (sym (ap out-Value (sym c.without_attribute.ensures ∙ c.in-BulkString.is) ∙ out-BulkString c.in-BulkString.bytes)) (subst IsUtf8 same (IsUtf8-string_bytes c.in-Ok.text), same) }

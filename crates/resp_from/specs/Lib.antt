@@ -1,0 +1,4 @@
+pub mod Conversion
+pub mod Integers
+pub mod Replies
+pub mod Texts

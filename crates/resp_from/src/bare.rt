@@ -1,0 +1,26 @@
+//! Replies without their attribute.
+
+ghost use Rattle.std.specs.Prelude.{◌≡◌};
+ghost use Rattle.resp_from.specs.Replies.{bare};
+
+use resp_value::Value;
+
+/// The value of a reply without its attribute, if it has one; at most one is removed.
+pub fn without_attribute(value: Value) -> Value
+    ensures { result ≡ bare value }
+{
+    match value {
+        Value::Attribute { payload, .. } => payload.into_inner(),
+        value => value,
+    }
+}
+
+/// The same of a borrowed reply.
+pub fn beneath_attribute(value: &Value) -> &Value
+    ensures { result.now ≡ bare value.now }
+{
+    match value {
+        Value::Attribute { payload, .. } => payload.get(),
+        value => value,
+    }
+}

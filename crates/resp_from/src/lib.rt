@@ -1,0 +1,13 @@
+//! Conversions of replies to Rust values.
+#![tactic(auto)]
+
+mod bare;
+mod convert;
+mod integers;
+mod texts;
+mod values;
+
+pub use convert::{FromRedisValue, from_redis_value, from_redis_value_ref};
+
+#[cfg(test)]
+mod tests;

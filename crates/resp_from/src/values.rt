@@ -1,0 +1,23 @@
+//! Replies as they are.
+
+use crate::convert::FromRedisValue;
+use resp_value::{ParsingError, Value};
+use std::alloc::Global;
+
+impl FromRedisValue for Value {
+    ghost use Rattle.std.specs.Prelude.{◌≡◌, false};
+
+    const WIDTH: usize = 0;
+
+    const BYTES: bool = false;
+
+    ghost WIDTH = { 0 };
+
+    ghost BYTES = { false };
+
+    ghost of_value = { λ reply v. v ≡ reply };
+
+    fn from_redis_value(_alloc: Global, value: Value) -> Result<Value, ParsingError> {
+        Ok(value)
+    }
+}
