@@ -1,12 +1,14 @@
 -- Arguments of a command (RESP, "Sending commands to a Redis server"): a client sends a command as an array
 -- of bulk strings, so every argument is a list of bytes.
-use Rattle.std.specs.Prelude.{◌≡◌, ℕ, Bool, true, false, List, [], ◌∷◌, ◌++◌, map, Result, Ok, Err, Vec, nat_le, ◌⊎◌}
+use Rattle.std.specs.Prelude.{◌≡◌, ℕ, Bool, true, false, List, [], ◌∷◌, ◌++◌, map, Result, Ok, Err, Vec, nat_le, ◌⊎◌, Option, None, Some, ◌+◌, if◌then◌else◌, codes, length}
 use Rattle.std.specs.Global.{Global}
 use Rattle.std.specs.List.{Any, AllZip, flat_map}
 use Rattle.resp_value.specs.declared.errors.redis_error.RedisError.{RedisError}
 use Rattle.resp_value.specs.declared.errors.redis_error.RedisError.TheVariants.{OutOfMemory}
 use Rattle.resp_value.specs.declared.errors.kinds.ErrorKind.TheVariants.{Client}
 use Rattle.resp_value.specs.Errors.{kind_of}
+use Rattle.resp_args.specs.declared.args.NumericBehavior.{NumericBehavior}
+use Rattle.resp_args.specs.declared.args.NumericBehavior.TheVariants.{NonNumeric}
 
 -- the arguments of a command, in order
 abbrev pub Args : Type 0
@@ -80,3 +82,39 @@ one_each bytes = item_by_item (GivesOne bytes) Never (λ _. 1)
 -- a slice of bytes is one argument, even an empty one
 abbrev pub bytes_as_one : SliceRule ℕ
 bytes_as_one = record { Gives = IsOnly; Refuses = Never; is_single = λ _. true }
+
+-- how many arguments a slice counts for: one where it counts as a single argument, as many as its item where it has
+-- one, and else its length
+abbrev pub count_of_items : {X : Type 0} → (X → ℕ) → List X → ℕ
+count_of_items count [] = 0
+count_of_items count (item ∷ []) = count item
+count_of_items count (item ∷ next ∷ items) = length items + 2
+
+abbrev pub count_of_slice : {X : Type 0} → SliceRule X → (X → ℕ) → List X → ℕ
+count_of_slice rule count items = if rule.is_single items then 1 else count_of_items count items
+
+-- an optional value gives nothing, or what its item gives
+abbrev pub GivesOption : {X : Type 0} → (X → Args → Type 0) → Option X → Args → Type 0
+GivesOption Gives None args = args ≡ []
+GivesOption Gives (Some item) args = Gives item args
+
+abbrev pub RefusesOption : {X : Type 0} → (X → Type 0) → Option X → Type 0
+RefusesOption Refuses None = ⊥
+RefusesOption Refuses (Some item) = Refuses item
+
+abbrev pub count_of_option : {X : Type 0} → (X → ℕ) → Option X → ℕ
+count_of_option count None = 0
+count_of_option count (Some item) = count item
+
+abbrev pub behaviour_of_option : {X : Type 0} → (X → NumericBehavior) → Option X → NumericBehavior
+behaviour_of_option behaviour None = NonNumeric
+behaviour_of_option behaviour (Some item) = behaviour item
+
+-- a truth value's digit
+abbrev pub digit_of : Bool → List ℕ
+digit_of true = codes "1"
+digit_of false = codes "0"
+
+-- what one part gives, and then what another gives
+abbrev pub GivesBoth : (Args → Type 0) → (Args → Type 0) → Args → Type 0
+GivesBoth First Second args = (a b : Args) × First a × Second b × (args ≡ a ++ b)

@@ -1,4 +1,8 @@
 //! The types of the standard library as arguments.
 
+mod booleans;
+mod forwards;
 mod integers;
+mod slices;
 mod texts;
+mod tuples;

@@ -5,6 +5,8 @@ mod arg_list;
 mod args;
 mod impls;
 mod single;
+#[cfg(test)]
+mod tests;
 mod write;
 
 pub use arg_list::ArgList;

@@ -41,7 +41,7 @@ impl ToRedisArgs for String {
     ghost slices = { one_each string_bytes };
 
     fn write_redis_args<W: RedisWrite>(&self, out: &mut W) -> RedisResult<()> {
-        out.write_arg(self.as_bytes())
+        self.as_str().write_redis_args(out)
     }
 
     fn write_args_from_slice<W: RedisWrite>(items: &[Self], out: &mut W) -> RedisResult<()> {

@@ -1,0 +1,87 @@
+//! Optional values and references are written as what they hold.
+
+ghost use Rattle.resp_args.specs.Args.{item_by_item, GivesOption, RefusesOption, count_of_option, behaviour_of_option};
+
+use crate::args::{NumericBehavior, ToRedisArgs};
+use crate::write::RedisWrite;
+use resp_value::RedisResult;
+
+/// `None` gives no argument.
+impl<T: ToRedisArgs> ToRedisArgs for Option<T> {
+    ghost gives = { GivesOption T.gives };
+
+    ghost refuses = { RefusesOption T.refuses };
+
+    ghost count = { count_of_option T.count };
+
+    ghost behaviour = { behaviour_of_option T.behaviour };
+
+    ghost slices = { item_by_item (GivesOption T.gives) (RefusesOption T.refuses) (count_of_option T.count) };
+
+    fn write_redis_args<W: RedisWrite>(&self, out: &mut W) -> RedisResult<()> {
+        match self {
+            Some(item) => item.write_redis_args(out),
+            None => Ok(()),
+        }
+    }
+
+    fn write_args_from_slice<W: RedisWrite>(items: &[Self], out: &mut W) -> RedisResult<()> {
+        Self::write_each_arg(items, out)
+    }
+
+    fn num_of_args(&self) -> usize {
+        match self {
+            Some(item) => item.num_of_args(),
+            None => 0,
+        }
+    }
+
+    fn describe_numeric_behavior(&self) -> NumericBehavior {
+        match self {
+            Some(item) => item.describe_numeric_behavior(),
+            None => NumericBehavior::NonNumeric,
+        }
+    }
+
+    fn is_single_vec_arg(items: &[Self]) -> bool {
+        match items {
+            [item] => item.num_of_args() <= 1,
+            _ => false,
+        }
+    }
+}
+
+impl<T: ToRedisArgs> ToRedisArgs for &T {
+    ghost gives = { λ x. T.gives x.now };
+
+    ghost refuses = { λ x. T.refuses x.now };
+
+    ghost count = { λ x. T.count x.now };
+
+    ghost behaviour = { λ x. T.behaviour x.now };
+
+    ghost slices = { item_by_item (λ x. T.gives x.now) (λ x. T.refuses x.now) (λ x. T.count x.now) };
+
+    fn write_redis_args<W: RedisWrite>(&self, out: &mut W) -> RedisResult<()> {
+        (**self).write_redis_args(out)
+    }
+
+    fn write_args_from_slice<W: RedisWrite>(items: &[Self], out: &mut W) -> RedisResult<()> {
+        Self::write_each_arg(items, out)
+    }
+
+    fn num_of_args(&self) -> usize {
+        (**self).num_of_args()
+    }
+
+    fn describe_numeric_behavior(&self) -> NumericBehavior {
+        (**self).describe_numeric_behavior()
+    }
+
+    fn is_single_vec_arg(items: &[Self]) -> bool {
+        match items {
+            [item] => item.num_of_args() <= 1,
+            _ => false,
+        }
+    }
+}

@@ -1,0 +1,88 @@
+//! Slices and vectors are written as their items, those of bytes as one argument.
+
+ghost use Rattle.std.specs.Prelude.{◌≡◌};
+ghost use Rattle.resp_args.specs.Args.{item_by_item, count_of_slice};
+
+use crate::args::{NumericBehavior, ToRedisArgs};
+use crate::write::RedisWrite;
+use resp_value::RedisResult;
+
+/// How many arguments a slice counts for: one where it counts as a single argument, as many as its
+/// item where it has one, and else its length.
+fn num_of_slice_args<T: ToRedisArgs>(items: &[T]) -> usize
+    ensures { result ≡ count_of_slice T.slices T.count items.now }
+{
+    if T::is_single_vec_arg(items) {
+        return 1;
+    }
+    match items {
+        [item] => item.num_of_args(),
+        _ => items.len(),
+    }
+}
+
+impl<T: ToRedisArgs> ToRedisArgs for &[T] {
+    ghost gives = { λ s. T.slices.Gives s.now };
+
+    ghost refuses = { λ s. T.slices.Refuses s.now };
+
+    ghost count = { λ s. count_of_slice T.slices T.count s.now };
+
+    ghost slices = { item_by_item (λ s. T.slices.Gives s.now) (λ s. T.slices.Refuses s.now) (λ s. count_of_slice T.slices T.count s.now) };
+
+    fn write_redis_args<W: RedisWrite>(&self, out: &mut W) -> RedisResult<()> {
+        T::write_args_from_slice(self, out)
+    }
+
+    fn write_args_from_slice<W: RedisWrite>(items: &[Self], out: &mut W) -> RedisResult<()> {
+        Self::write_each_arg(items, out)
+    }
+
+    fn num_of_args(&self) -> usize {
+        num_of_slice_args(self)
+    }
+
+    fn describe_numeric_behavior(&self) -> NumericBehavior {
+        NumericBehavior::NonNumeric
+    }
+
+    fn is_single_vec_arg(items: &[Self]) -> bool {
+        match items {
+            [item] => item.num_of_args() <= 1,
+            _ => false,
+        }
+    }
+}
+
+impl<T: ToRedisArgs> ToRedisArgs for Vec<T> {
+    ghost gives = { λ v. T.slices.Gives v.items };
+
+    ghost refuses = { λ v. T.slices.Refuses v.items };
+
+    ghost count = { λ v. count_of_slice T.slices T.count v.items };
+
+    ghost slices = { item_by_item (λ v. T.slices.Gives v.items) (λ v. T.slices.Refuses v.items) (λ v. count_of_slice T.slices T.count v.items) };
+
+    fn write_redis_args<W: RedisWrite>(&self, out: &mut W) -> RedisResult<()> {
+        T::write_args_from_slice(self, out)
+    }
+
+    fn write_args_from_slice<W: RedisWrite>(items: &[Self], out: &mut W) -> RedisResult<()> {
+        Self::write_each_arg(items, out)
+    }
+
+    fn num_of_args(&self) -> usize {
+        num_of_slice_args(self)
+    }
+
+    fn describe_numeric_behavior(&self) -> NumericBehavior {
+        NumericBehavior::NonNumeric
+    }
+
+    fn is_single_vec_arg(items: &[Self]) -> bool {
+        match items {
+            [item] => item.num_of_args() <= 1,
+            _ => false,
+        }
+    }
+}
