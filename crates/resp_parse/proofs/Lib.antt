@@ -1,0 +1,14 @@
+pub mod Agreement
+pub mod Bits
+pub mod BodyReads
+pub mod Ends
+pub mod Headers
+pub mod LineAt
+pub mod LineReads
+pub mod Made
+pub mod Numerals
+pub mod PartReads
+pub mod PartsSoFar
+pub mod Prefixes
+pub mod Stopping
+pub mod Then

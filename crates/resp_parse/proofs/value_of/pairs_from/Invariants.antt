@@ -1,0 +1,11 @@
+use Rattle.std.proofs.Common.{◌≡◌, ◌++◌, length}
+use Rattle.std.specs.Vec.Iter.{into_iter_items}
+use Rattle.resp_parse.specs.Grammar.{pairs}
+use Rattle.resp_parse.proofs.value_of.pairs_from.Given as goal
+
+-- the pairs so far and those of the parts that are left are all the pairs
+abbrev pub invariant-loop-key : goal.invariant-loop-key
+invariant-loop-key l = l.pairs ++ pairs (into_iter_items l.rest) ≡ pairs l.fn.parts.items
+
+abbrev pub decreases-loop-key : goal.decreases-loop-key
+decreases-loop-key l = length (into_iter_items l.rest)

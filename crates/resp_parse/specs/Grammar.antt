@@ -1,0 +1,176 @@
+-- The grammar of replies (RESP, "RESP protocol description": a type byte, a line, and what the line announces).
+use Rattle.std.specs.Prelude.{◌≡◌, ◌≢◌, ℕ, zero, suc, ◌+◌, ◌-◌, ◌*◌, ◌<◌, Bool, true, false, cond, ◌||◌, ◌==◌, List, [], ◌∷◌, ◌++◌, length, take, codes, ℤ, pos, negsuc, Option, None, Some, Result, Ok, Err, ◌⊎◌}
+use Rattle.std.specs.List.{position_or_len, before_first, after_first}
+use Rattle.std.specs.Str.{IsUtf8, is_utf8, bytes_eq, encode_utf8_all}
+use Rattle.bstr.specs.Utf8.{lossy_chars}
+use Rattle.resp_value.specs.declared.value.Value.{Value, Nil, Okay, Int, SimpleString, BulkString, Array, Map, Attribute, ServerError, Boolean, Double, BigNumber, Set, VerbatimString, Push}
+use Rattle.resp_value.specs.declared.names.PushKind.{PushKind}
+use Rattle.resp_value.specs.declared.errors.kinds.FrameFault.{FrameFault}
+use Rattle.resp_value.specs.declared.errors.kinds.FrameFault.TheVariants.{TooDeep, UnknownType, LineNotUtf8, NotInteger, NegativeLength, BodyEnd, NotBoolean, NotDouble, NoVerbatimFormat, BadPushKind}
+use Rattle.resp_value.specs.Names.{kind_named, format_named}
+use Rattle.resp_value.specs.ServerErrors.{server_error}
+use Rattle.resp_parse.specs.Lines.{crlf, NoBreak}
+use Rattle.resp_parse.specs.Number.{number}
+use Rattle.resp_parse.specs.Double.{double}
+
+-- what the line of a header announces: no more bytes; a body of so many bytes; so many parts; or it is at fault
+pub data Next : Type 0 where
+  done : Value → Next
+  body : ℕ → (List ℕ → Result Value FrameFault) → Next
+  parts : ℕ → (List Value → Result Value FrameFault) → Next
+  wrong : FrameFault → Next
+
+-- an integer line
+abbrev pub with_number : List ℕ → (ℤ → Next) → Next
+with_number text follows = elim (number text) [ Some n ↦ follows n | None ↦ wrong NotInteger ]
+
+-- a length, where a negative one stands for a null
+abbrev pub or_nil : (ℕ → Next) → ℤ → Next
+or_nil follows (pos n) = follows n
+or_nil follows (negsuc n) = done Nil
+
+-- a length that may not be negative
+abbrev pub or_fault : (ℕ → Next) → ℤ → Next
+or_fault follows (pos n) = follows n
+or_fault follows (negsuc n) = wrong NegativeLength
+
+-- a push without a kind and without data
+abbrev pub empty_push : Value
+empty_push = Push (kind_named []) []
+
+-- a length, where a negative one and 0 stand for an empty push
+abbrev pub or_empty_push : (ℕ → Next) → ℤ → Next
+or_empty_push follows (pos zero) = done empty_push
+or_empty_push follows (pos (suc n)) = follows (suc n)
+or_empty_push follows (negsuc n) = done empty_push
+
+-- bytes as text, with U+FFFD for what is no UTF-8
+abbrev pub lossy : List ℕ → List ℕ
+lossy bytes = encode_utf8_all (lossy_chars bytes)
+
+-- + a simple string
+abbrev pub simple : List ℕ → Value
+simple text = cond (bytes_eq text (codes "OK")) Okay (SimpleString text)
+
+-- # a boolean: exactly t or f
+abbrev pub boolean : List ℕ → Next
+boolean text = cond (bytes_eq text (codes "t")) (done (Boolean true)) (cond (bytes_eq text (codes "f")) (done (Boolean false)) (wrong NotBoolean))
+
+-- , a double
+abbrev pub double_line : List ℕ → Next
+double_line text = elim (double text) [ Some trimmed ↦ done (Double trimmed) | None ↦ wrong NotDouble ]
+
+-- ! a bulk error
+abbrev pub bulk_error : List ℕ → Value
+bulk_error bytes = ServerError (server_error (lossy bytes))
+
+abbrev pub is_colon : ℕ → Bool
+is_colon byte = byte == 58
+
+-- a verbatim text is cut at its first colon
+abbrev pub verbatim_text : List ℕ → Result Value FrameFault
+verbatim_text text = cond (position_or_len is_colon text == length text)
+    (Err NoVerbatimFormat)
+    (Ok (VerbatimString (format_named (before_first is_colon text)) (after_first is_colon text)))
+
+-- = a verbatim string
+abbrev pub verbatim : List ℕ → Result Value FrameFault
+verbatim bytes = verbatim_text (lossy bytes)
+
+-- a list two by two; an odd last one is left out
+abbrev pub pairs : List Value → List (Value × Value)
+pairs [] = []
+pairs (key ∷ []) = []
+pairs (key ∷ value ∷ rest) = (key, value) ∷ pairs rest
+
+-- the last of a list that isn't empty
+abbrev pub last_part : List Value → Value
+last_part [] = Nil
+last_part (value ∷ []) = value
+last_part (value ∷ next ∷ rest) = last_part (next ∷ rest)
+
+-- | an attribute: pairs, and then the data
+abbrev pub attribute : List Value → Value
+attribute values = Attribute (last_part values) (pairs (take (length values - 1) values))
+
+-- the kind that the first value of a push names, if it names one
+abbrev pub push_kind : Value → Option PushKind
+push_kind (SimpleString name) = Some (kind_named name)
+push_kind (BulkString name) = cond (is_utf8 name) (Some (kind_named name)) None
+push_kind _ = None
+
+-- > a push: its kind, and then its data
+abbrev pub push : List Value → Result Value FrameFault
+push [] = Err BadPushKind
+push (first ∷ payload) = elim (push_kind first) [ Some kind ↦ Ok (Push kind payload) | None ↦ Err BadPushKind ]
+
+-- the type bytes: + - : $ * _ # , ( ! = % ~ | >
+abbrev pub is_type : ℕ → Bool
+is_type c = (c == 43) || (c == 45) || (c == 58) || (c == 36) || (c == 42) || (c == 95) || (c == 35) || (c == 44) || (c == 40) || (c == 33) || (c == 61) || (c == 37) || (c == 126) || (c == 124) || (c == 62)
+
+-- what the line of a type byte announces
+unfoldable pub next : ℕ → List ℕ → Next
+next c text =
+    cond (c == 43) (done (simple text))
+    (cond (c == 45) (done (ServerError (server_error text)))
+    (cond (c == 58) (with_number text (λ n. done (Int n)))
+    (cond (c == 36) (with_number text (or_nil (λ n. body n (λ bytes. Ok (BulkString bytes)))))
+    (cond (c == 42) (with_number text (or_nil (λ n. parts n (λ values. Ok (Array values)))))
+    (cond (c == 95) (done Nil)
+    (cond (c == 35) (boolean text)
+    (cond (c == 44) (double_line text)
+    (cond (c == 40) (done (BigNumber text))
+    (cond (c == 33) (with_number text (or_fault (λ n. body n (λ bytes. Ok (bulk_error bytes)))))
+    (cond (c == 61) (with_number text (or_fault (λ n. body n verbatim)))
+    (cond (c == 37) (with_number text (or_fault (λ n. parts (2 * n) (λ values. Ok (Map (pairs values))))))
+    (cond (c == 126) (with_number text (or_nil (λ n. parts n (λ values. Ok (Set values)))))
+    (cond (c == 124) (with_number text (or_fault (λ n. parts (2 * n + 1) (λ values. Ok (attribute values)))))
+    (with_number text (or_empty_push (λ n. parts n push))))))))))))))))
+
+-- the bytes begin with a type byte and a line of this text, and the rest follows
+pub record Header (b : List ℕ) (c : ℕ) (text rest : List ℕ) : Type 0 where
+  pub bytes : b ≡ c ∷ (text ++ (crlf ++ rest))
+  pub known : is_type c ≡ true
+  pub unbroken : NoBreak text
+
+-- the bytes are values as P says, one after another
+abbrev pub Joined : (List ℕ → Value → Type 0) → List ℕ → List Value → Type 0
+Joined P b [] = b ≡ []
+Joined P b (v ∷ vs) = (x : List ℕ) × (y : List ℕ) × (b ≡ x ++ y) × P x v × Joined P y vs
+
+-- the bytes after a header are all that it announces, of parts as P says, and make the value
+abbrev pub Follows : (List ℕ → Value → Type 0) → Next → List ℕ → Value → Type 0
+Follows P (done w) rest v = (rest ≡ []) × (v ≡ w)
+Follows P (body n make) rest v = (x : List ℕ) × (length x ≡ n) × (rest ≡ x ++ crlf) × (make x ≡ Ok v)
+Follows P (parts n make) rest v = (vs : List Value) × (length vs ≡ n) × Joined P rest vs × (make vs ≡ Ok v)
+Follows P (wrong f) rest v = ⊥
+
+-- the bytes spell the value, where so many levels are left
+abbrev pub Good : ℕ → List ℕ → Value → Type 0
+Good zero b v = ⊥
+Good (suc d) b v = (c : ℕ) × (text : List ℕ) × (rest : List ℕ) × Header b c text rest × IsUtf8 text × Follows (Good d) (next c text) rest v
+
+-- a body of n bytes, and then a byte that isn't CR, or CR and a byte that isn't LF
+pub data EndsWrong (n : ℕ) (rest : List ℕ) : Type 0 where
+  no_cr : (x : List ℕ) (c : ℕ) → length x ≡ n → c ≢ 13 → rest ≡ x ++ (c ∷ []) → EndsWrong n rest
+  no_lf : (x : List ℕ) (c : ℕ) → length x ≡ n → c ≢ 10 → rest ≡ x ++ (13 ∷ c ∷ []) → EndsWrong n rest
+
+-- fewer than n parts as P says, and then a part at fault as Q says
+abbrev pub PartWrong : (List ℕ → Value → Type 0) → (List ℕ → FrameFault → Type 0) → ℕ → List ℕ → FrameFault → Type 0
+PartWrong P Q n rest f = (vs : List Value) × (x : List ℕ) × (y : List ℕ) × (length vs < n) × (rest ≡ x ++ y) × Joined P x vs × Q y f
+
+-- the bytes after a header end exactly where the fault shows
+abbrev pub FaultFollows : (List ℕ → Value → Type 0) → (List ℕ → FrameFault → Type 0) → Next → List ℕ → FrameFault → Type 0
+FaultFollows P Q (done w) rest f = ⊥
+FaultFollows P Q (body n make) rest f = ((f ≡ BodyEnd) × EndsWrong n rest)
+    ⊎ ((x : List ℕ) × (length x ≡ n) × (rest ≡ x ++ crlf) × (make x ≡ Err f))
+FaultFollows P Q (parts n make) rest f = PartWrong P Q n rest f
+    ⊎ ((vs : List Value) × (length vs ≡ n) × Joined P rest vs × (make vs ≡ Err f))
+FaultFollows P Q (wrong g) rest f = (rest ≡ []) × (f ≡ g)
+
+-- the bytes are a value's beginning that ends exactly where the fault shows, where so many levels are left
+abbrev pub Faulty : ℕ → List ℕ → FrameFault → Type 0
+Faulty zero b f = (c : ℕ) × (b ≡ c ∷ []) × (f ≡ TooDeep)
+Faulty (suc d) b f = ((c : ℕ) × (b ≡ c ∷ []) × (is_type c ≡ false) × (f ≡ UnknownType))
+    ⊎ ((c : ℕ) × (text : List ℕ) × (rest : List ℕ) × Header b c text rest
+    × (((IsUtf8 text → ⊥) × (rest ≡ []) × (f ≡ LineNotUtf8)) ⊎ (IsUtf8 text × FaultFollows (Good d) (Faulty d) (next c text) rest f)))

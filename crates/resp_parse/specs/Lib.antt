@@ -1,0 +1,10 @@
+pub mod Lines
+pub mod Number
+pub mod Double
+pub mod Grammar
+pub mod Reads
+pub mod Fronts
+pub mod Laws
+pub mod Reading
+pub mod Shapes
+pub mod Shows

@@ -1,0 +1,28 @@
+-- Integer lines (RESP, "Integers").
+use Rattle.std.specs.Prelude.{ℕ, ◌^◌, Bool, ◌&&◌, cond, nat_lt, nat_le, List, length, ℤ, Option, None, Some}
+use Rattle.std.specs.Char.{is_ascii_digit}
+use Rattle.std.specs.List.{list_all}
+use Rattle.std.specs.Str.{trim}
+use Rattle.std.specs.Str.Parse.{without_leading_sign, signed_digits_value, digits_value, starts_with_minus}
+
+-- one or more digits
+abbrev pub is_digits : List ℕ → Bool
+is_digits text = nat_lt 0 (length text) && list_all is_ascii_digit text
+
+-- a sign, or none, and one or more digits
+abbrev pub is_decimal : List ℕ → Bool
+is_decimal text = is_digits (without_leading_sign text)
+
+-- the value lies in 64 bits with a sign
+abbrev pub fits_i64 : List ℕ → Bool
+fits_i64 text = cond (starts_with_minus text)
+    (nat_le (digits_value 10 (without_leading_sign text)) (2 ^ 63))
+    (nat_lt (digits_value 10 (without_leading_sign text)) (2 ^ 63))
+
+-- the number that the text writes, if it writes one
+abbrev pub plain_number : List ℕ → Option ℤ
+plain_number text = cond (is_decimal text && fits_i64 text) (Some (signed_digits_value 10 text)) None
+
+-- the number that the text writes, if it writes one, white space around it aside
+unfoldable pub number : List ℕ → Option ℤ
+number text = plain_number (trim text)

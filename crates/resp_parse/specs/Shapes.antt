@@ -1,0 +1,39 @@
+-- The parser's own form of what a header announces.
+use Rattle.std.specs.Prelude.{◌≡◌, ℕ, List, Result, Ok, Err}
+use Rattle.resp_value.specs.declared.value.Value.{Value, BulkString, Array, Map, Set}
+use Rattle.resp_value.specs.declared.errors.kinds.FrameFault.{FrameFault}
+use Rattle.resp_parse.specs.declared.shape.BodyKind.{BodyKind}
+use Rattle.resp_parse.specs.declared.shape.BodyKind.TheVariants as body_kind
+use Rattle.resp_parse.specs.declared.shape.PartsKind.{PartsKind}
+use Rattle.resp_parse.specs.declared.shape.PartsKind.TheVariants as parts_kind
+use Rattle.resp_parse.specs.declared.shape.Shape.{Shape}
+use Rattle.resp_parse.specs.declared.shape.Shape.TheVariants.{Whole, Body, Parts}
+use Rattle.resp_parse.specs.declared.stop.Stop.{Stop}
+use Rattle.resp_parse.specs.declared.stop.Stop.TheVariants.{Memory, Unfinished, Fault}
+use Rattle.resp_parse.specs.Grammar.{Next, done, body, parts, wrong, bulk_error, verbatim, pairs, attribute, push}
+
+-- what a body makes
+abbrev pub body_value : BodyKind → List ℕ → Result Value FrameFault
+body_value body_kind.Bulk = λ bytes. Ok (BulkString bytes)
+body_value body_kind.Error = λ bytes. Ok (bulk_error bytes)
+body_value body_kind.Verbatim = verbatim
+
+-- what parts make
+abbrev pub parts_value : PartsKind → List Value → Result Value FrameFault
+parts_value parts_kind.Array = λ values. Ok (Array values)
+parts_value parts_kind.Set = λ values. Ok (Set values)
+parts_value parts_kind.Map = λ values. Ok (Map (pairs values))
+parts_value parts_kind.Attribute = λ values. Ok (attribute values)
+parts_value parts_kind.Push = push
+
+abbrev pub announced : Shape → Next
+announced (Whole v) = done v
+announced (Body kind n) = body n (body_value kind)
+announced (Parts kind n) = parts n (parts_value kind)
+
+-- the shape is what the line announces, or the fault is; want of memory aside
+abbrev pub Announces : Result Shape Stop → Next → Type 0
+Announces (Ok shape) n = n ≡ announced shape
+Announces (Err Memory) n = Unit {0}
+Announces (Err Unfinished) n = ⊥
+Announces (Err (Fault f)) n = n ≡ wrong f

@@ -1,0 +1,78 @@
+//! The value at the front of bytes.
+
+ghost use Rattle.std.specs.Prelude.{IsTrue};
+ghost use Rattle.resp_parse.specs.Grammar.{next, is_type};
+ghost use Rattle.resp_parse.specs.Reading.{read, read_next, read_parts};
+ghost use Rattle.resp_parse.specs.Shows.{Shows};
+
+use crate::body::{body_of, line_of};
+use crate::shape::{Shape, is_type_byte, shape_of};
+use crate::stop::Stop;
+use resp_value::{FrameFault, Value};
+use std::alloc::Global;
+
+/// The value at the front of the bytes, where so many levels are left, and what follows it.
+#[cycle(parser)]
+fn value_at(alloc: Global, bytes: &[u8], levels: usize) -> Result<(Value, &[u8]), Stop>
+    ensures value { Shows (λ x. (x.0, x.1.now)) result (read levels bytes.now) }
+{
+    let Some((kind, after)) = bytes.split_first() else {
+        return Err(Stop::Unfinished);
+    };
+    if levels == 0 {
+        return Err(Stop::Fault(FrameFault::TooDeep));
+    }
+    if !is_type_byte(*kind) {
+        return Err(Stop::Fault(FrameFault::UnknownType));
+    }
+    let (line, rest) = line_of(after)?;
+    let Ok(text) = std::str::from_utf8(line) else {
+        return Err(Stop::Fault(FrameFault::LineNotUtf8));
+    };
+    announced_at(alloc, *kind, text, rest, levels - 1)
+}
+
+/// The value of a header, and what follows it; the bytes are those after the header's line.
+#[cycle(parser)]
+fn announced_at<'a>(
+    alloc: Global,
+    kind: u8,
+    text: &str,
+    bytes: &'a [u8],
+    levels: usize,
+) -> Result<(Value, &'a [u8]), Stop>
+    requires { IsTrue (is_type kind) }
+    ensures value { Shows (λ x. (x.0, x.1.now)) result (read_next (read levels) (next kind text.now) bytes.now) }
+{
+    match shape_of(alloc, kind, text)? {
+        Shape::Whole(value) => Ok((value, bytes)),
+        Shape::Body(kind, len) => {
+            let (body, rest) = body_of(bytes, len)?;
+            Ok((kind.value(alloc, body)?, rest))
+        }
+        Shape::Parts(kind, count) => {
+            let (parts, rest) = parts_at(alloc, bytes, count, levels)?;
+            Ok((kind.value(alloc, parts)?, rest))
+        }
+    }
+}
+
+/// So many values at the front of the bytes, and what follows them.
+#[cycle(parser)]
+fn parts_at(
+    alloc: Global,
+    bytes: &[u8],
+    count: usize,
+    levels: usize,
+) -> Result<(Vec<Value>, &[u8]), Stop>
+    ensures parts { Shows (λ x. (x.0.items, x.1.now)) result (read_parts (read levels) count bytes.now) }
+{
+    let mut parts = Vec::new(alloc);
+    let mut rest = bytes;
+    for _ in 0..count {
+        let (part, after) = value_at(alloc, rest, levels)?;
+        parts.push(part)?;
+        rest = after;
+    }
+    Ok((parts, rest))
+}

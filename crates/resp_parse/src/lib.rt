@@ -1,0 +1,21 @@
+#![tactic(auto)]
+//! Reading replies of a RESP server (RESP2 and RESP3) from bytes.
+
+mod body;
+mod double;
+mod front;
+mod number;
+mod shape;
+mod stop;
+mod value_of;
+
+ghost use Rattle.std.specs.Prelude.{ℕ, List};
+ghost use Rattle.resp_parse.specs.Laws.{LawOfPrefixes};
+
+/// Bytes have at most one reading, however they go on.
+///
+/// At each number of levels, of two fronts of the same bytes that spell a value or end in a fault,
+/// both are one front, and have the same value or the same fault.
+pub fn law_of_prefixes()
+    ensures law { (d : ℕ) (a x b y : List ℕ) → LawOfPrefixes d a x b y }
+{}

@@ -1,0 +1,160 @@
+//! What the line of a header announces.
+
+ghost use Rattle.std.specs.Prelude.{◌≡◌, IsTrue};
+ghost use Rattle.resp_parse.specs.Grammar.{next, is_type, boolean, double_line, with_number, or_nil, or_empty_push, body as a_body, parts as some_parts, push};
+ghost use Rattle.resp_parse.specs.Shapes.{Announces, body_value, parts_value};
+ghost use Rattle.resp_parse.specs.Shows.{Makes};
+
+use crate::number::{integer_of, length_of};
+use crate::stop::Stop;
+use crate::value_of::{
+    attribute_of, bulk_error_of, double_of, error_of, no_push, pairs_from, push_of, simple_of,
+    verbatim_of,
+};
+use resp_value::{FrameFault, Items, Value};
+use std::alloc::Global;
+
+/// What a body spells.
+#[derive(Clone, Copy, Debug)]
+pub(crate) enum BodyKind {
+    Bulk,
+    Error,
+    Verbatim,
+}
+
+impl BodyKind {
+    /// The value of a body.
+    pub(crate) fn value(self, alloc: Global, body: &[u8]) -> Result<Value, Stop>
+        ensures value { Makes result (body_value self body.now) }
+    {
+        match self {
+            BodyKind::Bulk => Ok(Value::BulkString(Items::from_slice(alloc, body)?)),
+            BodyKind::Error => Ok(bulk_error_of(alloc, body)?),
+            BodyKind::Verbatim => verbatim_of(alloc, body),
+        }
+    }
+}
+
+/// What parts spell.
+#[derive(Clone, Copy, Debug)]
+pub(crate) enum PartsKind {
+    Array,
+    Set,
+    Map,
+    Attribute,
+    Push,
+}
+
+impl PartsKind {
+    /// The value of the parts.
+    pub(crate) fn value(self, alloc: Global, parts: Vec<Value>) -> Result<Value, Stop>
+        ensures value { Makes result (parts_value self parts.items) }
+    {
+        match self {
+            PartsKind::Array => Ok(Value::Array(parts.into())),
+            PartsKind::Set => Ok(Value::Set(parts.into())),
+            PartsKind::Map => Ok(Value::Map(pairs_from(alloc, parts)?)),
+            PartsKind::Attribute => Ok(attribute_of(alloc, parts)?),
+            PartsKind::Push => push_of(parts),
+        }
+    }
+}
+
+/// What the line of a header announces.
+#[derive(Drop)]
+pub(crate) enum Shape {
+    /// The value is whole; no more bytes belong to it.
+    Whole(Value),
+    /// A body of so many bytes follows.
+    Body(BodyKind, usize),
+    /// So many parts follow.
+    Parts(PartsKind, usize),
+}
+
+/// Whether a value begins with this byte.
+pub(crate) fn is_type_byte(byte: u8) -> bool
+    ensures known { result ≡ is_type byte }
+{
+    matches!(
+        byte,
+        b'+' | b'-'
+            | b':'
+            | b'$'
+            | b'*'
+            | b'_'
+            | b'#'
+            | b','
+            | b'('
+            | b'!'
+            | b'='
+            | b'%'
+            | b'~'
+            | b'|'
+            | b'>'
+    )
+}
+
+/// What the line of this text announces after a type byte.
+#[tactic(auto, unfolding(crate::specs::Grammar::next))]
+pub(crate) fn shape_of(alloc: Global, kind: u8, text: &str) -> Result<Shape, Stop>
+    requires { IsTrue (is_type kind) }
+    ensures announced { Announces result (next kind text.now) }
+{
+    match kind {
+        b'+' => Ok(Shape::Whole(simple_of(alloc, text)?)),
+        b'-' => Ok(Shape::Whole(error_of(alloc, text)?)),
+        b':' => Ok(Shape::Whole(Value::Int(integer_of(text)?))),
+        b'$' => body_or_nil(text, BodyKind::Bulk),
+        b'*' => parts_or_nil(text, PartsKind::Array),
+        b'_' => Ok(Shape::Whole(Value::Nil)),
+        b'#' => boolean_shape(text),
+        b',' => Ok(Shape::Whole(double_of(alloc, text)?)),
+        b'(' => Ok(Shape::Whole(Value::BigNumber(Items::from_slice(alloc, text.as_bytes())?))),
+        b'!' => Ok(Shape::Body(BodyKind::Error, length_of(text)?)),
+        b'=' => Ok(Shape::Body(BodyKind::Verbatim, length_of(text)?)),
+        b'%' => Ok(Shape::Parts(PartsKind::Map, 2 * length_of(text)?)),
+        b'~' => parts_or_nil(text, PartsKind::Set),
+        b'|' => Ok(Shape::Parts(PartsKind::Attribute, 2 * length_of(text)? + 1)),
+        _ => push_shape(alloc, text),
+    }
+}
+
+fn boolean_shape(text: &str) -> Result<Shape, Stop>
+    ensures announced { Announces result (boolean text.now) }
+{
+    match text {
+        "t" => Ok(Shape::Whole(Value::Boolean(true))),
+        "f" => Ok(Shape::Whole(Value::Boolean(false))),
+        _ => Err(Stop::Fault(FrameFault::NotBoolean)),
+    }
+}
+
+fn body_or_nil(text: &str, kind: BodyKind) -> Result<Shape, Stop>
+    ensures announced { Announces result (with_number text.now (or_nil (λ n. a_body n (body_value kind)))) }
+{
+    let len = integer_of(text)?;
+    if len < 0 {
+        return Ok(Shape::Whole(Value::Nil));
+    }
+    Ok(Shape::Body(kind, len as usize))
+}
+
+fn parts_or_nil(text: &str, kind: PartsKind) -> Result<Shape, Stop>
+    ensures announced { Announces result (with_number text.now (or_nil (λ n. some_parts n (parts_value kind)))) }
+{
+    let count = integer_of(text)?;
+    if count < 0 {
+        return Ok(Shape::Whole(Value::Nil));
+    }
+    Ok(Shape::Parts(kind, count as usize))
+}
+
+fn push_shape(alloc: Global, text: &str) -> Result<Shape, Stop>
+    ensures announced { Announces result (with_number text.now (or_empty_push (λ n. some_parts n push))) }
+{
+    let count = integer_of(text)?;
+    if count <= 0 {
+        return Ok(Shape::Whole(no_push(alloc)));
+    }
+    Ok(Shape::Parts(PartsKind::Push, count as usize))
+}

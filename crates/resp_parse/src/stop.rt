@@ -1,0 +1,34 @@
+//! Why no value was read.
+
+ghost use Rattle.std.specs.Prelude.{◌≡◌};
+ghost use Rattle.resp_parse.specs.declared.stop.Stop.TheVariants.{Memory};
+
+use resp_value::FrameFault;
+use std::alloc::{AllocError, AllocFailed};
+
+/// Why no value was read from the front of bytes.
+#[derive(Debug, Drop)]
+pub(crate) enum Stop {
+    /// Memory ran out.
+    Memory,
+    /// The bytes end before the value does.
+    Unfinished,
+    /// The bytes can't begin a value.
+    Fault(FrameFault),
+}
+
+impl From<AllocError> for Stop {
+    ghost from_gives = { λ _ e. e ≡ Memory };
+
+    fn from(_error: AllocError) -> Stop {
+        Stop::Memory
+    }
+}
+
+impl<T: Drop> From<AllocFailed<T>> for Stop {
+    ghost from_gives = { λ _ e. e ≡ Memory };
+
+    fn from(_error: AllocFailed<T>) -> Stop {
+        Stop::Memory
+    }
+}

@@ -1,0 +1,148 @@
+//! Values from the texts, bodies and parts that spell them.
+
+ghost use Rattle.std.specs.Prelude.{◌≡◌, [], string_bytes};
+ghost use Rattle.resp_value.specs.declared.value.Value.TheVariants as value;
+ghost use Rattle.resp_value.specs.ServerErrors.{server_error};
+ghost use Rattle.resp_parse.specs.Grammar.{simple, bulk_error, lossy, verbatim, pairs as pairs_of, attribute, push_kind, push, empty_push};
+ghost use Rattle.resp_parse.specs.Double.{double};
+ghost use Rattle.resp_parse.specs.Shows.{IsOrMemory, Makes, DoubleOf};
+
+use crate::double::is_double_text;
+use crate::stop::Stop;
+use bstr::ByteSlice;
+use resp_value::{
+    Boxed, FrameFault, Items, PushKind, ServerError, Text, Value, get_push_kind, verbatim_format,
+};
+use std::alloc::Global;
+
+/// The value of a simple string (RESP, "Simple strings").
+pub(crate) fn simple_of(alloc: Global, text: &str) -> Result<Value, Stop>
+    ensures value { IsOrMemory result (simple text.now) }
+{
+    if text == "OK" {
+        return Ok(Value::Okay);
+    }
+    Ok(Value::SimpleString(Text::from_str(alloc, text)?))
+}
+
+/// The value of an error (RESP, "Simple errors").
+pub(crate) fn error_of(alloc: Global, text: &str) -> Result<Value, Stop>
+    ensures value { IsOrMemory result (value.ServerError (server_error text.now)) }
+{
+    match ServerError::from_text(alloc, text) {
+        Ok(error) => Ok(Value::ServerError(error)),
+        Err(_) => Err(Stop::Memory),
+    }
+}
+
+/// The value of a double line (RESP3, "Doubles").
+#[tactic(auto, unfolding(crate::specs::Double::double))]
+pub(crate) fn double_of(alloc: Global, text: &str) -> Result<Value, Stop>
+    ensures value { DoubleOf result (double text.now) }
+{
+    let text = text.trim();
+    if !is_double_text(text) {
+        return Err(Stop::Fault(FrameFault::NotDouble));
+    }
+    Ok(Value::Double(Text::from_str(alloc, text)?))
+}
+
+/// Bytes as text, with U+FFFD for what is no UTF-8.
+fn lossy_text(alloc: Global, bytes: &[u8]) -> Result<Text, Stop>
+    ensures text { IsOrMemory result (lossy bytes.now) }
+{
+    let mut text = String::new(alloc);
+    bytes.to_str_lossy_into(&mut text)?;
+    Ok(Text::from(text))
+}
+
+/// The value of a bulk error's body (RESP3, "Bulk errors").
+pub(crate) fn bulk_error_of(alloc: Global, body: &[u8]) -> Result<Value, Stop>
+    ensures value { IsOrMemory result (bulk_error body.now) }
+{
+    let text = lossy_text(alloc, body)?;
+    error_of(alloc, text.as_str())
+}
+
+/// The value of a verbatim string's body (RESP3, "Verbatim strings").
+pub(crate) fn verbatim_of(alloc: Global, body: &[u8]) -> Result<Value, Stop>
+    ensures value { Makes result (verbatim body.now) }
+{
+    let text = lossy_text(alloc, body)?;
+    match text.as_str().split_once(':') {
+        Some((format, text)) => Ok(Value::VerbatimString {
+            format: verbatim_format(String::from_str(alloc, format)?),
+            text: Text::from_str(alloc, text)?,
+        }),
+        None => Err(Stop::Fault(FrameFault::NoVerbatimFormat)),
+    }
+}
+
+/// The parts two by two.
+pub(crate) fn pairs_from(alloc: Global, parts: Vec<Value>) -> Result<Items<(Value, Value)>, Stop>
+    ensures pairs { IsOrMemory result (pairs_of parts.items) }
+{
+    let mut pairs = Items::new(alloc);
+    let mut rest = parts.into_iter();
+    while let Some(key) = rest.next() {
+        let Some(value) = rest.next() else {
+            break;
+        };
+        pairs.push((key, value))?;
+    }
+    Ok(pairs)
+}
+
+/// The attribute of these parts: pairs, and then the data (RESP3, "Attributes").
+pub(crate) fn attribute_of(alloc: Global, mut parts: Vec<Value>) -> Result<Value, Stop>
+    ensures value { IsOrMemory result (attribute parts.items) }
+{
+    let payload = match parts.pop() {
+        Some(value) => value,
+        None => Value::Nil,
+    };
+    Ok(Value::Attribute {
+        payload: Boxed::new(alloc, payload)?,
+        attributes: pairs_from(alloc, parts)?,
+    })
+}
+
+/// The kind that the first value of a push names, if it names one.
+fn kind_from(first: Value) -> Option<PushKind>
+    ensures kind { result ≡ push_kind first }
+{
+    match first {
+        Value::SimpleString(name) => Some(get_push_kind(name.into_string())),
+        Value::BulkString(name) => match String::from_utf8(name.into_vec()) {
+            Ok(name) => Some(get_push_kind(name)),
+            Err(_) => None,
+        },
+        _ => None,
+    }
+}
+
+/// The push of these parts: its kind, and then its data (RESP3, "Pushes").
+pub(crate) fn push_of(mut parts: Vec<Value>) -> Result<Value, Stop>
+    ensures value { Makes result (push parts.items) }
+{
+    if parts.is_empty() {
+        return Err(Stop::Fault(FrameFault::BadPushKind));
+    }
+    match kind_from(parts.remove(0)) {
+        Some(kind) => Ok(Value::Push {
+            kind,
+            payload: parts.into(),
+        }),
+        None => Err(Stop::Fault(FrameFault::BadPushKind)),
+    }
+}
+
+/// A push without a kind and without data.
+pub(crate) fn no_push(alloc: Global) -> Value
+    ensures value { result ≡ empty_push }
+{
+    Value::Push {
+        kind: get_push_kind(String::new(alloc)),
+        payload: Items::new(alloc),
+    }
+}
