@@ -1,8 +1,12 @@
 -- Lists of arguments that grow at their end.
-use Rattle.std.proofs.Common.{◌≡◌, ℕ, ◌+◌, List, [], ◌∷◌, ◌++◌, length, get_or, set, ◌<◌, suc, zero, ap, ◌∙◌, append_assoc, arith, Vec, Global}
-use Rattle.std.proofs.lemmas.List.{flat_map_more}
-use Rattle.std.specs.List.{AllZip}
-use Rattle.resp_args.specs.Args.{Args, args_of, extended, Appends, GivesEach}
+use Rattle.std.proofs.Common.{◌≡◌, ℕ, ◌+◌, List, [], ◌∷◌, ◌++◌, length, get_or, set, ◌<◌, suc, zero, ap, ◌∙◌, append_assoc, refl, ◌≤◌, arith, Vec, Global, sym, subst, ⊎_elim, ◌⊎◌, inl, inr, append-nil, length-append, Result, Ok, Err}
+use Rattle.std.specs.Result.{IsErr, IsErrAnd}
+use Rattle.std.proofs.lemmas.Bool.{cases_lt}
+use Rattle.std.proofs.lemmas.List.{flat_map_more, get_or_append_left}
+use Rattle.std.proofs.Math.Seq.{get_or-append_seam}
+use Rattle.std.specs.List.{AllZip, Any}
+use Rattle.resp_value.specs.declared.errors.redis_error.RedisError.{RedisError}
+use Rattle.resp_args.specs.Args.{Args, args_of, extended, Appends, GivesEach, IsFront, IsRefusal, Writes}
 
 AllZip-append : {A B : Type 0} (R : A → B → Type 0) (xs : List A) (ys : List B) (x : A) (y : B) → AllZip R xs ys → R x y → AllZip R (xs ++ x ∷ []) (ys ++ y ∷ [])
 AllZip-append R [] [] x y h r = (r, tt)
@@ -29,3 +33,48 @@ pub args_of-set_same : (vs : List (Vec ℕ Global)) (i : ℕ) (v d : Vec ℕ Glo
 args_of-set_same [] i v d inside e = absurd (omega arith)
 args_of-set_same (u ∷ vs) zero v d inside e = ap (λ b. b ∷ args_of vs) e
 args_of-set_same (u ∷ vs) (suc i) v d inside e = ap (λ args. u.items ∷ args) (args_of-set_same vs i v d (omega arith) e)
+
+Any-last : {X : Type 0} (P : X → Type 0) (xs : List X) (x : X) → Any P (xs ++ x ∷ []) → Any P xs ⊎ P x
+Any-last P xs x any =
+    let k = any.0 in
+    let y = any.1 in
+    elim (cases_lt k (length xs)) [
+      | inl inside ↦ inl (k, y, inside, sym (get_or_append_left xs (x ∷ []) y k inside) ∙ any.3, any.4)
+      | inr past ↦
+          let last : k ≡ length xs = omega (arith, length-append xs (x ∷ []), any.2, past) in
+          inr (subst P (sym any.3 ∙ (ap (λ i. get_or (xs ++ x ∷ []) i y) last ∙ get_or-append_seam xs x [] y)) any.4)
+    ]
+
+Any-amid : {X : Type 0} (P : X → Type 0) (xs : List X) (x : X) (rest : List X) → P x → Any P (xs ++ x ∷ rest)
+Any-amid P xs x rest p = (length xs, x, omega (arith, length-append xs (x ∷ rest)), get_or-append_seam xs x rest x, p)
+
+-- some items are written, and the rest are to come
+pub record Progress {X : Type 0} (Gives : X → Args → Type 0) (Refuses : X → Type 0) (all rest : List X) (old new : Args) : Type 0 where
+  pub done : List X
+  pub split : all ≡ done ++ rest
+  pub appended : Appends (GivesEach Gives done) old new
+  pub taken : Any Refuses done → ⊥
+
+pub progress_start : {X : Type 0} (Gives : X → Args → Type 0) (Refuses : X → Type 0) (all : List X) (old : Args) → Progress Gives Refuses all all old old
+progress_start Gives Refuses all old = record { done = []; split = refl; appended = ([], sym (append-nil old), ([], tt, refl)); taken = λ any. absurd (omega (arith, any.2)) }
+
+pub progress_step : {X : Type 0} (Gives : X → Args → Type 0) (Refuses : X → Type 0) (all : List X) (x : X) (rest : List X) (old mid new : Args) → Progress Gives Refuses all (x ∷ rest) old mid → Appends (Gives x) mid new → (Refuses x → ⊥) → Progress Gives Refuses all rest old new
+progress_step Gives Refuses all x rest old mid new p appends taken = record {
+  done = p.done ++ x ∷ [];
+  split = p.split ∙ sym (append_assoc p.done (x ∷ []) rest);
+  appended = Appends-trans (GivesEach Gives p.done) (Gives x) (GivesEach Gives (p.done ++ x ∷ [])) old mid new p.appended appends (λ a b before now. GivesEach-append Gives p.done x a b before now);
+  taken = λ any. ⊎_elim p.taken taken (Any-last Refuses p.done x any);
+}
+
+pub progress_end : {X : Type 0} (Gives : X → Args → Type 0) (Refuses : X → Type 0) (all : List X) (old new : Args) → Progress Gives Refuses all [] old new → Appends (GivesEach Gives all) old new × (Any Refuses all → ⊥)
+progress_end Gives Refuses all old new p =
+    let e : all ≡ p.done = p.split ∙ append-nil p.done in
+    (subst (λ items. Appends (GivesEach Gives items) old new) (sym e) p.appended, λ any. p.taken (subst (Any Refuses) e any))
+
+pub progress_fails : {X : Type 0} (Gives : X → Args → Type 0) (Refuses : X → Type 0) (all : List X) (x : X) (rest : List X) (old mid new : Args) (r : Result (Unit {0}) RedisError) (e : RedisError) → Progress Gives Refuses all (x ∷ rest) old mid → IsFront mid new × IsRefusal (Refuses x) e → IsErr r × IsErrAnd r (λ d. d ≡ e) → Writes (GivesEach Gives all) (Any Refuses all) old new r
+progress_fails Gives Refuses all x rest old mid new (Ok y) e p fails is = absurd (cc (is.0))
+progress_fails Gives Refuses all x rest old mid new (Err d) e p fails is =
+    let front = fails.0 in (
+      (p.appended.0 ++ front.0, front.1 ∙ (ap (λ c. c ++ front.0) p.appended.1 ∙ append_assoc old p.appended.0 front.0)),
+      subst (IsRefusal (Any Refuses all)) (sym is.1) (⊎_elim (λ memory. inl memory) (λ refused. inr (refused.0, subst (Any Refuses) (sym p.split) (Any-amid Refuses p.done x rest refused.1))) fails.1),
+    )

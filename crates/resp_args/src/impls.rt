@@ -1,6 +1,7 @@
 //! The types of the standard library as arguments.
 
 mod booleans;
+mod collections;
 mod forwards;
 mod integers;
 mod slices;

@@ -1,10 +1,11 @@
-//! Optional values and references are written as what they hold.
+//! Optional values, references and owners are written as what they hold.
 
 ghost use Rattle.resp_args.specs.Args.{item_by_item, GivesOption, RefusesOption, count_of_option, behaviour_of_option};
 
 use crate::args::{NumericBehavior, ToRedisArgs};
 use crate::write::RedisWrite;
 use resp_value::RedisResult;
+use std::rc::Rc;
 
 /// `None` gives no argument.
 impl<T: ToRedisArgs> ToRedisArgs for Option<T> {
@@ -61,6 +62,111 @@ impl<T: ToRedisArgs> ToRedisArgs for &T {
     ghost behaviour = { λ x. T.behaviour x.now };
 
     ghost slices = { item_by_item (λ x. T.gives x.now) (λ x. T.refuses x.now) (λ x. T.count x.now) };
+
+    fn write_redis_args<W: RedisWrite>(&self, out: &mut W) -> RedisResult<()> {
+        (**self).write_redis_args(out)
+    }
+
+    fn write_args_from_slice<W: RedisWrite>(items: &[Self], out: &mut W) -> RedisResult<()> {
+        Self::write_each_arg(items, out)
+    }
+
+    fn num_of_args(&self) -> usize {
+        (**self).num_of_args()
+    }
+
+    fn describe_numeric_behavior(&self) -> NumericBehavior {
+        (**self).describe_numeric_behavior()
+    }
+
+    fn is_single_vec_arg(items: &[Self]) -> bool {
+        match items {
+            [item] => item.num_of_args() <= 1,
+            _ => false,
+        }
+    }
+}
+
+impl<T: ToRedisArgs> ToRedisArgs for &mut T {
+    ghost gives = { λ x. T.gives x.now };
+
+    ghost refuses = { λ x. T.refuses x.now };
+
+    ghost count = { λ x. T.count x.now };
+
+    ghost behaviour = { λ x. T.behaviour x.now };
+
+    ghost slices = { item_by_item (λ x. T.gives x.now) (λ x. T.refuses x.now) (λ x. T.count x.now) };
+
+    fn write_redis_args<W: RedisWrite>(&self, out: &mut W) -> RedisResult<()> {
+        (**self).write_redis_args(out)
+    }
+
+    fn write_args_from_slice<W: RedisWrite>(items: &[Self], out: &mut W) -> RedisResult<()> {
+        Self::write_each_arg(items, out)
+    }
+
+    fn num_of_args(&self) -> usize {
+        (**self).num_of_args()
+    }
+
+    fn describe_numeric_behavior(&self) -> NumericBehavior {
+        (**self).describe_numeric_behavior()
+    }
+
+    fn is_single_vec_arg(items: &[Self]) -> bool {
+        match items {
+            [item] => item.num_of_args() <= 1,
+            _ => false,
+        }
+    }
+}
+
+impl<T: ToRedisArgs> ToRedisArgs for Box<T> {
+    ghost gives = { λ x. T.gives x.value };
+
+    ghost refuses = { λ x. T.refuses x.value };
+
+    ghost count = { λ x. T.count x.value };
+
+    ghost behaviour = { λ x. T.behaviour x.value };
+
+    ghost slices = { item_by_item (λ x. T.gives x.value) (λ x. T.refuses x.value) (λ x. T.count x.value) };
+
+    fn write_redis_args<W: RedisWrite>(&self, out: &mut W) -> RedisResult<()> {
+        (**self).write_redis_args(out)
+    }
+
+    fn write_args_from_slice<W: RedisWrite>(items: &[Self], out: &mut W) -> RedisResult<()> {
+        Self::write_each_arg(items, out)
+    }
+
+    fn num_of_args(&self) -> usize {
+        (**self).num_of_args()
+    }
+
+    fn describe_numeric_behavior(&self) -> NumericBehavior {
+        (**self).describe_numeric_behavior()
+    }
+
+    fn is_single_vec_arg(items: &[Self]) -> bool {
+        match items {
+            [item] => item.num_of_args() <= 1,
+            _ => false,
+        }
+    }
+}
+
+impl<T: ToRedisArgs> ToRedisArgs for Rc<T> {
+    ghost gives = { λ x. T.gives x.value };
+
+    ghost refuses = { λ x. T.refuses x.value };
+
+    ghost count = { λ x. T.count x.value };
+
+    ghost behaviour = { λ x. T.behaviour x.value };
+
+    ghost slices = { item_by_item (λ x. T.gives x.value) (λ x. T.refuses x.value) (λ x. T.count x.value) };
 
     fn write_redis_args<W: RedisWrite>(&self, out: &mut W) -> RedisResult<()> {
         (**self).write_redis_args(out)

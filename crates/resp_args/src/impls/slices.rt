@@ -1,11 +1,14 @@
-//! Slices and vectors are written as their items, those of bytes as one argument.
+//! Slices, arrays and vectors are written as their items, those of bytes as one argument.
 
 ghost use Rattle.std.specs.Prelude.{◌≡◌};
-ghost use Rattle.resp_args.specs.Args.{item_by_item, count_of_slice};
+ghost use Rattle.resp_args.specs.Args.{item_by_item, count_of_slice, GivesOne, one_each};
 
 use crate::args::{NumericBehavior, ToRedisArgs};
 use crate::write::RedisWrite;
 use resp_value::RedisResult;
+use std::borrow::CowSlice;
+use std::boxed::BoxedSlice;
+use std::rc::RcSlice;
 
 /// How many arguments a slice counts for: one where it counts as a single argument, as many as its
 /// item where it has one, and else its length.
@@ -54,14 +57,14 @@ impl<T: ToRedisArgs> ToRedisArgs for &[T] {
     }
 }
 
-impl<T: ToRedisArgs> ToRedisArgs for Vec<T> {
-    ghost gives = { λ v. T.slices.Gives v.items };
+impl<T: ToRedisArgs> ToRedisArgs for &mut [T] {
+    ghost gives = { λ s. T.slices.Gives s.now };
 
-    ghost refuses = { λ v. T.slices.Refuses v.items };
+    ghost refuses = { λ s. T.slices.Refuses s.now };
 
-    ghost count = { λ v. count_of_slice T.slices T.count v.items };
+    ghost count = { λ s. count_of_slice T.slices T.count s.now };
 
-    ghost slices = { item_by_item (λ v. T.slices.Gives v.items) (λ v. T.slices.Refuses v.items) (λ v. count_of_slice T.slices T.count v.items) };
+    ghost slices = { item_by_item (λ s. T.slices.Gives s.now) (λ s. T.slices.Refuses s.now) (λ s. count_of_slice T.slices T.count s.now) };
 
     fn write_redis_args<W: RedisWrite>(&self, out: &mut W) -> RedisResult<()> {
         T::write_args_from_slice(self, out)
@@ -84,5 +87,169 @@ impl<T: ToRedisArgs> ToRedisArgs for Vec<T> {
             [item] => item.num_of_args() <= 1,
             _ => false,
         }
+    }
+}
+
+impl<T: ToRedisArgs, const N: usize> ToRedisArgs for &[T; N] {
+    ghost gives = { λ s. T.slices.Gives s.now };
+
+    ghost refuses = { λ s. T.slices.Refuses s.now };
+
+    ghost count = { λ s. count_of_slice T.slices T.count s.now };
+
+    ghost slices = { item_by_item (λ s. T.slices.Gives s.now) (λ s. T.slices.Refuses s.now) (λ s. count_of_slice T.slices T.count s.now) };
+
+    fn write_redis_args<W: RedisWrite>(&self, out: &mut W) -> RedisResult<()> {
+        T::write_args_from_slice(self.as_slice(), out)
+    }
+
+    fn write_args_from_slice<W: RedisWrite>(items: &[Self], out: &mut W) -> RedisResult<()> {
+        Self::write_each_arg(items, out)
+    }
+
+    fn num_of_args(&self) -> usize {
+        num_of_slice_args(self.as_slice())
+    }
+
+    fn describe_numeric_behavior(&self) -> NumericBehavior {
+        NumericBehavior::NonNumeric
+    }
+
+    fn is_single_vec_arg(items: &[Self]) -> bool {
+        match items {
+            [item] => item.num_of_args() <= 1,
+            _ => false,
+        }
+    }
+}
+
+impl<T: ToRedisArgs> ToRedisArgs for Vec<T> {
+    ghost gives = { λ s. T.slices.Gives s.items };
+
+    ghost refuses = { λ s. T.slices.Refuses s.items };
+
+    ghost count = { λ s. count_of_slice T.slices T.count s.items };
+
+    ghost slices = { item_by_item (λ s. T.slices.Gives s.items) (λ s. T.slices.Refuses s.items) (λ s. count_of_slice T.slices T.count s.items) };
+
+    fn write_redis_args<W: RedisWrite>(&self, out: &mut W) -> RedisResult<()> {
+        T::write_args_from_slice(self.as_slice(), out)
+    }
+
+    fn write_args_from_slice<W: RedisWrite>(items: &[Self], out: &mut W) -> RedisResult<()> {
+        Self::write_each_arg(items, out)
+    }
+
+    fn num_of_args(&self) -> usize {
+        num_of_slice_args(self.as_slice())
+    }
+
+    fn describe_numeric_behavior(&self) -> NumericBehavior {
+        NumericBehavior::NonNumeric
+    }
+
+    fn is_single_vec_arg(items: &[Self]) -> bool {
+        match items {
+            [item] => item.num_of_args() <= 1,
+            _ => false,
+        }
+    }
+}
+
+impl<T: ToRedisArgs> ToRedisArgs for BoxedSlice<T> {
+    ghost use Rattle.std.specs.Box.{boxed_slice_items};
+
+    ghost gives = { λ s. T.slices.Gives (boxed_slice_items s) };
+
+    ghost refuses = { λ s. T.slices.Refuses (boxed_slice_items s) };
+
+    ghost count = { λ s. count_of_slice T.slices T.count (boxed_slice_items s) };
+
+    ghost slices = { item_by_item (λ s. T.slices.Gives (boxed_slice_items s)) (λ s. T.slices.Refuses (boxed_slice_items s)) (λ s. count_of_slice T.slices T.count (boxed_slice_items s)) };
+
+    fn write_redis_args<W: RedisWrite>(&self, out: &mut W) -> RedisResult<()> {
+        T::write_args_from_slice(self.as_slice(), out)
+    }
+
+    fn write_args_from_slice<W: RedisWrite>(items: &[Self], out: &mut W) -> RedisResult<()> {
+        Self::write_each_arg(items, out)
+    }
+
+    fn num_of_args(&self) -> usize {
+        num_of_slice_args(self.as_slice())
+    }
+
+    fn describe_numeric_behavior(&self) -> NumericBehavior {
+        NumericBehavior::NonNumeric
+    }
+
+    fn is_single_vec_arg(items: &[Self]) -> bool {
+        match items {
+            [item] => item.num_of_args() <= 1,
+            _ => false,
+        }
+    }
+}
+
+impl<T: ToRedisArgs> ToRedisArgs for RcSlice<T> {
+    ghost use Rattle.std.specs.Rc.{rc_slice_items};
+
+    ghost gives = { λ s. T.slices.Gives (rc_slice_items s) };
+
+    ghost refuses = { λ s. T.slices.Refuses (rc_slice_items s) };
+
+    ghost count = { λ s. count_of_slice T.slices T.count (rc_slice_items s) };
+
+    ghost slices = { item_by_item (λ s. T.slices.Gives (rc_slice_items s)) (λ s. T.slices.Refuses (rc_slice_items s)) (λ s. count_of_slice T.slices T.count (rc_slice_items s)) };
+
+    fn write_redis_args<W: RedisWrite>(&self, out: &mut W) -> RedisResult<()> {
+        T::write_args_from_slice(self.as_slice(), out)
+    }
+
+    fn write_args_from_slice<W: RedisWrite>(items: &[Self], out: &mut W) -> RedisResult<()> {
+        Self::write_each_arg(items, out)
+    }
+
+    fn num_of_args(&self) -> usize {
+        num_of_slice_args(self.as_slice())
+    }
+
+    fn describe_numeric_behavior(&self) -> NumericBehavior {
+        NumericBehavior::NonNumeric
+    }
+
+    fn is_single_vec_arg(items: &[Self]) -> bool {
+        match items {
+            [item] => item.num_of_args() <= 1,
+            _ => false,
+        }
+    }
+}
+
+impl ToRedisArgs for CowSlice<'_, u8> {
+    ghost use Rattle.std.specs.Cow.{cow_slice_items};
+
+    ghost gives = { GivesOne cow_slice_items };
+
+    ghost slices = { one_each cow_slice_items };
+
+    fn write_redis_args<W: RedisWrite>(&self, out: &mut W) -> RedisResult<()> {
+        out.write_arg(self.as_slice())
+    }
+
+    fn write_args_from_slice<W: RedisWrite>(items: &[Self], out: &mut W) -> RedisResult<()> {
+        Self::write_each_arg(items, out)
+    }
+
+    fn num_of_args(&self) -> usize {
+        1
+    }
+
+    fn describe_numeric_behavior(&self) -> NumericBehavior {
+        NumericBehavior::NonNumeric
+    }
+
+    fn is_single_vec_arg(items: &[Self]) -> bool {
+        items.len() == 1
     }
 }

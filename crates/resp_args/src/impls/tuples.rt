@@ -7,6 +7,65 @@ use crate::args::{NumericBehavior, ToRedisArgs};
 use crate::write::RedisWrite;
 use resp_value::RedisResult;
 
+impl<A: ToRedisArgs> ToRedisArgs for (A,) {
+    ghost gives = { λ x. A.gives x.0 };
+
+    ghost refuses = { λ x. A.refuses x.0 };
+
+    ghost slices = { item_by_item (λ x. A.gives x.0) (λ x. A.refuses x.0) (λ _. 1) };
+
+    fn write_redis_args<W: RedisWrite>(&self, out: &mut W) -> RedisResult<()> {
+        self.0.write_redis_args(out)
+    }
+
+    fn write_args_from_slice<W: RedisWrite>(items: &[Self], out: &mut W) -> RedisResult<()> {
+        Self::write_each_arg(items, out)
+    }
+
+    fn num_of_args(&self) -> usize {
+        1
+    }
+
+    fn describe_numeric_behavior(&self) -> NumericBehavior {
+        NumericBehavior::NonNumeric
+    }
+
+    fn is_single_vec_arg(items: &[Self]) -> bool {
+        items.len() == 1
+    }
+}
+
+impl<A: ToRedisArgs, B: ToRedisArgs> ToRedisArgs for (A, B) {
+    ghost gives = { λ x. GivesBoth (A.gives x.0) (B.gives x.1) };
+
+    ghost refuses = { λ x. A.refuses x.0 ⊎ B.refuses x.1 };
+
+    ghost count = { λ _. 2 };
+
+    ghost slices = { item_by_item (λ x. GivesBoth (A.gives x.0) (B.gives x.1)) (λ x. A.refuses x.0 ⊎ B.refuses x.1) (λ _. 2) };
+
+    fn write_redis_args<W: RedisWrite>(&self, out: &mut W) -> RedisResult<()> {
+        self.0.write_redis_args(out)?;
+        self.1.write_redis_args(out)
+    }
+
+    fn write_args_from_slice<W: RedisWrite>(items: &[Self], out: &mut W) -> RedisResult<()> {
+        Self::write_each_arg(items, out)
+    }
+
+    fn num_of_args(&self) -> usize {
+        2
+    }
+
+    fn describe_numeric_behavior(&self) -> NumericBehavior {
+        NumericBehavior::NonNumeric
+    }
+
+    fn is_single_vec_arg(_items: &[Self]) -> bool {
+        false
+    }
+}
+
 impl<A: ToRedisArgs, B: ToRedisArgs, C: ToRedisArgs> ToRedisArgs for (A, B, C) {
     ghost gives = { λ x. GivesBoth (A.gives x.0) (GivesBoth (B.gives x.1) (C.gives x.2)) };
 
@@ -18,8 +77,7 @@ impl<A: ToRedisArgs, B: ToRedisArgs, C: ToRedisArgs> ToRedisArgs for (A, B, C) {
 
     fn write_redis_args<W: RedisWrite>(&self, out: &mut W) -> RedisResult<()> {
         self.0.write_redis_args(out)?;
-        self.1.write_redis_args(out)?;
-        self.2.write_redis_args(out)
+        (&self.1, &self.2).write_redis_args(out)
     }
 
     fn write_args_from_slice<W: RedisWrite>(items: &[Self], out: &mut W) -> RedisResult<()> {
@@ -28,6 +86,373 @@ impl<A: ToRedisArgs, B: ToRedisArgs, C: ToRedisArgs> ToRedisArgs for (A, B, C) {
 
     fn num_of_args(&self) -> usize {
         3
+    }
+
+    fn describe_numeric_behavior(&self) -> NumericBehavior {
+        NumericBehavior::NonNumeric
+    }
+
+    fn is_single_vec_arg(_items: &[Self]) -> bool {
+        false
+    }
+}
+
+impl<A: ToRedisArgs, B: ToRedisArgs, C: ToRedisArgs, D: ToRedisArgs> ToRedisArgs for (A, B, C, D) {
+    ghost gives = { λ x. GivesBoth (A.gives x.0) (GivesBoth (B.gives x.1) (GivesBoth (C.gives x.2) (D.gives x.3))) };
+
+    ghost refuses = { λ x. A.refuses x.0 ⊎ (B.refuses x.1 ⊎ (C.refuses x.2 ⊎ D.refuses x.3)) };
+
+    ghost count = { λ _. 4 };
+
+    ghost slices = { item_by_item (λ x. GivesBoth (A.gives x.0) (GivesBoth (B.gives x.1) (GivesBoth (C.gives x.2) (D.gives x.3)))) (λ x. A.refuses x.0 ⊎ (B.refuses x.1 ⊎ (C.refuses x.2 ⊎ D.refuses x.3))) (λ _. 4) };
+
+    fn write_redis_args<W: RedisWrite>(&self, out: &mut W) -> RedisResult<()> {
+        self.0.write_redis_args(out)?;
+        (&self.1, &self.2, &self.3).write_redis_args(out)
+    }
+
+    fn write_args_from_slice<W: RedisWrite>(items: &[Self], out: &mut W) -> RedisResult<()> {
+        Self::write_each_arg(items, out)
+    }
+
+    fn num_of_args(&self) -> usize {
+        4
+    }
+
+    fn describe_numeric_behavior(&self) -> NumericBehavior {
+        NumericBehavior::NonNumeric
+    }
+
+    fn is_single_vec_arg(_items: &[Self]) -> bool {
+        false
+    }
+}
+
+impl<A: ToRedisArgs, B: ToRedisArgs, C: ToRedisArgs, D: ToRedisArgs, E: ToRedisArgs> ToRedisArgs
+    for (A, B, C, D, E) {
+    ghost gives = { λ x. GivesBoth (A.gives x.0) (GivesBoth (B.gives x.1) (GivesBoth (C.gives x.2) (GivesBoth (D.gives x.3) (E.gives x.4)))) };
+
+    ghost refuses = { λ x. A.refuses x.0 ⊎ (B.refuses x.1 ⊎ (C.refuses x.2 ⊎ (D.refuses x.3 ⊎ E.refuses x.4))) };
+
+    ghost count = { λ _. 5 };
+
+    ghost slices = { item_by_item (λ x. GivesBoth (A.gives x.0) (GivesBoth (B.gives x.1) (GivesBoth (C.gives x.2) (GivesBoth (D.gives x.3) (E.gives x.4))))) (λ x. A.refuses x.0 ⊎ (B.refuses x.1 ⊎ (C.refuses x.2 ⊎ (D.refuses x.3 ⊎ E.refuses x.4)))) (λ _. 5) };
+
+    fn write_redis_args<W: RedisWrite>(&self, out: &mut W) -> RedisResult<()> {
+        self.0.write_redis_args(out)?;
+        (&self.1, &self.2, &self.3, &self.4).write_redis_args(out)
+    }
+
+    fn write_args_from_slice<W: RedisWrite>(items: &[Self], out: &mut W) -> RedisResult<()> {
+        Self::write_each_arg(items, out)
+    }
+
+    fn num_of_args(&self) -> usize {
+        5
+    }
+
+    fn describe_numeric_behavior(&self) -> NumericBehavior {
+        NumericBehavior::NonNumeric
+    }
+
+    fn is_single_vec_arg(_items: &[Self]) -> bool {
+        false
+    }
+}
+
+impl<
+    A: ToRedisArgs,
+    B: ToRedisArgs,
+    C: ToRedisArgs,
+    D: ToRedisArgs,
+    E: ToRedisArgs,
+    F: ToRedisArgs,
+> ToRedisArgs for (A, B, C, D, E, F) {
+    ghost gives = { λ x. GivesBoth (A.gives x.0) (GivesBoth (B.gives x.1) (GivesBoth (C.gives x.2) (GivesBoth (D.gives x.3) (GivesBoth (E.gives x.4) (F.gives x.5))))) };
+
+    ghost refuses = { λ x. A.refuses x.0 ⊎ (B.refuses x.1 ⊎ (C.refuses x.2 ⊎ (D.refuses x.3 ⊎ (E.refuses x.4 ⊎ F.refuses x.5)))) };
+
+    ghost count = { λ _. 6 };
+
+    ghost slices = { item_by_item (λ x. GivesBoth (A.gives x.0) (GivesBoth (B.gives x.1) (GivesBoth (C.gives x.2) (GivesBoth (D.gives x.3) (GivesBoth (E.gives x.4) (F.gives x.5)))))) (λ x. A.refuses x.0 ⊎ (B.refuses x.1 ⊎ (C.refuses x.2 ⊎ (D.refuses x.3 ⊎ (E.refuses x.4 ⊎ F.refuses x.5))))) (λ _. 6) };
+
+    fn write_redis_args<W: RedisWrite>(&self, out: &mut W) -> RedisResult<()> {
+        self.0.write_redis_args(out)?;
+        (&self.1, &self.2, &self.3, &self.4, &self.5).write_redis_args(out)
+    }
+
+    fn write_args_from_slice<W: RedisWrite>(items: &[Self], out: &mut W) -> RedisResult<()> {
+        Self::write_each_arg(items, out)
+    }
+
+    fn num_of_args(&self) -> usize {
+        6
+    }
+
+    fn describe_numeric_behavior(&self) -> NumericBehavior {
+        NumericBehavior::NonNumeric
+    }
+
+    fn is_single_vec_arg(_items: &[Self]) -> bool {
+        false
+    }
+}
+
+impl<
+    A: ToRedisArgs,
+    B: ToRedisArgs,
+    C: ToRedisArgs,
+    D: ToRedisArgs,
+    E: ToRedisArgs,
+    F: ToRedisArgs,
+    G: ToRedisArgs,
+> ToRedisArgs for (A, B, C, D, E, F, G) {
+    ghost gives = { λ x. GivesBoth (A.gives x.0) (GivesBoth (B.gives x.1) (GivesBoth (C.gives x.2) (GivesBoth (D.gives x.3) (GivesBoth (E.gives x.4) (GivesBoth (F.gives x.5) (G.gives x.6)))))) };
+
+    ghost refuses = { λ x. A.refuses x.0 ⊎ (B.refuses x.1 ⊎ (C.refuses x.2 ⊎ (D.refuses x.3 ⊎ (E.refuses x.4 ⊎ (F.refuses x.5 ⊎ G.refuses x.6))))) };
+
+    ghost count = { λ _. 7 };
+
+    ghost slices = { item_by_item (λ x. GivesBoth (A.gives x.0) (GivesBoth (B.gives x.1) (GivesBoth (C.gives x.2) (GivesBoth (D.gives x.3) (GivesBoth (E.gives x.4) (GivesBoth (F.gives x.5) (G.gives x.6))))))) (λ x. A.refuses x.0 ⊎ (B.refuses x.1 ⊎ (C.refuses x.2 ⊎ (D.refuses x.3 ⊎ (E.refuses x.4 ⊎ (F.refuses x.5 ⊎ G.refuses x.6)))))) (λ _. 7) };
+
+    fn write_redis_args<W: RedisWrite>(&self, out: &mut W) -> RedisResult<()> {
+        self.0.write_redis_args(out)?;
+        (&self.1, &self.2, &self.3, &self.4, &self.5, &self.6).write_redis_args(out)
+    }
+
+    fn write_args_from_slice<W: RedisWrite>(items: &[Self], out: &mut W) -> RedisResult<()> {
+        Self::write_each_arg(items, out)
+    }
+
+    fn num_of_args(&self) -> usize {
+        7
+    }
+
+    fn describe_numeric_behavior(&self) -> NumericBehavior {
+        NumericBehavior::NonNumeric
+    }
+
+    fn is_single_vec_arg(_items: &[Self]) -> bool {
+        false
+    }
+}
+
+impl<
+    A: ToRedisArgs,
+    B: ToRedisArgs,
+    C: ToRedisArgs,
+    D: ToRedisArgs,
+    E: ToRedisArgs,
+    F: ToRedisArgs,
+    G: ToRedisArgs,
+    H: ToRedisArgs,
+> ToRedisArgs for (A, B, C, D, E, F, G, H) {
+    ghost gives = { λ x. GivesBoth (A.gives x.0) (GivesBoth (B.gives x.1) (GivesBoth (C.gives x.2) (GivesBoth (D.gives x.3) (GivesBoth (E.gives x.4) (GivesBoth (F.gives x.5) (GivesBoth (G.gives x.6) (H.gives x.7))))))) };
+
+    ghost refuses = { λ x. A.refuses x.0 ⊎ (B.refuses x.1 ⊎ (C.refuses x.2 ⊎ (D.refuses x.3 ⊎ (E.refuses x.4 ⊎ (F.refuses x.5 ⊎ (G.refuses x.6 ⊎ H.refuses x.7)))))) };
+
+    ghost count = { λ _. 8 };
+
+    ghost slices = { item_by_item (λ x. GivesBoth (A.gives x.0) (GivesBoth (B.gives x.1) (GivesBoth (C.gives x.2) (GivesBoth (D.gives x.3) (GivesBoth (E.gives x.4) (GivesBoth (F.gives x.5) (GivesBoth (G.gives x.6) (H.gives x.7)))))))) (λ x. A.refuses x.0 ⊎ (B.refuses x.1 ⊎ (C.refuses x.2 ⊎ (D.refuses x.3 ⊎ (E.refuses x.4 ⊎ (F.refuses x.5 ⊎ (G.refuses x.6 ⊎ H.refuses x.7))))))) (λ _. 8) };
+
+    fn write_redis_args<W: RedisWrite>(&self, out: &mut W) -> RedisResult<()> {
+        self.0.write_redis_args(out)?;
+        (
+            &self.1, &self.2, &self.3, &self.4, &self.5, &self.6, &self.7,
+        )
+            .write_redis_args(out)
+    }
+
+    fn write_args_from_slice<W: RedisWrite>(items: &[Self], out: &mut W) -> RedisResult<()> {
+        Self::write_each_arg(items, out)
+    }
+
+    fn num_of_args(&self) -> usize {
+        8
+    }
+
+    fn describe_numeric_behavior(&self) -> NumericBehavior {
+        NumericBehavior::NonNumeric
+    }
+
+    fn is_single_vec_arg(_items: &[Self]) -> bool {
+        false
+    }
+}
+
+impl<
+    A: ToRedisArgs,
+    B: ToRedisArgs,
+    C: ToRedisArgs,
+    D: ToRedisArgs,
+    E: ToRedisArgs,
+    F: ToRedisArgs,
+    G: ToRedisArgs,
+    H: ToRedisArgs,
+    I: ToRedisArgs,
+> ToRedisArgs for (A, B, C, D, E, F, G, H, I) {
+    ghost gives = { λ x. GivesBoth (A.gives x.0) (GivesBoth (B.gives x.1) (GivesBoth (C.gives x.2) (GivesBoth (D.gives x.3) (GivesBoth (E.gives x.4) (GivesBoth (F.gives x.5) (GivesBoth (G.gives x.6) (GivesBoth (H.gives x.7) (I.gives x.8)))))))) };
+
+    ghost refuses = { λ x. A.refuses x.0 ⊎ (B.refuses x.1 ⊎ (C.refuses x.2 ⊎ (D.refuses x.3 ⊎ (E.refuses x.4 ⊎ (F.refuses x.5 ⊎ (G.refuses x.6 ⊎ (H.refuses x.7 ⊎ I.refuses x.8))))))) };
+
+    ghost count = { λ _. 9 };
+
+    ghost slices = { item_by_item (λ x. GivesBoth (A.gives x.0) (GivesBoth (B.gives x.1) (GivesBoth (C.gives x.2) (GivesBoth (D.gives x.3) (GivesBoth (E.gives x.4) (GivesBoth (F.gives x.5) (GivesBoth (G.gives x.6) (GivesBoth (H.gives x.7) (I.gives x.8))))))))) (λ x. A.refuses x.0 ⊎ (B.refuses x.1 ⊎ (C.refuses x.2 ⊎ (D.refuses x.3 ⊎ (E.refuses x.4 ⊎ (F.refuses x.5 ⊎ (G.refuses x.6 ⊎ (H.refuses x.7 ⊎ I.refuses x.8)))))))) (λ _. 9) };
+
+    fn write_redis_args<W: RedisWrite>(&self, out: &mut W) -> RedisResult<()> {
+        self.0.write_redis_args(out)?;
+        (
+            &self.1, &self.2, &self.3, &self.4, &self.5, &self.6, &self.7, &self.8,
+        )
+            .write_redis_args(out)
+    }
+
+    fn write_args_from_slice<W: RedisWrite>(items: &[Self], out: &mut W) -> RedisResult<()> {
+        Self::write_each_arg(items, out)
+    }
+
+    fn num_of_args(&self) -> usize {
+        9
+    }
+
+    fn describe_numeric_behavior(&self) -> NumericBehavior {
+        NumericBehavior::NonNumeric
+    }
+
+    fn is_single_vec_arg(_items: &[Self]) -> bool {
+        false
+    }
+}
+
+impl<
+    A: ToRedisArgs,
+    B: ToRedisArgs,
+    C: ToRedisArgs,
+    D: ToRedisArgs,
+    E: ToRedisArgs,
+    F: ToRedisArgs,
+    G: ToRedisArgs,
+    H: ToRedisArgs,
+    I: ToRedisArgs,
+    J: ToRedisArgs,
+> ToRedisArgs for (A, B, C, D, E, F, G, H, I, J) {
+    ghost gives = { λ x. GivesBoth (A.gives x.0) (GivesBoth (B.gives x.1) (GivesBoth (C.gives x.2) (GivesBoth (D.gives x.3) (GivesBoth (E.gives x.4) (GivesBoth (F.gives x.5) (GivesBoth (G.gives x.6) (GivesBoth (H.gives x.7) (GivesBoth (I.gives x.8) (J.gives x.9))))))))) };
+
+    ghost refuses = { λ x. A.refuses x.0 ⊎ (B.refuses x.1 ⊎ (C.refuses x.2 ⊎ (D.refuses x.3 ⊎ (E.refuses x.4 ⊎ (F.refuses x.5 ⊎ (G.refuses x.6 ⊎ (H.refuses x.7 ⊎ (I.refuses x.8 ⊎ J.refuses x.9)))))))) };
+
+    ghost count = { λ _. 10 };
+
+    ghost slices = { item_by_item (λ x. GivesBoth (A.gives x.0) (GivesBoth (B.gives x.1) (GivesBoth (C.gives x.2) (GivesBoth (D.gives x.3) (GivesBoth (E.gives x.4) (GivesBoth (F.gives x.5) (GivesBoth (G.gives x.6) (GivesBoth (H.gives x.7) (GivesBoth (I.gives x.8) (J.gives x.9)))))))))) (λ x. A.refuses x.0 ⊎ (B.refuses x.1 ⊎ (C.refuses x.2 ⊎ (D.refuses x.3 ⊎ (E.refuses x.4 ⊎ (F.refuses x.5 ⊎ (G.refuses x.6 ⊎ (H.refuses x.7 ⊎ (I.refuses x.8 ⊎ J.refuses x.9))))))))) (λ _. 10) };
+
+    fn write_redis_args<W: RedisWrite>(&self, out: &mut W) -> RedisResult<()> {
+        self.0.write_redis_args(out)?;
+        (
+            &self.1, &self.2, &self.3, &self.4, &self.5, &self.6, &self.7, &self.8, &self.9,
+        )
+            .write_redis_args(out)
+    }
+
+    fn write_args_from_slice<W: RedisWrite>(items: &[Self], out: &mut W) -> RedisResult<()> {
+        Self::write_each_arg(items, out)
+    }
+
+    fn num_of_args(&self) -> usize {
+        10
+    }
+
+    fn describe_numeric_behavior(&self) -> NumericBehavior {
+        NumericBehavior::NonNumeric
+    }
+
+    fn is_single_vec_arg(_items: &[Self]) -> bool {
+        false
+    }
+}
+
+impl<
+    A: ToRedisArgs,
+    B: ToRedisArgs,
+    C: ToRedisArgs,
+    D: ToRedisArgs,
+    E: ToRedisArgs,
+    F: ToRedisArgs,
+    G: ToRedisArgs,
+    H: ToRedisArgs,
+    I: ToRedisArgs,
+    J: ToRedisArgs,
+    K: ToRedisArgs,
+> ToRedisArgs for (A, B, C, D, E, F, G, H, I, J, K) {
+    ghost gives = { λ x. GivesBoth (A.gives x.0) (GivesBoth (B.gives x.1) (GivesBoth (C.gives x.2) (GivesBoth (D.gives x.3) (GivesBoth (E.gives x.4) (GivesBoth (F.gives x.5) (GivesBoth (G.gives x.6) (GivesBoth (H.gives x.7) (GivesBoth (I.gives x.8) (GivesBoth (J.gives x.9) (K.gives x.10)))))))))) };
+
+    ghost refuses = { λ x. A.refuses x.0 ⊎ (B.refuses x.1 ⊎ (C.refuses x.2 ⊎ (D.refuses x.3 ⊎ (E.refuses x.4 ⊎ (F.refuses x.5 ⊎ (G.refuses x.6 ⊎ (H.refuses x.7 ⊎ (I.refuses x.8 ⊎ (J.refuses x.9 ⊎ K.refuses x.10))))))))) };
+
+    ghost count = { λ _. 11 };
+
+    ghost slices = { item_by_item (λ x. GivesBoth (A.gives x.0) (GivesBoth (B.gives x.1) (GivesBoth (C.gives x.2) (GivesBoth (D.gives x.3) (GivesBoth (E.gives x.4) (GivesBoth (F.gives x.5) (GivesBoth (G.gives x.6) (GivesBoth (H.gives x.7) (GivesBoth (I.gives x.8) (GivesBoth (J.gives x.9) (K.gives x.10))))))))))) (λ x. A.refuses x.0 ⊎ (B.refuses x.1 ⊎ (C.refuses x.2 ⊎ (D.refuses x.3 ⊎ (E.refuses x.4 ⊎ (F.refuses x.5 ⊎ (G.refuses x.6 ⊎ (H.refuses x.7 ⊎ (I.refuses x.8 ⊎ (J.refuses x.9 ⊎ K.refuses x.10)))))))))) (λ _. 11) };
+
+    fn write_redis_args<W: RedisWrite>(&self, out: &mut W) -> RedisResult<()> {
+        self.0.write_redis_args(out)?;
+        (
+            &self.1, &self.2, &self.3, &self.4, &self.5, &self.6, &self.7, &self.8, &self.9,
+            &self.10,
+        )
+            .write_redis_args(out)
+    }
+
+    fn write_args_from_slice<W: RedisWrite>(items: &[Self], out: &mut W) -> RedisResult<()> {
+        Self::write_each_arg(items, out)
+    }
+
+    fn num_of_args(&self) -> usize {
+        11
+    }
+
+    fn describe_numeric_behavior(&self) -> NumericBehavior {
+        NumericBehavior::NonNumeric
+    }
+
+    fn is_single_vec_arg(_items: &[Self]) -> bool {
+        false
+    }
+}
+
+impl<
+    A: ToRedisArgs,
+    B: ToRedisArgs,
+    C: ToRedisArgs,
+    D: ToRedisArgs,
+    E: ToRedisArgs,
+    F: ToRedisArgs,
+    G: ToRedisArgs,
+    H: ToRedisArgs,
+    I: ToRedisArgs,
+    J: ToRedisArgs,
+    K: ToRedisArgs,
+    L: ToRedisArgs,
+> ToRedisArgs for (A, B, C, D, E, F, G, H, I, J, K, L) {
+    ghost gives = { λ x. GivesBoth (A.gives x.0) (GivesBoth (B.gives x.1) (GivesBoth (C.gives x.2) (GivesBoth (D.gives x.3) (GivesBoth (E.gives x.4) (GivesBoth (F.gives x.5) (GivesBoth (G.gives x.6) (GivesBoth (H.gives x.7) (GivesBoth (I.gives x.8) (GivesBoth (J.gives x.9) (GivesBoth (K.gives x.10) (L.gives x.11))))))))))) };
+
+    ghost refuses = { λ x. A.refuses x.0 ⊎ (B.refuses x.1 ⊎ (C.refuses x.2 ⊎ (D.refuses x.3 ⊎ (E.refuses x.4 ⊎ (F.refuses x.5 ⊎ (G.refuses x.6 ⊎ (H.refuses x.7 ⊎ (I.refuses x.8 ⊎ (J.refuses x.9 ⊎ (K.refuses x.10 ⊎ L.refuses x.11)))))))))) };
+
+    ghost count = { λ _. 12 };
+
+    ghost slices = { item_by_item (λ x. GivesBoth (A.gives x.0) (GivesBoth (B.gives x.1) (GivesBoth (C.gives x.2) (GivesBoth (D.gives x.3) (GivesBoth (E.gives x.4) (GivesBoth (F.gives x.5) (GivesBoth (G.gives x.6) (GivesBoth (H.gives x.7) (GivesBoth (I.gives x.8) (GivesBoth (J.gives x.9) (GivesBoth (K.gives x.10) (L.gives x.11)))))))))))) (λ x. A.refuses x.0 ⊎ (B.refuses x.1 ⊎ (C.refuses x.2 ⊎ (D.refuses x.3 ⊎ (E.refuses x.4 ⊎ (F.refuses x.5 ⊎ (G.refuses x.6 ⊎ (H.refuses x.7 ⊎ (I.refuses x.8 ⊎ (J.refuses x.9 ⊎ (K.refuses x.10 ⊎ L.refuses x.11))))))))))) (λ _. 12) };
+
+    fn write_redis_args<W: RedisWrite>(&self, out: &mut W) -> RedisResult<()> {
+        self.0.write_redis_args(out)?;
+        (
+            &self.1, &self.2, &self.3, &self.4, &self.5, &self.6, &self.7, &self.8, &self.9,
+            &self.10, &self.11,
+        )
+            .write_redis_args(out)
+    }
+
+    fn write_args_from_slice<W: RedisWrite>(items: &[Self], out: &mut W) -> RedisResult<()> {
+        Self::write_each_arg(items, out)
+    }
+
+    fn num_of_args(&self) -> usize {
+        12
     }
 
     fn describe_numeric_behavior(&self) -> NumericBehavior {
