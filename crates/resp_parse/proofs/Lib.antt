@@ -2,6 +2,7 @@ pub mod Agreement
 pub mod Bits
 pub mod BodyReads
 pub mod Ends
+pub mod FrontReads
 pub mod Headers
 pub mod LineAt
 pub mod LineReads

@@ -8,3 +8,8 @@ pub mod Laws
 pub mod Reading
 pub mod Shapes
 pub mod Shows
+pub mod Answers
+pub mod State
+pub mod Takes
+pub mod Ends
+pub mod Parses

@@ -4,12 +4,16 @@ ghost use Rattle.std.specs.Prelude.{IsTrue};
 ghost use Rattle.resp_parse.specs.Grammar.{next, is_type};
 ghost use Rattle.resp_parse.specs.Reading.{read, read_next, read_parts};
 ghost use Rattle.resp_parse.specs.Shows.{Shows};
+ghost use Rattle.resp_parse.specs.Answers.{Answers, Finds};
 
 use crate::body::{body_of, line_of};
 use crate::shape::{Shape, is_type_byte, shape_of};
 use crate::stop::Stop;
-use resp_value::{FrameFault, Value};
+use resp_value::{FrameFault, IoKind, ParsingError, RedisError, RedisResult, Value};
 use std::alloc::Global;
+
+/// How many levels of values inside values are read.
+const LEVELS: usize = 100;
 
 /// The value at the front of the bytes, where so many levels are left, and what follows it.
 #[cycle(parser)]
@@ -75,4 +79,28 @@ fn parts_at(
         rest = after;
     }
     Ok((parts, rest))
+}
+
+/// The value at the front of the bytes, and how many bytes spell it.
+pub(crate) fn first_value(alloc: Global, bytes: &[u8]) -> Result<(Value, usize), Stop>
+    ensures finds { Finds bytes.now result }
+{
+    let (value, rest) = value_at(alloc, bytes, LEVELS)?;
+    Ok((value, bytes.len() - rest.len()))
+}
+
+/// The value that the bytes begin with; bytes after it are not read.
+///
+/// Bytes that can't begin a value are refused as [`RedisError::Parse`] with their
+/// [`FrameFault`], bytes that end before the value does as [`IoKind::UnexpectedEof`]. Values
+/// are read down to 100 levels, the outermost being the first.
+pub fn parse_redis_value(alloc: Global, bytes: &[u8]) -> RedisResult<Value>
+    ensures answers { Answers bytes.now result }
+{
+    match first_value(alloc, bytes) {
+        Ok((value, _)) => Ok(value),
+        Err(Stop::Fault(fault)) => Err(RedisError::Parse(ParsingError::Fault(fault))),
+        Err(Stop::Unfinished) => Err(RedisError::Io(IoKind::UnexpectedEof)),
+        Err(Stop::Memory) => Err(RedisError::OutOfMemory),
+    }
 }

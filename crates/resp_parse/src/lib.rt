@@ -9,6 +9,8 @@ mod shape;
 mod stop;
 mod value_of;
 
+pub use front::parse_redis_value;
+
 ghost use Rattle.std.specs.Prelude.{ℕ, List};
 ghost use Rattle.resp_parse.specs.Laws.{LawOfPrefixes};
 

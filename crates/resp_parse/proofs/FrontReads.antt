@@ -1,0 +1,59 @@
+-- What reading gives is what stands at the front.
+use Rattle.std.proofs.Common.{◌≡◌, ℕ, ◌-◌, ◌≤◌, List, ◌++◌, length, drop, Result, Ok, Err, Some, refl, ap, sym, ◌∙◌, subst, arith}
+use Rattle.std.proofs.lemmas.Grind.{common_steps}
+use Rattle.resp_value.specs.declared.value.Value.{Value}
+use Rattle.resp_value.specs.declared.errors.kinds.FrameFault.{FrameFault}
+use Rattle.resp_parse.specs.declared.stop.Stop.{Stop}
+use Rattle.resp_parse.specs.declared.stop.Stop.TheVariants.{Memory, Unfinished, Fault}
+use Rattle.resp_parse.specs.Reading.{Outcome, got, fault, unfinished, read}
+use Rattle.resp_parse.specs.Fronts.{HasGood, HasFaulty, IsUnfinished}
+use Rattle.resp_parse.specs.Shows.{Stops, fault_of}
+use Rattle.resp_parse.specs.Answers.{Finds}
+use Rattle.resp_parse.proofs.Agreement.{read-good, read-faulty, good-reads, faulty-reads}
+
+pub HasGood-from_read : (d : ℕ) (b rest : List ℕ) (v : Value) → read d b ≡ got v rest → HasGood d b v rest
+unfolding HasGood
+HasGood-from_read d b rest v e = read-good d b rest v e
+
+pub read-from_HasGood : (d : ℕ) (b rest : List ℕ) (v : Value) → HasGood d b v rest → read d b ≡ got v rest
+unfolding HasGood
+read-from_HasGood d b rest v (x, e, g) = ap (read d) e ∙ good-reads d x rest v g
+
+HasFaulty-from_read : (d : ℕ) (b rest : List ℕ) (f : FrameFault) → read d b ≡ fault f rest → HasFaulty d b f
+unfolding HasFaulty
+HasFaulty-from_read d b rest f e = let h = read-faulty d b rest f e in (h.0, rest, h.1, h.2)
+
+pub HasFaulty-from_fault_of : (d : ℕ) (b : List ℕ) (f : FrameFault) (o : Outcome Value) → read d b ≡ o → fault_of o ≡ Some f → HasFaulty d b f
+HasFaulty-from_fault_of d b f (got v r) e k = absurd (cc)
+HasFaulty-from_fault_of d b f (fault g r) e k = let i : g ≡ f = cc in HasFaulty-from_read d b r f (e ∙ ap (λ z. fault z r) i)
+HasFaulty-from_fault_of d b f unfinished e k = absurd (cc)
+
+no_value : (d : ℕ) (b : List ℕ) → read d b ≡ unfinished → (v : Value) (rest : List ℕ) → HasGood d b v rest → ⊥
+no_value d b e v rest h = let k : unfinished ≡ got v rest = sym e ∙ read-from_HasGood d b rest v h in cc
+
+no_fault : (d : ℕ) (b : List ℕ) → read d b ≡ unfinished → (f : FrameFault) → HasFaulty d b f → ⊥
+unfolding HasFaulty
+no_fault d b e f (x, rest, eb, g) = let k : unfinished ≡ fault f rest = sym e ∙ ap (read d) eb ∙ faulty-reads d x rest f g in cc
+
+pub IsUnfinished-from_read : (d : ℕ) (b : List ℕ) → read d b ≡ unfinished → IsUnfinished d b
+IsUnfinished-from_read d b e = record { no_value = no_value d b e; no_fault = no_fault d b e }
+
+pub Finds-from_stops : (b : List ℕ) (e : Stop) → Stops e (read 100 b) → Finds b (Err e)
+Finds-from_stops b Memory h = tt
+Finds-from_stops b Unfinished h = IsUnfinished-from_read 100 b h
+Finds-from_stops b (Fault f) h = HasFaulty-from_fault_of 100 b f (read 100 b) refl h
+
+drop-rest : (b x rest : List ℕ) → b ≡ x ++ rest → drop (length b - length rest) b ≡ rest
+drop-rest b x rest e = rw e (grind (arith, common_steps))
+
+length-rest : (b x rest : List ℕ) → b ≡ x ++ rest → length rest ≤ length b
+length-rest b x rest e = rw e (grind (arith, common_steps))
+
+pub rest-fits : (d : ℕ) (b rest : List ℕ) (v : Value) → read d b ≡ got v rest → length rest ≤ length b
+rest-fits d b rest v e = let h = read-good d b rest v e in length-rest b h.0 rest h.1
+
+pub Finds-from_got : (b rest : List ℕ) (v : Value) → read 100 b ≡ got v rest → Finds b (Ok (v, length b - length rest))
+Finds-from_got b rest v e =
+    let h = read-good 100 b rest v e in
+    let k : drop (length b - length rest) b ≡ rest = drop-rest b h.0 rest h.1 in
+    (omega arith, subst (λ r. HasGood 100 b v r) (sym k) (HasGood-from_read 100 b rest v e))

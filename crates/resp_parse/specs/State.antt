@@ -1,0 +1,27 @@
+-- What a parser holds.
+use Rattle.std.specs.Prelude.{◌≡◌, ℕ, Bool, true, false, List, [], codes}
+use Rattle.resp_value.specs.declared.errors.parsing_error.ParsingError.TheVariants as parsing
+use Rattle.resp_value.specs.declared.errors.redis_error.RedisError.{RedisError}
+use Rattle.resp_value.specs.declared.errors.redis_error.RedisError.TheVariants as form
+
+-- the bytes that are held and not yet looked at, and whether the parser has failed
+pub record State : Type 0 where
+  pub unseen : List ℕ
+  pub failed : Bool
+
+-- the parser works, and b are the bytes since the last value that it handed out
+unfoldable pub StandsAfter : State → List ℕ → Type 0
+StandsAfter s b = (s.failed ≡ false) × (b ≡ s.unseen)
+
+-- the parser has failed, and b are the bytes from the last value that it handed out up to the failure
+unfoldable pub FailedAfter : State → List ℕ → Type 0
+FailedAfter s b = (s.failed ≡ true) × (b ≡ s.unseen)
+
+-- the parser has looked at no byte after the last value: it stands after the bytes that it holds, and after no others
+pub record IsAtRest (s : State) : Type 0 where
+  pub stands : StandsAfter s s.unseen
+  pub only : (b : List ℕ) → StandsAfter s b → b ≡ s.unseen
+
+-- what a parser that has failed answers
+abbrev pub has_failed : RedisError
+has_failed = form.Parse (parsing.Described (codes "parser has failed"))
