@@ -2,11 +2,12 @@
 use Rattle.std.proofs.Common.{◌≡◌, ℕ, ◌+◌, List, [], ◌∷◌, ◌++◌, length, get_or, set, ◌<◌, suc, zero, ap, ◌∙◌, append_assoc, refl, ◌≤◌, arith, Vec, Global, sym, subst, ⊎_elim, ◌⊎◌, inl, inr, append-nil, length-append, Result, Ok, Err}
 use Rattle.std.specs.Result.{IsErr, IsErrAnd}
 use Rattle.std.proofs.lemmas.Bool.{cases_lt}
+use Rattle.std.proofs.lemmas.List.Sorted.{IsPermutation-refl}
 use Rattle.std.proofs.lemmas.List.{flat_map_more, get_or_append_left}
 use Rattle.std.proofs.Math.Seq.{get_or-append_seam}
 use Rattle.std.specs.List.{AllZip, Any}
 use Rattle.resp_value.specs.declared.errors.redis_error.RedisError.{RedisError}
-use Rattle.resp_args.specs.Args.{Args, args_of, extended, Appends, GivesEach, IsFront, IsRefusal, Writes}
+use Rattle.resp_args.specs.Args.{Args, args_of, extended, Appends, GivesEach, IsFront, IsRefusal, Writes, GivesInSomeOrder}
 
 AllZip-append : {A B : Type 0} (R : A → B → Type 0) (xs : List A) (ys : List B) (x : A) (y : B) → AllZip R xs ys → R x y → AllZip R (xs ++ x ∷ []) (ys ++ y ∷ [])
 AllZip-append R [] [] x y h r = (r, tt)
@@ -78,3 +79,9 @@ progress_fails Gives Refuses all x rest old mid new (Err d) e p fails is =
       (p.appended.0 ++ front.0, front.1 ∙ (ap (λ c. c ++ front.0) p.appended.1 ∙ append_assoc old p.appended.0 front.0)),
       subst (IsRefusal (Any Refuses all)) (sym is.1) (⊎_elim (λ memory. inl memory) (λ refused. inr (refused.0, subst (Any Refuses) (sym p.split) (Any-amid Refuses p.done x rest refused.1))) fails.1),
     )
+
+-- the order in which the items stand is one of them
+pub in_some_order : {X : Type 0} (Gives : X → Args → Type 0) (items : List X) (Refused : Type 0) (old new : Args) (r : Result (Unit {0}) RedisError) → Writes (GivesEach Gives items) Refused old new r → Writes (GivesInSomeOrder Gives items) Refused old new r
+in_some_order Gives items Refused old new (Ok x) written =
+    ((written.0.0, written.0.1, (items, IsPermutation-refl items, written.0.2)), written.1)
+in_some_order Gives items Refused old new (Err e) written = written

@@ -3,6 +3,7 @@
 use Rattle.std.specs.Prelude.{refl, ◌<◌, ◌≡◌, ℕ, Bool, true, false, List, [], ◌∷◌, ◌++◌, map, Result, Ok, Err, Vec, nat_le, ◌⊎◌, Option, None, Some, ◌+◌, if◌then◌else◌, codes, length}
 use Rattle.std.specs.Global.{Global}
 use Rattle.std.specs.List.{Any, AllZip, flat_map}
+use Rattle.std.specs.List.Sorted.{IsPermutation}
 use Rattle.resp_value.specs.declared.errors.redis_error.RedisError.{RedisError}
 use Rattle.resp_value.specs.declared.errors.redis_error.RedisError.TheVariants.{OutOfMemory}
 use Rattle.resp_value.specs.declared.errors.kinds.ErrorKind.TheVariants.{Client}
@@ -144,3 +145,7 @@ GivesPair GivesKey GivesValue pair = GivesBoth (GivesKey pair.0) (GivesValue pai
 abbrev pub RefusesPair : {K V : Type 0} → (K → ℕ) → (V → ℕ) → (K → Type 0) → (V → Type 0) → K × V → Type 0
 RefusesPair count_key count_value RefusesKey RefusesValue pair =
     (1 < count_key pair.0) ⊎ ((1 < count_value pair.1) ⊎ (RefusesKey pair.0 ⊎ RefusesValue pair.1))
+
+-- what the items give, in some order
+abbrev pub GivesInSomeOrder : {X : Type 0} → (X → Args → Type 0) → List X → Args → Type 0
+GivesInSomeOrder {X = X} Gives items args = (order : List X) × IsPermutation items order × GivesEach Gives order args

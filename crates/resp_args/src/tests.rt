@@ -2,6 +2,11 @@
 //! gives for the same values.
 
 use crate::*;
+use resp_value::ErrorKind;
+use std::borrow::{CowSlice, CowStr};
+use std::boxed::BoxedSlice;
+use std::collections::{BTreeMap, BTreeSet, HashMap, HashSet};
+use std::rc::{Rc, RcSlice};
 use std::test::Fail;
 
 /// The arguments of a value as one text, each with its length before it.
@@ -121,5 +126,95 @@ fn an_argument_list_grows_and_shrinks(rt: HostRuntime) -> Result<(), Fail> {
     assert_eq!(rt; list.len(), 3);
     list.clear();
     assert!(rt; list.is_empty());
+    Ok(())
+}
+
+#[test]
+fn owners_and_arrays_are_what_they_hold(rt: HostRuntime) -> Result<(), Fail> {
+    let alloc = rt.alloc();
+    assert_eq!(rt; shown(&rt, &Box::new(alloc, 5i64)?)?.as_str(), "1:5 ");
+    assert_eq!(rt; shown(&rt, &Rc::new(alloc, "a")?)?.as_str(), "1:a ");
+    assert_eq!(rt; shown(&rt, &&7u8)?.as_str(), "1:7 ");
+    assert_eq!(rt; shown(&rt, &CowStr::from("ab"))?.as_str(), "2:ab ");
+    assert_eq!(rt;
+        shown(&rt, &CowSlice::from(b"ab".as_slice()))?.as_str(),
+        "2:ab "
+    );
+    assert_eq!(rt; shown(&rt, &&[1i64, 2])?.as_str(), "1:1 1:2 ");
+    assert_eq!(rt; shown(&rt, &b"ab")?.as_str(), "2:ab ");
+    assert_eq!(rt;
+        shown(&rt, &BoxedSlice::from_slice(alloc, b"ab")?)?.as_str(),
+        "2:ab "
+    );
+    assert_eq!(rt;
+        shown(&rt, &RcSlice::from_slice(alloc, b"ab")?)?.as_str(),
+        "2:ab "
+    );
+    let mut number = 3u16;
+    assert_eq!(rt; shown(&rt, &&mut number)?.as_str(), "1:3 ");
+    Ok(())
+}
+
+#[test]
+fn tuples_are_their_parts(rt: HostRuntime) -> Result<(), Fail> {
+    assert_eq!(rt; shown(&rt, &("a",))?.as_str(), "1:a ");
+    assert_eq!(rt; ("a",).num_of_args(), 1);
+    assert_eq!(rt; shown(&rt, &("a", Some(2i64)))?.as_str(), "1:a 1:2 ");
+    assert_eq!(rt; shown(&rt, &("a", None::<i64>))?.as_str(), "1:a ");
+    assert_eq!(rt; ("a", None::<i64>).num_of_args(), 2);
+    let twelve = (
+        1u8,
+        2u8,
+        3u8,
+        4u8,
+        5u8,
+        6u8,
+        7u8,
+        8u8,
+        9u8,
+        "x",
+        true,
+        b"yz".as_slice(),
+    );
+    assert_eq!(rt;
+        shown(&rt, &twelve)?.as_str(),
+        "1:1 1:2 1:3 1:4 1:5 1:6 1:7 1:8 1:9 1:x 1:1 2:yz "
+    );
+    assert_eq!(rt; twelve.num_of_args(), 12);
+    Ok(())
+}
+
+#[test]
+fn sets_and_maps_are_their_members(rt: HostRuntime) -> Result<(), Fail> {
+    let alloc = rt.alloc();
+    let mut members = BTreeSet::new(alloc);
+    members.insert(2u32)?;
+    members.insert(1)?;
+    assert_eq!(rt; shown(&rt, &members)?.as_str(), "1:1 1:2 ");
+    assert_eq!(rt; members.num_of_args(), 2);
+    let mut pairs = BTreeMap::new(alloc);
+    pairs.insert("a", 1u32)?;
+    pairs.insert("b", 2)?;
+    assert_eq!(rt; shown(&rt, &pairs)?.as_str(), "1:a 1:1 1:b 1:2 ");
+    assert_eq!(rt; pairs.num_of_args(), 2);
+    let mut hashed_members = HashSet::new(alloc);
+    hashed_members.insert("a")?;
+    assert_eq!(rt; shown(&rt, &hashed_members)?.as_str(), "1:a ");
+    let mut hashed_pairs = HashMap::new(alloc);
+    hashed_pairs.insert("a", "b")?;
+    assert_eq!(rt; shown(&rt, &hashed_pairs)?.as_str(), "1:a 1:b ");
+    Ok(())
+}
+
+#[test]
+fn a_map_refuses_keys_of_two_arguments(rt: HostRuntime) -> Result<(), Fail> {
+    let mut pairs = BTreeMap::new(rt.alloc());
+    pairs.insert((1i64, 2i64), 3i64)?;
+    let error = pairs.to_redis_args(rt.alloc()).err().ok_or("taken")?;
+    assert_eq!(rt; error.kind(), ErrorKind::Client);
+    let mut list = ArgList::new(rt.alloc());
+    list.write_arg(b"x")?;
+    assert!(rt; pairs.write_redis_args(&mut list).is_err());
+    assert_eq!(rt; list.len(), 1);
     Ok(())
 }

@@ -2,12 +2,13 @@
 
 ghost use Rattle.std.specs.Prelude.{length};
 ghost use Rattle.std.specs.List.{Any};
-ghost use Rattle.resp_args.specs.Args.{Writes, GivesEach, GivesPair, RefusesPair, item_by_item};
+ghost use Rattle.resp_args.specs.Args.{Writes, GivesEach, GivesInSomeOrder, GivesPair, RefusesPair, item_by_item};
 
 use crate::args::{NumericBehavior, ToRedisArgs};
 use crate::write::RedisWrite;
 use resp_value::{ErrorKind, RedisError, RedisResult};
-use std::collections::{BTreeMap, BTreeSet};
+use std::collections::{BTreeMap, BTreeSet, HashMap, HashSet};
+use std::hash::Hash;
 
 /// Appends a pair's arguments. Fails with kind `Client` where the key or the value counts for more
 /// than one argument, and then appends nothing.
@@ -42,6 +43,30 @@ fn write_sorted_members<T: ToRedisArgs + Ord, W: RedisWrite>(
 
 fn write_sorted_pairs<K: ToRedisArgs + Ord, V: ToRedisArgs, W: RedisWrite>(
     pairs: &BTreeMap<K, V>,
+    out: &mut W,
+) -> RedisResult<()>
+    ensures written { Writes (GivesEach (GivesPair K.gives V.gives) pairs.now.entries) (Any (RefusesPair K.count V.count K.refuses V.refuses) pairs.now.entries) (W.args out.old) (W.args out.new) result }
+{
+    for (key, value) in pairs {
+        write_pair(key, value, out)?;
+    }
+    Ok(())
+}
+
+fn write_hashed_members<T: ToRedisArgs + Eq + Hash, W: RedisWrite>(
+    members: &HashSet<T>,
+    out: &mut W,
+) -> RedisResult<()>
+    ensures written { Writes (GivesEach T.gives members.now.keys) (Any T.refuses members.now.keys) (W.args out.old) (W.args out.new) result }
+{
+    for member in members {
+        member.write_redis_args(out)?;
+    }
+    Ok(())
+}
+
+fn write_hashed_pairs<K: ToRedisArgs + Eq + Hash, V: ToRedisArgs, W: RedisWrite>(
+    pairs: &HashMap<K, V>,
     out: &mut W,
 ) -> RedisResult<()>
     ensures written { Writes (GivesEach (GivesPair K.gives V.gives) pairs.now.entries) (Any (RefusesPair K.count V.count K.refuses V.refuses) pairs.now.entries) (W.args out.old) (W.args out.new) result }
@@ -96,6 +121,72 @@ impl<K: ToRedisArgs + Ord, V: ToRedisArgs> ToRedisArgs for BTreeMap<K, V> {
 
     fn write_redis_args<W: RedisWrite>(&self, out: &mut W) -> RedisResult<()> {
         write_sorted_pairs(self, out)
+    }
+
+    fn write_args_from_slice<W: RedisWrite>(items: &[Self], out: &mut W) -> RedisResult<()> {
+        Self::write_each_arg(items, out)
+    }
+
+    fn num_of_args(&self) -> usize {
+        self.len()
+    }
+
+    fn describe_numeric_behavior(&self) -> NumericBehavior {
+        NumericBehavior::NonNumeric
+    }
+
+    fn is_single_vec_arg(items: &[Self]) -> bool {
+        match items {
+            [item] => item.num_of_args() <= 1,
+            _ => false,
+        }
+    }
+}
+
+impl<T: ToRedisArgs + Eq + Hash> ToRedisArgs for HashSet<T> {
+    ghost gives = { λ s. GivesInSomeOrder T.gives s.keys };
+
+    ghost refuses = { λ s. Any T.refuses s.keys };
+
+    ghost count = { λ s. length s.keys };
+
+    ghost slices = { item_by_item (λ s. GivesInSomeOrder T.gives s.keys) (λ s. Any T.refuses s.keys) (λ s. length s.keys) };
+
+    fn write_redis_args<W: RedisWrite>(&self, out: &mut W) -> RedisResult<()> {
+        write_hashed_members(self, out)
+    }
+
+    fn write_args_from_slice<W: RedisWrite>(items: &[Self], out: &mut W) -> RedisResult<()> {
+        Self::write_each_arg(items, out)
+    }
+
+    fn num_of_args(&self) -> usize {
+        self.len()
+    }
+
+    fn describe_numeric_behavior(&self) -> NumericBehavior {
+        NumericBehavior::NonNumeric
+    }
+
+    fn is_single_vec_arg(items: &[Self]) -> bool {
+        match items {
+            [item] => item.num_of_args() <= 1,
+            _ => false,
+        }
+    }
+}
+
+impl<K: ToRedisArgs + Eq + Hash, V: ToRedisArgs> ToRedisArgs for HashMap<K, V> {
+    ghost gives = { λ m. GivesInSomeOrder (GivesPair K.gives V.gives) m.entries };
+
+    ghost refuses = { λ m. Any (RefusesPair K.count V.count K.refuses V.refuses) m.entries };
+
+    ghost count = { λ m. length m.entries };
+
+    ghost slices = { item_by_item (λ m. GivesInSomeOrder (GivesPair K.gives V.gives) m.entries) (λ m. Any (RefusesPair K.count V.count K.refuses V.refuses) m.entries) (λ m. length m.entries) };
+
+    fn write_redis_args<W: RedisWrite>(&self, out: &mut W) -> RedisResult<()> {
+        write_hashed_pairs(self, out)
     }
 
     fn write_args_from_slice<W: RedisWrite>(items: &[Self], out: &mut W) -> RedisResult<()> {

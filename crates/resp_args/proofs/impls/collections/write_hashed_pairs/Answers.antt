@@ -1,0 +1,18 @@
+use Rattle.std.proofs.Common.{List, sym, subst}
+use Rattle.resp_args.proofs.Lists.{Progress, progress_start, progress_step, progress_end, progress_fails}
+use Rattle.resp_args.proofs.impls.collections.write_hashed_pairs.Goals as goal
+
+pub loop-key-init : goal.loop-key-init
+loop-key-init g c = rw c.into_iter-key-iterator.ensures.into_iter_gives.0 (progress_start _ _ _ _)
+
+pub loop-key-preserved : goal.loop-key-preserved
+loop-key-preserved g c =
+    let written = c.in_ok-write_pair.ensures.written in
+    progress_step _ _ _ (c.in-Some.key.now, c.in-Some.value.now) _ _ _ _ (rw c.in-Some.ensures.steps at c.loop-key.invariant) written.0 written.1
+
+pub returns-in_err-write_pair : goal.returns-in_err-write_pair
+returns-in_err-write_pair g c =
+    record { written = progress_fails _ _ _ (c.in-Some.key.now, c.in-Some.value.now) c.next.new.self _ _ _ _ _ (rw c.in-Some.ensures.steps at c.loop-key.invariant) c.in_err-write_pair.ensures.written c.from_residual.ensures }
+
+pub returns : goal.returns
+returns g c = record { written = progress_end _ _ _ _ _ (rw c.in-None.ensures.steps.0 at c.loop-key.invariant) }
