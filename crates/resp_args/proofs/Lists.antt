@@ -1,5 +1,5 @@
 -- Lists of arguments that grow at their end.
-use Rattle.std.proofs.Common.{◌≡◌, ℕ, ◌+◌, List, [], ◌∷◌, ◌++◌, length, get_or, set, ◌<◌, suc, zero, ap, ◌∙◌, append_assoc, refl, ◌≤◌, arith, Vec, Global, sym, subst, ⊎_elim, ◌⊎◌, inl, inr, append-nil, length-append, Result, Ok, Err}
+use Rattle.std.proofs.Common.{◌≡◌, ℕ, ◌+◌, List, [], ◌∷◌, ◌++◌, length, get_or, set, ◌<◌, suc, zero, ap, ◌∙◌, append_assoc, refl, arith, Vec, Global, sym, subst, ⊎_elim, ◌⊎◌, inl, inr, append-nil, length-append, Result, Ok, Err}
 use Rattle.std.specs.Result.{IsErr, IsErrAnd}
 use Rattle.std.proofs.lemmas.Bool.{cases_lt}
 use Rattle.std.proofs.lemmas.List.Sorted.{IsPermutation-refl}

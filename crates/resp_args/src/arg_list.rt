@@ -1,9 +1,9 @@
-ghost use Rattle.std.specs.Prelude.{◌≡◌, ◌<◌, ◌↔◌, [], length, take, IsTrue, Some, slice_get};
+ghost use Rattle.std.specs.Prelude.{◌≡◌, ◌<◌, ◌↔◌, [], length, take, IsTrue, IfOk, slice_get};
 ghost use Rattle.std.specs.Option.{option_copied};
 
 use crate::write::RedisWrite;
 use resp_value::RedisResult;
-use std::alloc::Global;
+use std::alloc::{AllocError, Global};
 use std::marker::Model;
 
 /// The arguments of a command, in order. Contracts see a list of byte lists.
@@ -52,6 +52,17 @@ impl ArgList {
             Some(arg) => Some(arg.as_slice()),
             None => None,
         }
+    }
+
+    /// An equal list.
+    pub fn try_clone(&self, alloc: Global) -> Result<ArgList, AllocError>
+        ensures { IfOk result (λ list. list ≡ self.now) }
+    {
+        let mut args = Vec::new(alloc);
+        for arg in &self.args {
+            args.push(Vec::from_slice(alloc, arg)?)?;
+        }
+        Ok(ArgList { args })
     }
 
     /// Keeps the first arguments, as many as this; does nothing where there are no more.

@@ -122,6 +122,8 @@ fn an_argument_list_grows_and_shrinks(rt: HostRuntime) -> Result<(), Fail> {
     assert_eq!(rt; list.get(1).ok_or("none")?, b"keys".as_slice());
     assert_eq!(rt; list.get(3).ok_or("none")?, b"2".as_slice());
     assert!(rt; list.get(4).is_none());
+    let copy = list.try_clone(rt.alloc())?;
+    assert_eq!(rt; copy.get(1).ok_or("none")?, b"keys".as_slice());
     list.truncate(3);
     assert_eq!(rt; list.len(), 3);
     list.clear();

@@ -1,5 +1,4 @@
-use Rattle.std.proofs.Common.{List, sym, subst}
-use Rattle.resp_args.proofs.Lists.{Progress, progress_start, progress_step, progress_end, progress_fails}
+use Rattle.resp_args.proofs.Lists.{progress_start, progress_step, progress_end, progress_fails}
 use Rattle.resp_args.proofs.impls.collections.write_hashed_pairs.Goals as goal
 
 pub loop-key-init : goal.loop-key-init
