@@ -1,16 +1,21 @@
 -- The layer at the top of a reply.
-use Rattle.std.proofs.Common.{◌≡◌, ℤ, ℕ, List, rules, sym, ap, ◌∙◌, subst, Result}
-use Rattle.resp_value.specs.declared.value.Value.{Value, Int, BulkString, SimpleString, out-Value, the_lemmas}
+use Rattle.std.proofs.Common.{◌≡◌, ℕ, Bool, List, Vec, Global, rules, sym, subst, Result}
+use Rattle.resp_value.specs.declared.value.Value.{Value, Array, BulkString, Set, out-Value, the_lemmas}
 use Rattle.resp_value.specs.declared.value.Value.TheOpen.{Value-F}
 use Rattle.resp_value.specs.declared.errors.parsing_error.ParsingError.{ParsingError}
-use Rattle.resp_from.specs.Conversion.{Converts}
+use Rattle.resp_from.specs.Conversion.{Converts, ConvertsList}
+use Rattle.resp_from.specs.Items.{IsItems, OfItems}
+use Rattle.resp_from.proofs.Conversions.{Converts-list}
 
-pub out-Int : (n : ℤ) → out-Value (Int n) ≡ Value-F.Int n
-out-Int n = search (rules, the_lemmas)
+pub out-Array : (items : List Value) → out-Value (Array items) ≡ Value-F.Array items
+out-Array items = search (rules, the_lemmas)
+
+pub out-Set : (items : List Value) → out-Value (Set items) ≡ Value-F.Set items
+out-Set items = search (rules, the_lemmas)
 
 pub out-BulkString : (bytes : List ℕ) → out-Value (BulkString bytes) ≡ Value-F.BulkString bytes
 out-BulkString bytes = search (rules, the_lemmas)
 
--- a conversion of what a reply's top shows is one of the reply
-pub Converts-layer : {X : Type 0} (Fits : Value-F Value → X → Type 0) (v : Value) (layer : Value-F Value) (r : Result X ParsingError) → out-Value v ≡ layer → Converts (Fits layer) r → Converts (Fits (out-Value v)) r
-Converts-layer Fits v layer r e h = subst (λ w. Converts (Fits w) r) (sym e) h
+-- a conversion to a list of what a reply's top shows is one of the reply
+pub OfItems-layer : {X : Type 0} (n : ℕ) (each : Bool) (Of : Value → X → Type 0) (reply : Value) (layer : Value-F Value) (r : Result (Vec X Global) ParsingError) → out-Value reply ≡ layer → ConvertsList (IsItems n each Of layer) r → Converts (λ v. OfItems n each Of reply v.items) r
+OfItems-layer n each Of reply layer r e h = Converts-list (OfItems n each Of reply) r (subst (λ w. ConvertsList (IsItems n each Of w) r) (sym e) h)

@@ -1,1 +1,3 @@
+pub mod Conversions
+pub mod Cuts
 pub mod Layers

@@ -1,5 +1,7 @@
 -- What a conversion of a reply answers.
-use Rattle.std.specs.Prelude.{Result, Ok, Err}
+use Rattle.std.specs.Prelude.{◌≡◌, ◌≢◌, List, Result, Ok, Err, IfErr, Option, None, Some}
+use Rattle.std.specs.declared.alloc.Global.{Global}
+use Rattle.std.specs.declared.vec.Vec.{Vec}
 use Rattle.resp_value.specs.declared.errors.parsing_error.ParsingError.{ParsingError}
 use Rattle.resp_value.specs.declared.errors.parsing_error.ParsingError.TheVariants as parsing
 use Rattle.resp_value.specs.declared.errors.redis_error.RedisError.{RedisError}
@@ -17,13 +19,39 @@ abbrev pub Converts : {X : Type 0} → (X → Type 0) → Result X ParsingError 
 Converts Fits (Ok x) = Fits x
 Converts {X} Fits (Err e) = RefusesIf e ((x : X) → Fits x → ⊥)
 
--- the same of the error of a whole call
+-- the same of a list
+abbrev pub ConvertsList : {X : Type 0} → (List X → Type 0) → Result (Vec X Global) ParsingError → Type 0
+ConvertsList Fits (Ok v) = Fits v.items
+ConvertsList {X} Fits (Err e) = RefusesIf e ((xs : List X) → Fits xs → ⊥)
+
+-- the same, where a refusal is no error of the call
+abbrev pub ConvertsMaybe : {X : Type 0} → (List X → Type 0) → Result (Option (Vec X Global)) ParsingError → Type 0
+ConvertsMaybe Fits (Ok (Some v)) = Fits v.items
+ConvertsMaybe {X} Fits (Ok None) = (xs : List X) → Fits xs → ⊥
+ConvertsMaybe Fits (Err e) = e ≡ parsing.OutOfMemory
+
+-- the answer of a conversion that wants no memory
+abbrev pub NeedsNoMemory : {X : Type 0} → Result X ParsingError → Type 0
+NeedsNoMemory r = IfErr r (λ e. e ≢ parsing.OutOfMemory)
+
+-- the error is a refusal: neither want of memory nor a fault of framing
+abbrev pub IsRefusal : ParsingError → Type 0
+IsRefusal (parsing.Described text) = Unit {0}
+IsRefusal (parsing.Fault fault) = ⊥
+IsRefusal parsing.OutOfMemory = ⊥
+
+-- the value fits, or it is a refusal and none fits
+abbrev pub Decides : {X : Type 0} → (X → Type 0) → Result X ParsingError → Type 0
+Decides Fits (Ok x) = Fits x
+Decides {X} Fits (Err e) = IsRefusal e × ((x : X) → Fits x → ⊥)
+
+-- the error of a whole call may be answered where the fact holds
 abbrev pub CallRefusesIf : RedisError → Type 0 → Type 0
 CallRefusesIf (form.Parse e) P = RefusesIf e P
 CallRefusesIf form.OutOfMemory P = Unit {0}
 CallRefusesIf _ P = ⊥
 
--- the same of the answer of a whole call
+-- what a whole call answers that ends in a conversion
 abbrev pub ConvertsCall : {X : Type 0} → (X → Type 0) → Result X RedisError → Type 0
 ConvertsCall Fits (Ok x) = Fits x
 ConvertsCall {X} Fits (Err e) = CallRefusesIf e ((x : X) → Fits x → ⊥)

@@ -1,7 +1,6 @@
 -- Integers of replies: a number, or a text that writes one (RESP, "Integers").
 use Rattle.std.specs.Prelude.{◌≡◌, ℕ, ◌<◌, ◌^◌, ℤ, pos, List, FitsSigned}
-use Rattle.std.specs.Int.{w64}
-use mir.Syntax.{Width}
+use Rattle.std.specs.Int.{Width}
 use Rattle.std.specs.Str.{IsUtf8}
 use Rattle.std.specs.Str.Parse.{IsNumeral, digits_value, signed_digits_value, without_leading_plus, without_leading_sign}
 use Rattle.resp_value.specs.declared.value.Value.{Value, out-Value}

@@ -1,4 +1,8 @@
 pub mod Conversion
 pub mod Integers
+pub mod Items
+pub mod Lists
 pub mod Replies
+pub mod Single
 pub mod Texts
+pub mod Tuples

@@ -1,7 +1,7 @@
 //! Integers of replies.
 
-ghost use Rattle.std.specs.Prelude.{ℤ, ℕ, List, Bool, false};
-ghost use Rattle.resp_from.specs.Conversion.{Converts};
+ghost use Rattle.std.specs.Prelude.{ℤ, ℕ, List, Bool};
+ghost use Rattle.resp_from.specs.Conversion.{Converts, Decides, NeedsNoMemory};
 ghost use Rattle.resp_from.specs.Integers.{OfInteger};
 
 use crate::bare::beneath_attribute;
@@ -9,7 +9,7 @@ use crate::convert::FromRedisValue;
 use resp_value::{ParsingError, Value};
 use std::alloc::Global;
 
-/// An integer type: how it reads numbers and texts.
+/// An integer type: which numbers and which texts are its values.
 pub trait Integer: Sized + Drop {
     /// Whether the type is that of bytes.
     const IS_BYTE: bool;
@@ -22,17 +22,17 @@ pub trait Integer: Sized + Drop {
     // Holds of a text and the integer of the type that it writes.
     ghost of_text: { List ℕ → Self → Type 0 };
 
-    /// The integer that a number is, where it lies in the type's range.
+    /// The integer that a number is; refused where it lies outside the type's range.
     fn from_number(number: i64) -> Result<Self, ParsingError>
-        ensures { Converts (of_number number) result };
+        ensures decides { Decides (of_number number) result };
 
-    /// The integer that a text writes in decimal: a sign, or none, and digits, in range.
+    /// The integer that a text writes in decimal; refused where it writes none of the type.
     fn from_text(text: &str) -> Result<Self, ParsingError>
-        ensures { Converts (of_text text.now) result };
+        ensures decides { Decides (of_text text.now) result };
 }
 
 fn read_integer<T: Integer>(value: &Value) -> Result<T, ParsingError>
-    ensures converts { Converts (OfInteger T.of_number T.of_text value.now) result }
+    ensures decides { Decides (OfInteger T.of_number T.of_text value.now) result }
 {
     match beneath_attribute(value) {
         Value::Int(number) => T::from_number(i64::from(*number)),
@@ -45,6 +45,9 @@ fn read_integer<T: Integer>(value: &Value) -> Result<T, ParsingError>
     }
 }
 
+/// An integer is the reply's number, or the number that its text writes in decimal: `+`, or for
+/// signed types `-`, or no sign, and digits, without white space. At most one attribute is removed.
+/// Takes no memory.
 impl<T: Integer> FromRedisValue for T {
     const WIDTH: usize = 0;
 
@@ -56,16 +59,94 @@ impl<T: Integer> FromRedisValue for T {
 
     ghost of_value = { OfInteger T.of_number T.of_text };
 
-    fn from_redis_value(_alloc: Global, value: Value) -> Result<T, ParsingError> {
+    #[tactic(auto, using(crate::proofs::Conversions::Converts_decided, crate::proofs::Conversions::no_memory_decided))]
+    fn from_redis_value(_alloc: Global, value: Value) -> Result<T, ParsingError>
+        ensures converts { Converts (OfInteger T.of_number T.of_text value) result }
+        ensures no_memory { NeedsNoMemory result }
+    {
         read_integer(&value)
     }
 
-    fn from_redis_value_ref(_alloc: Global, value: &Value) -> Result<T, ParsingError> {
+    #[tactic(auto, using(crate::proofs::Conversions::Converts_decided, crate::proofs::Conversions::no_memory_decided))]
+    fn from_redis_value_ref(_alloc: Global, value: &Value) -> Result<T, ParsingError>
+        ensures converts { Converts (OfInteger T.of_number T.of_text value.now) result }
+        ensures no_memory { NeedsNoMemory result }
+    {
         read_integer(value)
     }
 }
 
+impl Integer for i8 {
+    ghost use Rattle.std.specs.Prelude.{false};
+    ghost use Rattle.std.specs.Int.{w8};
+    ghost use Rattle.resp_from.specs.Integers.{SignedNumber, SignedText};
+
+    const IS_BYTE: bool = false;
+
+    ghost IS_BYTE = { false };
+
+    ghost of_number = { SignedNumber w8 };
+
+    ghost of_text = { SignedText w8 };
+
+    fn from_number(number: i64) -> Result<i8, ParsingError> {
+        i8::try_from(number).map_err(|_| ParsingError::from("Number out of range"))
+    }
+
+    fn from_text(text: &str) -> Result<i8, ParsingError> {
+        text.parse::<i8>()
+            .map_err(|_| ParsingError::from("Could not convert from string."))
+    }
+}
+
+impl Integer for i16 {
+    ghost use Rattle.std.specs.Prelude.{false};
+    ghost use Rattle.std.specs.Int.{w16};
+    ghost use Rattle.resp_from.specs.Integers.{SignedNumber, SignedText};
+
+    const IS_BYTE: bool = false;
+
+    ghost IS_BYTE = { false };
+
+    ghost of_number = { SignedNumber w16 };
+
+    ghost of_text = { SignedText w16 };
+
+    fn from_number(number: i64) -> Result<i16, ParsingError> {
+        i16::try_from(number).map_err(|_| ParsingError::from("Number out of range"))
+    }
+
+    fn from_text(text: &str) -> Result<i16, ParsingError> {
+        text.parse::<i16>()
+            .map_err(|_| ParsingError::from("Could not convert from string."))
+    }
+}
+
+impl Integer for i32 {
+    ghost use Rattle.std.specs.Prelude.{false};
+    ghost use Rattle.std.specs.Int.{w32};
+    ghost use Rattle.resp_from.specs.Integers.{SignedNumber, SignedText};
+
+    const IS_BYTE: bool = false;
+
+    ghost IS_BYTE = { false };
+
+    ghost of_number = { SignedNumber w32 };
+
+    ghost of_text = { SignedText w32 };
+
+    fn from_number(number: i64) -> Result<i32, ParsingError> {
+        i32::try_from(number).map_err(|_| ParsingError::from("Number out of range"))
+    }
+
+    fn from_text(text: &str) -> Result<i32, ParsingError> {
+        text.parse::<i32>()
+            .map_err(|_| ParsingError::from("Could not convert from string."))
+    }
+}
+
 impl Integer for i64 {
+    ghost use Rattle.std.specs.Prelude.{false};
     ghost use Rattle.std.specs.Int.{w64};
     ghost use Rattle.resp_from.specs.Integers.{SignedNumber, SignedText};
 
@@ -83,6 +164,184 @@ impl Integer for i64 {
 
     fn from_text(text: &str) -> Result<i64, ParsingError> {
         text.parse::<i64>()
+            .map_err(|_| ParsingError::from("Could not convert from string."))
+    }
+}
+
+impl Integer for i128 {
+    ghost use Rattle.std.specs.Prelude.{false};
+    ghost use Rattle.std.specs.Int.{w128};
+    ghost use Rattle.resp_from.specs.Integers.{SignedNumber, SignedText};
+
+    const IS_BYTE: bool = false;
+
+    ghost IS_BYTE = { false };
+
+    ghost of_number = { SignedNumber w128 };
+
+    ghost of_text = { SignedText w128 };
+
+    fn from_number(number: i64) -> Result<i128, ParsingError> {
+        i128::try_from(number).map_err(|_| ParsingError::from("Number out of range"))
+    }
+
+    fn from_text(text: &str) -> Result<i128, ParsingError> {
+        text.parse::<i128>()
+            .map_err(|_| ParsingError::from("Could not convert from string."))
+    }
+}
+
+impl Integer for isize {
+    ghost use Rattle.std.specs.Prelude.{false};
+    ghost use Rattle.std.specs.Int.{w64};
+    ghost use Rattle.resp_from.specs.Integers.{SignedNumber, SignedText};
+
+    const IS_BYTE: bool = false;
+
+    ghost IS_BYTE = { false };
+
+    ghost of_number = { SignedNumber w64 };
+
+    ghost of_text = { SignedText w64 };
+
+    fn from_number(number: i64) -> Result<isize, ParsingError> {
+        isize::try_from(number).map_err(|_| ParsingError::from("Number out of range"))
+    }
+
+    fn from_text(text: &str) -> Result<isize, ParsingError> {
+        text.parse::<isize>()
+            .map_err(|_| ParsingError::from("Could not convert from string."))
+    }
+}
+
+impl Integer for u8 {
+    ghost use Rattle.std.specs.Prelude.{true};
+    ghost use Rattle.resp_from.specs.Integers.{UnsignedNumber, UnsignedText};
+
+    const IS_BYTE: bool = true;
+
+    ghost IS_BYTE = { true };
+
+    ghost of_number = { UnsignedNumber 8 };
+
+    ghost of_text = { UnsignedText 8 };
+
+    fn from_number(number: i64) -> Result<u8, ParsingError> {
+        u8::try_from(number).map_err(|_| ParsingError::from("Number out of range"))
+    }
+
+    fn from_text(text: &str) -> Result<u8, ParsingError> {
+        text.parse::<u8>()
+            .map_err(|_| ParsingError::from("Could not convert from string."))
+    }
+}
+
+impl Integer for u16 {
+    ghost use Rattle.std.specs.Prelude.{false};
+    ghost use Rattle.resp_from.specs.Integers.{UnsignedNumber, UnsignedText};
+
+    const IS_BYTE: bool = false;
+
+    ghost IS_BYTE = { false };
+
+    ghost of_number = { UnsignedNumber 16 };
+
+    ghost of_text = { UnsignedText 16 };
+
+    fn from_number(number: i64) -> Result<u16, ParsingError> {
+        u16::try_from(number).map_err(|_| ParsingError::from("Number out of range"))
+    }
+
+    fn from_text(text: &str) -> Result<u16, ParsingError> {
+        text.parse::<u16>()
+            .map_err(|_| ParsingError::from("Could not convert from string."))
+    }
+}
+
+impl Integer for u32 {
+    ghost use Rattle.std.specs.Prelude.{false};
+    ghost use Rattle.resp_from.specs.Integers.{UnsignedNumber, UnsignedText};
+
+    const IS_BYTE: bool = false;
+
+    ghost IS_BYTE = { false };
+
+    ghost of_number = { UnsignedNumber 32 };
+
+    ghost of_text = { UnsignedText 32 };
+
+    fn from_number(number: i64) -> Result<u32, ParsingError> {
+        u32::try_from(number).map_err(|_| ParsingError::from("Number out of range"))
+    }
+
+    fn from_text(text: &str) -> Result<u32, ParsingError> {
+        text.parse::<u32>()
+            .map_err(|_| ParsingError::from("Could not convert from string."))
+    }
+}
+
+impl Integer for u64 {
+    ghost use Rattle.std.specs.Prelude.{false};
+    ghost use Rattle.resp_from.specs.Integers.{UnsignedNumber, UnsignedText};
+
+    const IS_BYTE: bool = false;
+
+    ghost IS_BYTE = { false };
+
+    ghost of_number = { UnsignedNumber 64 };
+
+    ghost of_text = { UnsignedText 64 };
+
+    fn from_number(number: i64) -> Result<u64, ParsingError> {
+        u64::try_from(number).map_err(|_| ParsingError::from("Number out of range"))
+    }
+
+    fn from_text(text: &str) -> Result<u64, ParsingError> {
+        text.parse::<u64>()
+            .map_err(|_| ParsingError::from("Could not convert from string."))
+    }
+}
+
+impl Integer for u128 {
+    ghost use Rattle.std.specs.Prelude.{false};
+    ghost use Rattle.resp_from.specs.Integers.{UnsignedNumber, UnsignedText};
+
+    const IS_BYTE: bool = false;
+
+    ghost IS_BYTE = { false };
+
+    ghost of_number = { UnsignedNumber 128 };
+
+    ghost of_text = { UnsignedText 128 };
+
+    fn from_number(number: i64) -> Result<u128, ParsingError> {
+        u128::try_from(number).map_err(|_| ParsingError::from("Number out of range"))
+    }
+
+    fn from_text(text: &str) -> Result<u128, ParsingError> {
+        text.parse::<u128>()
+            .map_err(|_| ParsingError::from("Could not convert from string."))
+    }
+}
+
+impl Integer for usize {
+    ghost use Rattle.std.specs.Prelude.{false};
+    ghost use Rattle.resp_from.specs.Integers.{UnsignedNumber, UnsignedText};
+
+    const IS_BYTE: bool = false;
+
+    ghost IS_BYTE = { false };
+
+    ghost of_number = { UnsignedNumber 64 };
+
+    ghost of_text = { UnsignedText 64 };
+
+    fn from_number(number: i64) -> Result<usize, ParsingError> {
+        usize::try_from(number).map_err(|_| ParsingError::from("Number out of range"))
+    }
+
+    fn from_text(text: &str) -> Result<usize, ParsingError> {
+        text.parse::<usize>()
             .map_err(|_| ParsingError::from("Could not convert from string."))
     }
 }

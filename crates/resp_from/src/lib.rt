@@ -4,6 +4,9 @@
 mod bare;
 mod convert;
 mod integers;
+mod lists;
+mod rules;
+mod single;
 mod texts;
 mod values;
 

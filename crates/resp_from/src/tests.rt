@@ -1,8 +1,9 @@
 //! Conversions of single replies.
 
 use crate::{FromRedisValue, from_redis_value, from_redis_value_ref};
-use resp_value::{Boxed, Items, Text, Value};
+use resp_value::{Boxed, ErrorKind, Items, RedisResult, ServerError, ServerErrorKind, Text, Value};
 use std::alloc::Global;
+use std::rc::Rc;
 use std::test::Fail;
 
 fn bulk(alloc: Global, bytes: &[u8]) -> Result<Value, Fail> {
@@ -73,5 +74,105 @@ fn values_stay_as_they_are(rt: HostRuntime) -> Result<(), Fail> {
     assert!(rt; copy == value);
     let same: Value = from_redis_value(alloc, value)?;
     assert!(rt; same == copy);
+    Ok(())
+}
+
+#[test]
+fn ranges_are_kept(rt: HostRuntime) -> Result<(), Fail> {
+    let alloc = rt.alloc();
+    assert_eq!(rt;
+        u8::from_redis_value(alloc, Value::Int(255)).ok(),
+        Some(255)
+    );
+    assert_eq!(rt; u8::from_redis_value(alloc, Value::Int(300)).ok(), None);
+    assert_eq!(rt; u64::from_redis_value(alloc, Value::Int(-1)).ok(), None);
+    assert_eq!(rt;
+        i128::from_redis_value(alloc, bulk(alloc, b"-9223372036854775809")?).ok(),
+        Some(-9223372036854775809)
+    );
+    assert_eq!(rt;
+        u16::from_redis_value(alloc, simple(alloc, "-0")?).ok(),
+        None
+    );
+    Ok(())
+}
+
+#[test]
+fn truth_values(rt: HostRuntime) -> Result<(), Fail> {
+    let alloc = rt.alloc();
+    assert_eq!(rt; bool::from_redis_value(alloc, Value::Nil).ok(), Some(false));
+    assert_eq!(rt;
+        bool::from_redis_value(alloc, Value::Int(-2)).ok(),
+        Some(true)
+    );
+    assert_eq!(rt; bool::from_redis_value(alloc, Value::Okay).ok(), Some(true));
+    assert_eq!(rt;
+        bool::from_redis_value(alloc, bulk(alloc, b"0")?).ok(),
+        Some(false)
+    );
+    assert_eq!(rt;
+        bool::from_redis_value(alloc, simple(alloc, "true")?).ok(),
+        None
+    );
+    Ok(())
+}
+
+#[test]
+fn options_remove_one_attribute_more(rt: HostRuntime) -> Result<(), Fail> {
+    let alloc = rt.alloc();
+    let none: Option<i64> = from_redis_value(alloc, attributed(alloc, Value::Nil)?)?;
+    assert_eq!(rt; none, None);
+    let twice = attributed(alloc, attributed(alloc, Value::Int(5))?)?;
+    let five: Option<i64> = from_redis_value_ref(alloc, &twice)?;
+    assert_eq!(rt; five, Some(5));
+    Ok(())
+}
+
+#[test]
+fn pointers_and_results_hold_the_value(rt: HostRuntime) -> Result<(), Fail> {
+    let alloc = rt.alloc();
+    let boxed: Box<i64> = from_redis_value(alloc, Value::Int(5))?;
+    assert_eq!(rt; *boxed, 5);
+    let shared: Rc<i64> = from_redis_value(alloc, Value::Int(5))?;
+    assert_eq!(rt; *shared, 5);
+    let error = Value::ServerError(ServerError::from_text(alloc, "CROSSSLOT x")?);
+    let refused: RedisResult<i64> = from_redis_value_ref(alloc, &error)?;
+    let kind = ErrorKind::Server(ServerErrorKind::CrossSlot);
+    assert_eq!(rt; refused.err().map(|e| e.kind()), Some(kind));
+    let answered: RedisResult<i64> = from_redis_value(alloc, Value::Int(5))?;
+    assert_eq!(rt; answered.ok(), Some(5));
+    Ok(())
+}
+
+fn array(alloc: Global, values: &[i64]) -> Result<Value, Fail> {
+    let mut items = Items::new(alloc);
+    for value in values {
+        items.push(Value::Int(*value))?;
+    }
+    Ok(Value::Array(items))
+}
+
+#[test]
+fn vectors_are_lists_and_bytes(rt: HostRuntime) -> Result<(), Fail> {
+    let alloc = rt.alloc();
+    let numbers: Vec<i64> = from_redis_value(alloc, array(alloc, &[1, 2])?)?;
+    assert_eq!(rt; numbers.as_slice(), [1, 2].as_slice());
+    let bytes: Vec<u8> = from_redis_value(alloc, bulk(alloc, b"ab")?)?;
+    assert_eq!(rt; bytes.as_slice(), b"ab".as_slice());
+    let one: Vec<i64> = from_redis_value(alloc, bulk(alloc, b"42")?)?;
+    assert_eq!(rt; one.as_slice(), [42].as_slice());
+    let none: Vec<i64> = from_redis_value(alloc, Value::Nil)?;
+    assert!(rt; none.is_empty());
+    let attributed = attributed(alloc, array(alloc, &[1])?)?;
+    assert!(rt; Vec::<i64>::from_redis_value(alloc, attributed).is_err());
+    Ok(())
+}
+
+#[test]
+fn bytes_that_refuse_are_none(rt: HostRuntime) -> Result<(), Fail> {
+    let alloc = rt.alloc();
+    assert!(rt; i64::from_byte_slice(alloc, b"x")?.is_none());
+    let one = i64::from_byte_slice(alloc, b"7")?;
+    assert_eq!(rt; one.and_then(|mut all| all.pop()), Some(7));
     Ok(())
 }

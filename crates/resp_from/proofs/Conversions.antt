@@ -1,0 +1,60 @@
+-- Answers of conversions, and lists that are converted item by item.
+use Rattle.std.proofs.Common.{◌≡◌, List, [], ◌∷◌, ◌++◌, Vec, Global, Result, Ok, Err, refl, sym, ap, ◌∙◌, subst}
+use Rattle.std.specs.Result.{IsErr, IsErrAnd}
+use Rattle.std.specs.List.{AllZip}
+use Rattle.resp_value.specs.declared.errors.parsing_error.ParsingError.{ParsingError}
+use Rattle.resp_value.specs.declared.errors.parsing_error.ParsingError.TheVariants as parsing
+use Rattle.resp_from.specs.Conversion.{RefusesIf, Converts, ConvertsList, Decides, NeedsNoMemory}
+
+pub RefusesIf-along : {P Q : Type 0} (e : ParsingError) → (P → Q) → RefusesIf e P → RefusesIf e Q
+RefusesIf-along (parsing.Described text) f h = f h
+RefusesIf-along (parsing.Fault fault) f h = h
+RefusesIf-along parsing.OutOfMemory f h = h
+
+-- an error that is handed on
+pub Converts-err : {X : Type 0} (Fits : X → Type 0) (r : Result X ParsingError) (e : ParsingError) → IsErr r × IsErrAnd r (λ d. d ≡ e) → RefusesIf e ((x : X) → Fits x → ⊥) → Converts Fits r
+Converts-err Fits (Ok x) e h f = absurd (cc (h.0))
+Converts-err {X} Fits (Err d) e h f = subst (λ b. RefusesIf b ((x : X) → Fits x → ⊥)) (sym h.1) f
+
+pub ConvertsList-err : {X : Type 0} (Fits : List X → Type 0) (r : Result (Vec X Global) ParsingError) (e : ParsingError) → IsErr r × IsErrAnd r (λ d. d ≡ e) → RefusesIf e ((xs : List X) → Fits xs → ⊥) → ConvertsList Fits r
+ConvertsList-err Fits (Ok x) e h f = absurd (cc (h.0))
+ConvertsList-err {X} Fits (Err d) e h f = subst (λ b. RefusesIf b ((xs : List X) → Fits xs → ⊥)) (sym h.1) f
+
+-- what fits one relation fits the other, and so for refusals
+pub ConvertsList-along : {X : Type 0} (P Q : List X → Type 0) (r : Result (Vec X Global) ParsingError) → ((xs : List X) → P xs → Q xs) → ((xs : List X) → Q xs → P xs) → ConvertsList P r → ConvertsList Q r
+ConvertsList-along P Q (Ok v) to from h = to v.items h
+ConvertsList-along P Q (Err e) to from h = RefusesIf-along e (λ none xs q. none xs (from xs q)) h
+
+-- a list as a vector
+pub Converts-list : {X : Type 0} (Fits : List X → Type 0) (r : Result (Vec X Global) ParsingError) → ConvertsList Fits r → Converts (λ v. Fits v.items) r
+Converts-list Fits (Ok v) h = h
+Converts-list Fits (Err e) h = RefusesIf-along e (λ none v. none v.items) h
+
+-- what a conversion says that wants no memory
+pub Converts_decided : {X : Type 0} (Fits : X → Type 0) (r : Result X ParsingError) → Decides Fits r → Converts Fits r
+Converts_decided Fits (Ok x) h = h
+Converts_decided Fits (Err (parsing.Described text)) h = h.1
+Converts_decided Fits (Err (parsing.Fault fault)) h = h.0
+Converts_decided Fits (Err parsing.OutOfMemory) h = tt
+
+pub no_memory_decided : {X : Type 0} (Fits : X → Type 0) (r : Result X ParsingError) → Decides Fits r → NeedsNoMemory r
+no_memory_decided Fits (Ok x) h = tt
+no_memory_decided Fits (Err (parsing.Described text)) h = λ e. cc
+no_memory_decided Fits (Err (parsing.Fault fault)) h = absurd h.0
+no_memory_decided Fits (Err parsing.OutOfMemory) h = absurd h.0
+
+pub AllZip-more : {A B : Type 0} (R : A → B → Type 0) (cs : List A) (bs : List B) (a : A) (b : B) → AllZip R cs bs → R a b → AllZip R (cs ++ a ∷ []) (bs ++ b ∷ [])
+AllZip-more R [] [] a b h r = (r, tt)
+AllZip-more R [] (y ∷ ys) a b h r = absurd h
+AllZip-more R (x ∷ xs) [] a b h r = absurd h
+AllZip-more R (x ∷ xs) (y ∷ ys) a b h r = (h.0, AllZip-more R xs ys a b h.1 r)
+
+-- where one item has no partner, the list has none
+AllZip-refused : {A B : Type 0} (R : A → B → Type 0) (cs : List A) (a : A) (more : List A) → ((b : B) → R a b → ⊥) → (bs : List B) → AllZip R (cs ++ a ∷ more) bs → ⊥
+AllZip-refused R [] a more f [] h = h
+AllZip-refused R [] a more f (y ∷ ys) h = f y h.0
+AllZip-refused R (x ∷ xs) a more f [] h = h
+AllZip-refused R (x ∷ xs) a more f (y ∷ ys) h = AllZip-refused R xs a more f ys h.1
+
+pub AllZip-none : {A B : Type 0} (R : A → B → Type 0) (all done : List A) (a : A) (rest : List A) → all ≡ done ++ a ∷ rest → ((b : B) → R a b → ⊥) → (bs : List B) → AllZip R all bs → ⊥
+AllZip-none R all done a rest e f bs h = AllZip-refused R done a rest f bs (subst (λ cs. AllZip R cs bs) e h)

@@ -1,0 +1,9 @@
+use Rattle.std.proofs.Common.{◌≡◌, true, rules, subst, sym}
+use Rattle.resp_from.specs.Conversion.{ConvertsList}
+use Rattle.resp_from.specs.Lists.{OfBytes}
+use Rattle.resp_from.proofs.convert.FromRedisValue.from_byte_vec.Goals as goal
+
+pub returns-then-BYTES : goal.returns-then-BYTES
+returns-then-BYTES g c =
+    let each : g.Self.FromRedisValue.BYTES ≡ true = search rules in
+    record { converts = subst (λ b. ConvertsList (OfBytes b g.Self.FromRedisValue.of_value c.args.bytes.items) c.convert_bytes.result) (sym each) c.convert_bytes.ensures.converts }

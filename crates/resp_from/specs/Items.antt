@@ -1,0 +1,23 @@
+-- Replies as lists of values of one type (RESP, "Arrays", "Bulk strings", "Nulls"; RESP3, "Maps", "Sets").
+use Rattle.std.specs.Prelude.{◌≡◌, ℕ, Bool, List, [], ◌∷◌, map}
+use Rattle.std.specs.List.{AllZip}
+use Rattle.resp_value.specs.declared.value.Value.{Value, Map, out-Value}
+use Rattle.resp_value.specs.declared.value.Value.TheOpen.{Value-F}
+use Rattle.resp_from.specs.Lists.{OfList, OfBytes}
+
+-- a map of one pair for each pair
+abbrev pub single_maps : List (Value × Value) → List Value
+single_maps pairs = map (λ pair. Map (pair ∷ [])) pairs
+
+-- a reply, as it stands, is the list of these values
+abbrev pub IsItems : {X : Type 0} → ℕ → Bool → (Value → X → Type 0) → Value-F Value → List X → Type 0
+IsItems n each Of (Value-F.Array items) xs = OfList n Of items xs
+IsItems n each Of (Value-F.Set items) xs = OfList n Of items xs
+IsItems n each Of (Value-F.Map pairs) xs = AllZip Of (single_maps pairs) xs
+IsItems n each Of (Value-F.BulkString bytes) xs = OfBytes each Of bytes xs
+IsItems n each Of Value-F.Nil xs = xs ≡ []
+IsItems n each Of _ xs = ⊥
+
+-- the reply is the list of these values
+abbrev pub OfItems : {X : Type 0} → ℕ → Bool → (Value → X → Type 0) → Value → List X → Type 0
+OfItems n each Of reply xs = IsItems n each Of (out-Value reply) xs

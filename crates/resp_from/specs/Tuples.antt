@@ -1,0 +1,49 @@
+-- Replies as tuples (RESP, "Arrays"; RESP3, "Maps", "Sets").
+use Rattle.std.specs.Prelude.{◌≡◌, ℕ, ◌==◌, ◌*◌, cond, List, [], ◌∷◌, length, Option, None, Some, Result, Ok, Err}
+use Rattle.std.specs.declared.alloc.Global.{Global}
+use Rattle.std.specs.declared.vec.Vec.{Vec}
+use Rattle.resp_value.specs.declared.errors.parsing_error.ParsingError.{ParsingError}
+use Rattle.resp_value.specs.declared.value.Value.{Value, out-Value}
+use Rattle.resp_value.specs.declared.value.Value.TheOpen.{Value-F}
+use Rattle.resp_from.specs.Conversion.{Converts, RefusesIf}
+use Rattle.resp_from.specs.Replies.{bare}
+
+-- each key before its value
+abbrev pub in_turn : List (Value × Value) → List Value
+in_turn [] = []
+in_turn (pair ∷ pairs) = pair.0 ∷ pair.1 ∷ in_turn pairs
+
+-- the list, if it has n values
+abbrev pub of_length : ℕ → List Value → Option (List Value)
+of_length n values = cond (length values == n) (Some values) None
+
+-- the n values that a reply without its attribute holds
+abbrev pub held : ℕ → Value-F Value → Option (List Value)
+held n (Value-F.Array items) = of_length n items
+held n (Value-F.Set items) = of_length n items
+held n (Value-F.Map pairs) = of_length n (in_turn pairs)
+held n _ = None
+
+-- the reply holds n values, and they are as the fact says
+abbrev pub Holds : ℕ → Value → (List Value → Type 0) → Type 0
+Holds n reply Are = elim (held n (out-Value (bare reply))) [ Some values ↦ Are values | None ↦ ⊥ ]
+
+-- the first value is this part, and the others are as the fact says
+abbrev pub First : {X : Type 0} → (Value → X → Type 0) → X → (List Value → Type 0) → List Value → Type 0
+First Of x Rest [] = ⊥
+First Of x Rest (value ∷ values) = Of value x × Rest values
+
+-- there are no more values
+abbrev pub End : List Value → Type 0
+End [] = Unit {0}
+End (value ∷ values) = ⊥
+
+-- finding the values that a reply holds: refused where it doesn't hold so many
+abbrev pub FindsHeld : Option (List Value) → Result (Vec Value Global) ParsingError → Type 0
+FindsHeld found (Ok v) = found ≡ Some v.items
+FindsHeld found (Err e) = RefusesIf e (found ≡ None)
+
+-- taking the first of some values: it is converted, and the others are left
+abbrev pub TakesFirst : {X : Type 0} → (Value → X → Type 0) → List Value → List Value → Result X ParsingError → Type 0
+TakesFirst Of [] new r = ⊥
+TakesFirst Of (value ∷ values) new r = (new ≡ values) × Converts (Of value) r

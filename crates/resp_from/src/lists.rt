@@ -1,0 +1,50 @@
+//! Replies as lists.
+
+ghost use Rattle.std.specs.Prelude.{◌≡◌, IfOk};
+ghost use Rattle.resp_from.specs.Items.{single_maps};
+
+use crate::convert::FromRedisValue;
+use crate::rules::convert_each;
+use resp_value::{Items, ParsingError, Value};
+use std::alloc::{AllocError, Global};
+
+fn maps_of_one(alloc: Global, pairs: Items<(Value, Value)>) -> Result<Vec<Value>, AllocError>
+    ensures { IfOk result (λ v. v.items ≡ single_maps pairs) }
+{
+    let mut maps = Vec::new(alloc);
+    for pair in pairs.into_vec() {
+        let mut single = Items::new(alloc);
+        single.push(pair)?;
+        maps.push(Value::Map(single))?;
+    }
+    Ok(maps)
+}
+
+/// A list is an array or a set, value by value as `from_redis_values` says; a map, pair by pair,
+/// each as a map of one pair; a bulk string, as `from_byte_vec` says; or nothing, which is empty.
+/// No attribute is removed.
+impl<T: FromRedisValue> FromRedisValue for Vec<T> {
+    ghost use Rattle.std.specs.Prelude.{false};
+    ghost use Rattle.resp_from.specs.Items.{OfItems};
+
+    const WIDTH: usize = 0;
+
+    const BYTES: bool = false;
+
+    ghost WIDTH = { 0 };
+
+    ghost BYTES = { false };
+
+    ghost of_value = { λ reply v. OfItems T.WIDTH T.BYTES T.of_value reply v.items };
+
+    fn from_redis_value(alloc: Global, value: Value) -> Result<Vec<T>, ParsingError> {
+        match value {
+            Value::Array(items) => T::from_redis_values(alloc, items.into_vec()),
+            Value::Set(items) => T::from_redis_values(alloc, items.into_vec()),
+            Value::Map(pairs) => convert_each(alloc, maps_of_one(alloc, pairs)?),
+            Value::BulkString(bytes) => T::from_byte_vec(alloc, bytes.into_vec()),
+            Value::Nil => Ok(Vec::new(alloc)),
+            _ => Err(ParsingError::from("Response type not vector compatible.")),
+        }
+    }
+}

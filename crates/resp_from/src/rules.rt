@@ -1,0 +1,139 @@
+//! The rules that turn a list of replies, or bytes, into many values of one type.
+
+ghost use Rattle.std.specs.Prelude.{◌≡◌, ◌<◌, ◌==◌, ◌∷◌, [], IfOk, MatchResult, length, map, pos};
+ghost use Rattle.std.specs.List.{AllZip, list_all};
+ghost use Rattle.resp_value.specs.declared.errors.parsing_error.ParsingError.TheVariants as parsing;
+ghost use Rattle.resp_value.specs.declared.value.Value.{Int, out-Value};
+ghost use Rattle.resp_from.specs.Conversion.{ConvertsList, Decides};
+ghost use Rattle.resp_from.specs.Lists.{AreGroups, ArePieces, holds};
+
+use crate::convert::FromRedisValue;
+use resp_value::{Items, ParsingError, Value};
+use std::alloc::{AllocError, Global};
+
+/// One value for each reply.
+pub fn convert_each<T: FromRedisValue>(
+    alloc: Global,
+    replies: Vec<Value>,
+) -> Result<Vec<T>, ParsingError>
+    ensures converts { ConvertsList (AllZip T.of_value replies.items) result }
+{
+    let mut all = Vec::new(alloc);
+    for reply in replies {
+        all.push(T::from_redis_value(alloc, reply)?)?;
+    }
+    Ok(all)
+}
+
+/// One value or refusal for each reply; fails only for want of memory.
+pub fn answer_each<T: FromRedisValue>(
+    alloc: Global,
+    replies: Vec<Value>,
+) -> Result<Vec<Result<T, ParsingError>>, ParsingError>
+    ensures answers { MatchResult result (λ v. AllZip (λ reply r. Decides (T.of_value reply) r) replies.items v.items) (λ e. e ≡ parsing.OutOfMemory) }
+{
+    let mut all = Vec::new(alloc);
+    for reply in replies {
+        all.push(answer_one(alloc, reply)?)?;
+    }
+    Ok(all)
+}
+
+fn answer_one<T: FromRedisValue>(
+    alloc: Global,
+    reply: Value,
+) -> Result<Result<T, ParsingError>, ParsingError>
+    ensures answers { MatchResult result (λ r. Decides (T.of_value reply) r) (λ e. e ≡ parsing.OutOfMemory) }
+{
+    match T::from_redis_value(alloc, reply) {
+        Ok(value) => Ok(Ok(value)),
+        Err(error) => match error {
+            ParsingError::OutOfMemory => Err(ParsingError::OutOfMemory),
+            refusal => Ok(Err(refusal)),
+        },
+    }
+}
+
+/// One value for each byte.
+pub fn convert_bytes<T: FromRedisValue>(
+    alloc: Global,
+    bytes: Vec<u8>,
+) -> Result<Vec<T>, ParsingError>
+    ensures converts { ConvertsList (AllZip T.of_value (map (λ byte. Int (pos byte)) bytes.items)) result }
+{
+    let mut all = Vec::new(alloc);
+    for byte in bytes {
+        all.push(T::from_redis_value(alloc, Value::Int(i64::from(byte)))?)?;
+    }
+    Ok(all)
+}
+
+/// The one value of a reply, in a list.
+pub fn convert_one<T: FromRedisValue>(alloc: Global, reply: Value) -> Result<Vec<T>, ParsingError>
+    ensures converts { ConvertsList (AllZip T.of_value (reply ∷ [])) result }
+{
+    let mut all = Vec::new(alloc);
+    all.push(T::from_redis_value(alloc, reply)?)?;
+    Ok(all)
+}
+
+/// Equal replies.
+pub fn copies_of(alloc: Global, replies: &[Value]) -> Result<Vec<Value>, AllocError>
+    ensures { IfOk result (λ v. v.items ≡ replies.now) }
+{
+    let mut copies = Vec::new(alloc);
+    for reply in replies {
+        copies.push(reply.try_clone(alloc)?)?;
+    }
+    Ok(copies)
+}
+
+/// The pieces of a list that stand for one value each, of a type of this width.
+pub fn pieces_of(
+    alloc: Global,
+    width: usize,
+    replies: Vec<Value>,
+) -> Result<Vec<Value>, ParsingError>
+    ensures converts { ConvertsList (ArePieces width replies.items) result }
+{
+    if width == 0 || all_hold(&replies, width) {
+        return Ok(replies);
+    }
+    groups_of(alloc, width, replies)
+}
+
+fn groups_of(alloc: Global, width: usize, replies: Vec<Value>) -> Result<Vec<Value>, ParsingError>
+    requires { 0 < width }
+    ensures converts { ConvertsList (AreGroups width replies.items) result }
+{
+    let mut groups = Vec::new(alloc);
+    let mut group = Items::new(alloc);
+    for reply in replies {
+        group.push(reply)?;
+        if group.len() == width {
+            groups.push(Value::Array(group))?;
+            group = Items::new(alloc);
+        }
+    }
+    if !group.is_empty() {
+        return Err(ParsingError::from("Bulk response of wrong dimension"));
+    }
+    Ok(groups)
+}
+
+fn all_hold(replies: &[Value], width: usize) -> bool
+    ensures { result ≡ list_all (λ reply. holds width (out-Value reply)) replies.now }
+{
+    replies.iter().all(|reply| holds_values(reply, width))
+}
+
+fn holds_values(reply: &Value, width: usize) -> bool
+    ensures { result ≡ holds width (out-Value reply.now) }
+{
+    match reply {
+        Value::Array(items) => items.len() == width,
+        Value::Set(items) => items.len() == width,
+        Value::Map(pairs) => width % 2 == 0 && pairs.len() == width / 2,
+        _ => false,
+    }
+}
