@@ -1,13 +1,13 @@
 -- Reading gives exactly what the grammar says.
-use Rattle.std.proofs.Common.{◌≡◌, ℕ, zero, suc, Bool, true, false, cond, List, [], ◌∷◌, ◌++◌, length, refl, ap, sym, ◌∙◌, subst, append_assoc, inl, inr, Result, Ok, Err}
-use Rattle.std.specs.Str.{IsUtf8, is_utf8}
+use Rattle.std.proofs.Common.{◌≡◌, ℕ, zero, suc, Bool, true, false, cond, List, [], ◌∷◌, ◌++◌, refl, ap, sym, ◌∙◌, subst, append_assoc, inl, inr, Result, Ok, Err}
+use Rattle.std.specs.Str.{is_utf8}
 use Rattle.std.proofs.lemmas.Str.{IsUtf8-from_is_utf8, is_utf8-from_IsUtf8}
 use Rattle.resp_value.specs.declared.value.Value.{Value}
 use Rattle.resp_value.specs.declared.errors.kinds.FrameFault.{FrameFault}
 use Rattle.resp_value.specs.declared.errors.kinds.FrameFault.TheVariants.{TooDeep, UnknownType, LineNotUtf8}
 use Rattle.resp_parse.specs.Lines.{crlf}
 use Rattle.resp_parse.specs.Grammar.{Next, done, body, parts, wrong, next, is_type, Header, Follows, Good, FaultFollows, Faulty}
-use Rattle.resp_parse.specs.Reading.{Outcome, got, fault, unfinished, then, line, read_body, read_parts, made, read_next, read}
+use Rattle.resp_parse.specs.Reading.{Outcome, got, fault, then, line, read_body, read_parts, made, read_next, read}
 use Rattle.resp_parse.proofs.Bits.{not_true}
 use Rattle.resp_parse.proofs.Then.{then-got, then-fault}
 use Rattle.resp_parse.proofs.LineReads.{line-reads, line-got, line-no_fault}

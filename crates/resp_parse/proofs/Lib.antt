@@ -1,6 +1,8 @@
 pub mod Agreement
+pub mod Asked
 pub mod Bits
 pub mod BodyReads
+pub mod Come
 pub mod Ends
 pub mod FrontReads
 pub mod Headers
@@ -10,6 +12,8 @@ pub mod Made
 pub mod Numerals
 pub mod PartReads
 pub mod PartsSoFar
+pub mod Plain
 pub mod Prefixes
+pub mod Standing
 pub mod Stopping
 pub mod Then

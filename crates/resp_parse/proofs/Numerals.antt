@@ -1,5 +1,5 @@
 -- What `parse` gives is the number that the text writes.
-use Rattle.std.proofs.Common.{◌≡◌, ℕ, ◌<◌, ◌≤◌, ◌^◌, ◌&&◌, Bool, true, false, cond, nat_le, nat_lt, List, length, Result, Ok, Err, Option, Some, None, ℤ, pos, refl, ap, arith, zero, suc, [], ◌∷◌, rules}
+use Rattle.std.proofs.Common.{◌≡◌, ℕ, ◌≤◌, ◌^◌, ◌&&◌, Bool, true, false, cond, nat_le, nat_lt, List, length, Result, Ok, Err, Some, None, ℤ, pos, refl, ap, arith, zero, suc, [], ◌∷◌}
 use Rattle.std.proofs.lemmas.Bool.{and_parts, and_from, ltb-true, lt-ltb, leb-true, le-leb}
 use Rattle.std.proofs.lemmas.Str.Parse.{numerals_by_value, tells_all_ascii_digits}
 use Rattle.std.specs.Char.{is_ascii_digit}
@@ -10,7 +10,7 @@ use Rattle.std.specs.Str.Parse.{ParsesSigned, IsNumeral, without_leading_sign, s
 use Rattle.std.specs.Int.{w64}
 use Rattle.std.specs.Prelude.{neg_ℤ}
 use mir.Val.{SFits}
-use Rattle.resp_parse.specs.Number.{is_digits, is_decimal, fits_i64, plain_number}
+use Rattle.resp_parse.specs.Number.{is_decimal, fits_i64, plain_number}
 
 -- a test that decides when a result is this value
 by_test : {E : Type 0} (r : Result ℤ E) (P : Type 0) (n : ℤ) (b : Bool) → OkIff r P n → (b ≡ true → P) → (P → b ≡ true) → result_ok r ≡ cond b (Some n) None

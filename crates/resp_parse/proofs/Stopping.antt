@@ -1,6 +1,5 @@
 -- A reading that stops at a step stops as a whole.
-use Rattle.std.proofs.Common.{◌≡◌, List, ℕ, Some, None, refl}
-use Rattle.resp_value.specs.declared.errors.kinds.FrameFault.{FrameFault}
+use Rattle.std.proofs.Common.{List, ℕ, refl}
 use Rattle.resp_parse.specs.declared.stop.Stop.{Stop}
 use Rattle.resp_parse.specs.declared.stop.Stop.TheVariants.{Memory, Unfinished, Fault}
 use Rattle.resp_parse.specs.Reading.{Outcome, got, fault, unfinished, then}

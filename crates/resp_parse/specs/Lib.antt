@@ -12,4 +12,5 @@ pub mod Answers
 pub mod State
 pub mod Takes
 pub mod Ends
+pub mod Asks
 pub mod Parses

@@ -1,6 +1,6 @@
 -- Reading a value from the front of bytes, as a function. The relations of `Grammar` say what it has to give; the proofs
 -- show that it does, and that the parser gives the same.
-use Rattle.std.specs.Prelude.{ℕ, zero, suc, Bool, cond, ◌&&◌, ◌==◌, List, [], ◌∷◌, Result, Ok, Err}
+use Rattle.std.specs.Prelude.{ℕ, zero, suc, cond, ◌&&◌, ◌==◌, List, [], ◌∷◌, Result, Ok, Err}
 use Rattle.std.specs.Str.{is_utf8}
 use Rattle.resp_value.specs.declared.value.Value.{Value}
 use Rattle.resp_value.specs.declared.errors.kinds.FrameFault.{FrameFault}

@@ -1,5 +1,5 @@
 -- What a parser holds.
-use Rattle.std.specs.Prelude.{◌≡◌, ℕ, Bool, true, false, List, [], codes}
+use Rattle.std.specs.Prelude.{◌≡◌, ℕ, Bool, true, false, List, codes}
 use Rattle.resp_value.specs.declared.errors.parsing_error.ParsingError.TheVariants as parsing
 use Rattle.resp_value.specs.declared.errors.redis_error.RedisError.{RedisError}
 use Rattle.resp_value.specs.declared.errors.redis_error.RedisError.TheVariants as form

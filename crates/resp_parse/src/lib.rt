@@ -5,14 +5,20 @@ mod body;
 mod double;
 mod front;
 mod number;
+mod parser;
+mod reading;
 mod shape;
+mod source;
 mod stop;
 mod value_of;
 
-pub use front::parse_redis_value;
-
 ghost use Rattle.std.specs.Prelude.{ℕ, List};
 ghost use Rattle.resp_parse.specs.Laws.{LawOfPrefixes};
+
+pub use front::parse_redis_value;
+pub use parser::Parser;
+pub use reading::Reading;
+pub use source::ReplySource;
 
 /// Bytes have at most one reading, however they go on.
 ///

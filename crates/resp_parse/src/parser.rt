@@ -1,0 +1,197 @@
+//! A parser of bytes that come in pieces.
+
+ghost use Rattle.std.specs.Prelude.{◌≡◌, ◌≢◌, ◌↔◌, ◌++◌, ◌⊎◌, [], true, Err, List, ℕ, IsTrue, OnOk};
+ghost use Rattle.resp_parse.specs.State.{StandsAfter, FailedAfter, IsAtRest, has_failed};
+ghost use Rattle.resp_parse.specs.Takes.{Feeds, Takes};
+ghost use Rattle.resp_parse.specs.Asks.{Asks};
+ghost use Rattle.resp_parse.specs.Parses.{Parses};
+
+use crate::front::first_value;
+use crate::source::ReplySource;
+use crate::stop::Stop;
+use resp_value::{IoKind, ParsingError, RedisError, RedisResult, Value};
+use std::alloc::Global;
+use std::marker::Model;
+
+/// How many bytes a source is asked for at most.
+const CHUNK: usize = 4096;
+
+/// A parser of replies (RESP2 and RESP3) whose bytes come in pieces.
+///
+/// Bytes are added by [`Parser::feed`] and values taken by [`Parser::take_value`], or
+/// [`Parser::parse_from`] asks a source for the bytes that the next value needs. It does not matter
+/// how the bytes are cut: the values are those of the pieces joined.
+///
+/// After bytes that can't begin a value, after an early end of a source, and after want of memory in
+/// any call but `feed`, the parser has failed for good: each later call that feeds or takes answers
+/// `parser has failed`, a [`ParsingError`].
+#[derive(Drop)]
+pub struct Parser {
+    held: Vec<u8>,
+    seen: usize,
+    failed: bool,
+}
+
+impl Model for Parser {
+    ghost use Rattle.std.specs.Prelude.{drop, length, ◌≤◌};
+    ghost use Rattle.resp_parse.specs.State.{State};
+
+    ghost Value = { State };
+
+    ghost view = { λ p. record { unseen = drop p.seen p.held.items; failed = p.failed } };
+
+    ghost invariant = { λ p. p.seen ≤ length p.held.items };
+}
+
+impl Parser {
+    /// A parser that holds no bytes. Takes no memory.
+    pub fn new(alloc: Global) -> Parser
+        ensures rest { IsAtRest result }
+        ensures empty { result.unseen ≡ [] }
+    {
+        Parser {
+            held: Vec::new(alloc),
+            seen: 0,
+            failed: false,
+        }
+    }
+
+    /// Adds bytes after those that were fed before. Refused for want of memory, the parser stays as
+    /// it was.
+    pub fn feed(&mut self, bytes: &[u8]) -> RedisResult<()>
+        ensures failed { self.old.failed ≡ true → (result ≡ Err has_failed) × (self.new ≡ self.old) }
+        ensures feeds { (b : List ℕ) → StandsAfter self.old b → Feeds b bytes.now self.old self.new result }
+        ensures rest { OnOk result (IsAtRest self.old → IsAtRest self.new) }
+    {
+        if self.failed {
+            return Err(failed_before());
+        }
+        self.compact();
+        self.held.extend_from_slice(bytes)?;
+        Ok(())
+    }
+
+    /// The next value; None while the bytes since the last one are unfinished.
+    ///
+    /// Bytes that can't begin a value are refused as [`RedisError::Parse`] with their
+    /// [`FrameFault`](resp_value::FrameFault); values before them are still handed out. Values are
+    /// read down to 100 levels, the outermost being the first.
+    pub fn take_value(&mut self, alloc: Global) -> RedisResult<Option<Value>>
+        ensures failed { self.old.failed ≡ true → (result ≡ Err has_failed) × (self.new ≡ self.old) }
+        ensures takes { (b : List ℕ) → StandsAfter self.old b → Takes b self.new result }
+    {
+        if self.failed {
+            return Err(failed_before());
+        }
+        match first_value(alloc, &self.held[self.seen..]) {
+            Ok((value, len)) => {
+                self.seen += len;
+                Ok(Some(value))
+            }
+            Err(Stop::Unfinished) => Ok(None),
+            Err(Stop::Fault(fault)) => {
+                self.failed = true;
+                Err(RedisError::Parse(ParsingError::Fault(fault)))
+            }
+            Err(Stop::Memory) => {
+                self.failed = true;
+                Err(RedisError::OutOfMemory)
+            }
+        }
+    }
+
+    /// The next value, with bytes from a source where those that are held don't hold one. Bytes
+    /// past the value are held for the next call.
+    ///
+    /// Refusals are those of [`Parser::take_value`]. An end of the source before that of the value
+    /// is refused as [`IoKind::UnexpectedEof`], and the parser has failed. A failure of the source
+    /// is refused as [`RedisError::Io`] with its kind; the parser then holds what came before it, and
+    /// the call may be repeated. The source is asked for at most 4,096 bytes at a time, and only while
+    /// the bytes that are held are unfinished.
+    pub fn parse_from<S: ReplySource>(
+        &mut self,
+        alloc: Global,
+        source: &mut S,
+    ) -> RedisResult<Value>
+        ensures failed { self.old.failed ≡ true → (result ≡ Err has_failed) × (self.new ≡ self.old) × (S.source source.new ≡ S.source source.old) }
+        ensures parses { (b : List ℕ) → StandsAfter self.old b → (S.source source.old).tells ≡ true → Parses b self.new (S.source source.old) (S.source source.new) result }
+        ensures tells { (S.source source.old).tells ≡ true → (S.source source.new).tells ≡ true }
+    {
+        if self.failed {
+            return Err(failed_before());
+        }
+        for _ in 0..u64::MAX {
+            if let Some(value) = self.take_value(alloc)? {
+                return Ok(value);
+            }
+            self.ask(source)?;
+        }
+        self.fail();
+        Err(RedisError::OutOfMemory)
+    }
+
+    /// Whether the parser has failed for good.
+    pub fn is_failed(&self) -> bool
+        ensures failed { IsTrue result ↔ (self.now.failed ≡ true) }
+    {
+        self.failed
+    }
+
+    /// Whether bytes stand after the last value that was handed out. A parser that has failed
+    /// answers as it would have at its failure, the bytes that it was filled with included.
+    pub fn in_progress(&self) -> bool
+        ensures progress { (b : List ℕ) → StandsAfter self.now b ⊎ FailedAfter self.now b → (IsTrue result ↔ (b ≢ [])) }
+    {
+        self.seen < self.held.len()
+    }
+
+    /// Asks the source once, for at most 4,096 bytes, and holds what it gives.
+    fn ask<S: ReplySource>(&mut self, source: &mut S) -> RedisResult<()>
+        ensures asks { (b : List ℕ) → StandsAfter self.old b → (S.source source.old).tells ≡ true → Asks b self.new (S.source source.old) (S.source source.new) result }
+        ensures tells { (S.source source.old).tells ≡ true → (S.source source.new).tells ≡ true }
+    {
+        self.compact();
+        if self.held.reserve(CHUNK).is_err() {
+            self.failed = true;
+            return Err(RedisError::OutOfMemory);
+        }
+        let mut chunk = [0; CHUNK];
+        match source.fill(&mut chunk[..]) {
+            Ok(0) => {
+                self.failed = true;
+                Err(RedisError::Io(IoKind::UnexpectedEof))
+            }
+            Ok(n) => {
+                self.held.extend_from_slice(&chunk[..n])?;
+                Ok(())
+            }
+            Err(kind) => Err(RedisError::Io(kind)),
+        }
+    }
+
+    /// From here on the parser has failed.
+    fn fail(&mut self)
+        ensures fails { (b : List ℕ) → StandsAfter self.old b → FailedAfter self.new b }
+    {
+        self.failed = true;
+    }
+
+    /// Moves the held bytes to the front of the buffer once those before them are as many.
+    fn compact(&mut self)
+        ensures same { self.new ≡ self.old }
+    {
+        let unseen = self.held.len() - self.seen;
+        if self.seen > 0 && self.seen >= unseen {
+            self.held.copy_within(self.seen.., 0);
+            self.held.truncate(unseen);
+            self.seen = 0;
+        }
+    }
+}
+
+/// What a parser answers that has failed before.
+fn failed_before() -> RedisError
+    ensures error { result ≡ has_failed }
+{
+    RedisError::Parse(ParsingError::from("parser has failed"))
+}
