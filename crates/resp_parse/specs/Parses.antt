@@ -42,3 +42,7 @@ pub data CannotParse (b : List ℕ) (e : RedisError) (new : State) (s t : End) :
 abbrev pub Parses : List ℕ → State → End → End → Result Value RedisError → Type 0
 Parses b new s t (Ok v) = Parsed b v new s t
 Parses b new s t (Err e) = CannotParse b e new s t
+
+-- the same of a reader that was used up: for some end that it came to
+abbrev pub ParsesReader : List ℕ → State → End → Result Value RedisError → Type 0
+ParsesReader b new s r = (t : End) × Parses b new s t r

@@ -10,6 +10,8 @@ mod reading;
 mod shape;
 mod source;
 mod stop;
+#[cfg(test)]
+mod tests;
 mod value_of;
 
 ghost use Rattle.std.specs.Prelude.{ℕ, List};

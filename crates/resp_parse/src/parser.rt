@@ -4,13 +4,16 @@ ghost use Rattle.std.specs.Prelude.{◌≡◌, ◌≢◌, ◌↔◌, ◌++◌, �
 ghost use Rattle.resp_parse.specs.State.{StandsAfter, FailedAfter, IsAtRest, has_failed};
 ghost use Rattle.resp_parse.specs.Takes.{Feeds, Takes};
 ghost use Rattle.resp_parse.specs.Asks.{Asks};
-ghost use Rattle.resp_parse.specs.Parses.{Parses};
+ghost use Rattle.resp_parse.specs.Ends.{end_of};
+ghost use Rattle.resp_parse.specs.Parses.{Parses, ParsesReader};
 
 use crate::front::first_value;
+use crate::reading::Reading;
 use crate::source::ReplySource;
 use crate::stop::Stop;
 use resp_value::{IoKind, ParsingError, RedisError, RedisResult, Value};
 use std::alloc::Global;
+use std::io::Read;
 use std::marker::Model;
 
 /// How many bytes a source is asked for at most.
@@ -128,6 +131,18 @@ impl Parser {
         }
         self.fail();
         Err(RedisError::OutOfMemory)
+    }
+
+    /// The next value, with bytes from a reader where those that are held don't hold one. Bytes
+    /// past the value are held for the next call.
+    ///
+    /// Refusals are those of [`Parser::parse_from`]; the reader is asked in the same way.
+    pub fn parse_value<R: Read + Drop>(&mut self, alloc: Global, reader: R) -> RedisResult<Value>
+        ensures failed { self.old.failed ≡ true → (result ≡ Err has_failed) × (self.new ≡ self.old) }
+        ensures parses { (b : List ℕ) → StandsAfter self.old b → (end_of (R.remaining reader) 0).tells ≡ true → ParsesReader b self.new (end_of (R.remaining reader) 0) result }
+    {
+        let mut source = Reading::new(reader);
+        self.parse_from(alloc, &mut source)
     }
 
     /// Whether the parser has failed for good.

@@ -1,0 +1,315 @@
+//! Worked replies, fed whole and in pieces, and readers that end or fail in the middle.
+
+use crate::*;
+use resp_value::{FrameFault, IoKind, Items, Value};
+use std::io;
+use std::io::{Cursor, Read};
+use std::test::Fail;
+
+/// What the values of the bytes and then the refusal show, each in its Debug form; `..` where bytes
+/// are awaited.
+fn shown(rt: &HostRuntime, bytes: &[u8]) -> Result<String, Fail> {
+    let mut parser = Parser::new(rt.alloc());
+    parser.feed(bytes)?;
+    let mut text = String::new(rt.alloc());
+    for _ in 0..bytes.len() + 1 {
+        match parser.take_value(rt.alloc()) {
+            Ok(Some(value)) => write!(text, "{value:?} ")?,
+            Ok(None) => {
+                if parser.in_progress() {
+                    text.push_str("..")?;
+                }
+                return Ok(text);
+            }
+            Err(error) => {
+                match error.frame_fault() {
+                    Some(fault) => write!(text, "{fault:?}")?,
+                    None => write!(text, "{error:?}")?,
+                }
+                return Ok(text);
+            }
+        }
+    }
+    Ok(text)
+}
+
+#[test]
+fn scalars(rt: HostRuntime) -> Result<(), Fail> {
+    for (bytes, want) in [
+        (&b":+007\r\n: 7 \r\n:-0\r\n"[..], "int(7) int(7) int(0) "),
+        (
+            &b":-9223372036854775808\r\n"[..],
+            "int(-9223372036854775808) ",
+        ),
+        (&b":9223372036854775808\r\n"[..], "NotInteger"),
+        (&b":\r\n"[..], "NotInteger"),
+        (&b":\xFF\r\n"[..], "LineNotUtf8"),
+        (&b"_x\r\n_\xFF\r\n"[..], "nil LineNotUtf8"),
+        (&b"+OK\r\n+a\r\r\n"[..], "ok simple-string(\"a\\r\") "),
+        (
+            &b"#t\r\n#f\r\n#x\r\n"[..],
+            "boolean(true) boolean(false) NotBoolean",
+        ),
+        (&b"#\r\n"[..], "NotBoolean"),
+        (
+            &b",1.23\r\n, -nan \r\n,2.1E-2\r\n,1.\r\n"[..],
+            "double(1.23) double(-nan) double(2.1E-2) double(1.) ",
+        ),
+        (
+            &b",.5\r\n,inf\r\n,+InFinity\r\n,2.67923e+8\r\n"[..],
+            "double(.5) double(inf) double(+InFinity) double(2.67923e+8) ",
+        ),
+        (&b",.\r\n"[..], "NotDouble"),
+        (&b",1e\r\n"[..], "NotDouble"),
+        (&b",1.2.3\r\n"[..], "NotDouble"),
+        (&b",1e2e3\r\n"[..], "NotDouble"),
+        (
+            &b"(349\r\n(\r\n"[..],
+            "big-number([51, 52, 57]) big-number([]) ",
+        ),
+        (
+            &b"-\r\n- x\r\n"[..],
+            "Server error: `` Server error: `: x` ",
+        ),
+        (&b"@"[..], "UnknownType"),
+        (&b""[..], ""),
+    ] {
+        assert_eq!(rt; shown(&rt, bytes)?.as_str(), want);
+    }
+    Ok(())
+}
+
+#[test]
+fn bodies(rt: HostRuntime) -> Result<(), Fail> {
+    for (bytes, want) in [
+        (
+            &b"$2\r\nab\r\n$-7\r\n$2\r\nOK\r\n"[..],
+            "bulk-string('\"ab\"') nil bulk-string('\"OK\"') ",
+        ),
+        (&b"$2\r\nab"[..], ".."),
+        (&b"$2\r\nabX"[..], "BodyEnd"),
+        (&b"$2\r\nab\rX"[..], "BodyEnd"),
+        (
+            &b"!21\r\nSYNTAX invalid syntax\r\n"[..],
+            "Server error: `SYNTAX: invalid syntax` ",
+        ),
+        (&b"!0\r\n\r\n!-1\r\n"[..], "Server error: `` NegativeLength"),
+        (&b"=4\r\nmkd:\r\n"[..], "verbatim-string(Markdown,\"\") "),
+        (
+            &b"=7\r\nabc:d:e\r\n"[..],
+            "verbatim-string(Unknown(\"abc\"),\"d:e\") ",
+        ),
+        (
+            &b"=5\r\ntxt:\xFF\r\n"[..],
+            "verbatim-string(Text,\"\u{FFFD}\") ",
+        ),
+        (&b"=3\r\ntxt\r\n"[..], "NoVerbatimFormat"),
+        (&b"=-1\r\n"[..], "NegativeLength"),
+    ] {
+        assert_eq!(rt; shown(&rt, bytes)?.as_str(), want);
+    }
+    Ok(())
+}
+
+#[test]
+fn aggregates(rt: HostRuntime) -> Result<(), Fail> {
+    for (bytes, want) in [
+        (&b"*-1\r\n~-1\r\n*0\r\n"[..], "nil nil array([]) "),
+        (
+            &b"*3\r\n+OK\r\n-LOADING x\r\n:1\r\n"[..],
+            "array([ok, Server error: `LOADING: x`, int(1)]) ",
+        ),
+        (
+            &b"~2\r\n#t\r\n:100\r\n"[..],
+            "set([boolean(true), int(100)]) ",
+        ),
+        (
+            &b"%2\r\n+first\r\n:1\r\n+second\r\n:2\r\n"[..],
+            "map([(simple-string(\"first\"), int(1)), (simple-string(\"second\"), int(2))]) ",
+        ),
+        (&b"%0\r\n%-1\r\n"[..], "map([]) NegativeLength"),
+        (
+            &b"|1\r\n+k\r\n:1\r\n:2\r\n|0\r\n_\r\n|-1\r\n"[..],
+            "attribute(int(2)) attribute(nil) NegativeLength",
+        ),
+        (
+            &b">2\r\n$7\r\nmessage\r\n:1\r\n"[..],
+            "push(Message, [int(1)]) ",
+        ),
+        (
+            &b">0\r\n>-3\r\n"[..],
+            "push(Other(\"\"), []) push(Other(\"\"), []) ",
+        ),
+        (&b">1\r\n+OK\r\n"[..], "BadPushKind"),
+        (&b">1\r\n$1\r\n\xFF\r\n"[..], "BadPushKind"),
+        (&b"*2\r\n:1\r\n:x\r\n"[..], "NotInteger"),
+        (&b"*9223372036854775807\r\n:1\r\n"[..], ".."),
+    ] {
+        assert_eq!(rt; shown(&rt, bytes)?.as_str(), want);
+    }
+    let mut parser = Parser::new(rt.alloc());
+    parser.feed(b"|1\r\n+k\r\n:1\r\n:2\r\n")?;
+    let attributes = match parser.take_value(rt.alloc())? {
+        Some(Value::Attribute { attributes, .. }) => attributes,
+        _ => Items::new(rt.alloc()),
+    };
+    assert!(rt;
+        matches!(
+            attributes.as_slice(),
+            [(Value::SimpleString(_), Value::Int(1))]
+        )
+    );
+    Ok(())
+}
+
+/// A header or a value again and again, and then the last bytes.
+fn nested(rt: &HostRuntime, header: &str, times: usize, last: &str) -> Result<String, Fail> {
+    let mut bytes = String::new(rt.alloc());
+    for _ in 0..times {
+        bytes.push_str(header)?;
+    }
+    bytes.push_str(last)?;
+    shown(rt, bytes.as_bytes())
+}
+
+#[test]
+fn levels(rt: HostRuntime) -> Result<(), Fail> {
+    for (header, last, open) in [
+        ("*1\r\n", "*0\r\n", "array(["),
+        ("~1\r\n", "~0\r\n", "set(["),
+        ("%1\r\n+a\r\n", "%0\r\n", "map([(simple-string(\"a\"), "),
+    ] {
+        let deepest = nested(&rt, header, 99, last)?;
+        assert!(rt; deepest.as_str().starts_with(open));
+        assert_eq!(rt; nested(&rt, header, 100, last)?.as_str(), "TooDeep");
+    }
+    assert_eq!(rt; nested(&rt, "*1\r\n", 100, "")?.as_str(), "..");
+    assert_eq!(rt; nested(&rt, "*1\r\n", 100, "@")?.as_str(), "TooDeep");
+    Ok(())
+}
+
+#[test]
+fn pieces(rt: HostRuntime) -> Result<(), Fail> {
+    let mut parser = Parser::new(rt.alloc());
+    assert!(rt; !parser.in_progress());
+    parser.feed(b"+a\r")?;
+    assert!(rt; parser.take_value(rt.alloc())?.is_none());
+    assert!(rt; parser.in_progress());
+    parser.feed(b"\n:1\r\n")?;
+    assert!(rt;
+        matches!(parser.take_value(rt.alloc())?, Some(Value::SimpleString(text)) if text.as_str() == "a")
+    );
+    assert!(rt; matches!(parser.take_value(rt.alloc())?, Some(Value::Int(1))));
+    assert!(rt; parser.take_value(rt.alloc())?.is_none());
+    assert!(rt; !parser.in_progress());
+    let bytes = b"*2\r\n$3\r\nabc\r\n:7\r\n";
+    for at in 0..bytes.len() {
+        assert!(rt; parser.take_value(rt.alloc())?.is_none());
+        parser.feed(&bytes[at..at + 1])?;
+    }
+    assert!(rt; matches!(parser.take_value(rt.alloc())?, Some(Value::Array(_))));
+    parser.feed(b"@")?;
+    assert!(rt; parser.take_value(rt.alloc()).is_err());
+    assert!(rt; parser.is_failed() && parser.in_progress());
+    assert_eq!(rt;
+        parser
+            .feed(b":1\r\n")
+            .err()
+            .as_ref()
+            .and_then(|e| e.detail()),
+        Some("parser has failed")
+    );
+    Ok(())
+}
+
+/// A reader that fails once, in the middle.
+#[derive(Drop)]
+struct Failing {
+    reads: usize,
+}
+
+impl Read for Failing {
+    fn read(&mut self, buf: &mut [u8]) -> io::Result<usize> {
+        self.reads = self.reads.saturating_add(1);
+        if self.reads == 2 {
+            return Err(io::Error::from(io::ErrorKind::TimedOut));
+        }
+        if buf.len() < 2 {
+            return Ok(0);
+        }
+        buf[0] = b':';
+        buf[1] = b'1';
+        Ok(2)
+    }
+}
+
+/// A reader of zeros that notes how much it was asked for.
+#[derive(Drop)]
+struct Noting {
+    most: usize,
+}
+
+impl Read for Noting {
+    fn read(&mut self, buf: &mut [u8]) -> io::Result<usize> {
+        self.most = self.most.max(buf.len());
+        if buf.is_empty() {
+            return Ok(0);
+        }
+        buf[0] = 0;
+        Ok(1)
+    }
+}
+
+#[test]
+fn sources(rt: HostRuntime) -> Result<(), Fail> {
+    let mut parser = Parser::new(rt.alloc());
+    assert_eq!(rt;
+        parser.parse_value(rt.alloc(), &b":7\r\n+x\r\n"[..])?,
+        Value::Int(7)
+    );
+    let mut source = Reading::new(Cursor::new(&b"*1\r\n"[..]));
+    assert!(rt;
+        matches!(
+            parser.parse_from(rt.alloc(), &mut source)?,
+            Value::SimpleString(_)
+        )
+    );
+    let early = parser.parse_from(rt.alloc(), &mut source);
+    assert_eq!(rt;
+        early.err().and_then(|e| e.io_kind()),
+        Some(IoKind::UnexpectedEof)
+    );
+    assert!(rt; parser.is_failed());
+    let mut parser = Parser::new(rt.alloc());
+    let mut source = Reading::new(Failing { reads: 0 });
+    let broken = parser.parse_from(rt.alloc(), &mut source);
+    assert_eq!(rt;
+        broken.err().and_then(|e| e.io_kind()),
+        Some(IoKind::TimedOut)
+    );
+    assert!(rt; !parser.is_failed() && parser.in_progress());
+    assert!(rt; source.into_inner().reads == 2);
+    parser.feed(b"2\r\n")?;
+    assert_eq!(rt; parser.take_value(rt.alloc())?, Some(Value::Int(12)));
+    let mut source = Reading::new(Noting { most: 0 });
+    assert!(rt; parser.parse_from(rt.alloc(), &mut source).is_err());
+    assert_eq!(rt; source.into_inner().most, 4096);
+    Ok(())
+}
+
+#[test]
+fn whole_bytes(rt: HostRuntime) -> Result<(), Fail> {
+    assert_eq!(rt; parse_redis_value(rt.alloc(), b":7\r\n@")?, Value::Int(7));
+    let unfinished = parse_redis_value(rt.alloc(), b"*9223372036854775807\r\n:1\r\n");
+    assert_eq!(rt;
+        unfinished.err().and_then(|e| e.io_kind()),
+        Some(IoKind::UnexpectedEof)
+    );
+    let faulty = parse_redis_value(rt.alloc(), b"$1\r\nabc");
+    assert_eq!(rt;
+        faulty.err().and_then(|e| e.frame_fault()),
+        Some(FrameFault::BodyEnd)
+    );
+    law_of_prefixes();
+    Ok(())
+}
