@@ -1,5 +1,5 @@
 -- Errors that a server answers (RESP, "Simple errors", "Bulk errors").
-use Rattle.std.specs.Prelude.{ℕ, List, Bool, codes, cond, Option, None, Some, ◌==◌, length}
+use Rattle.std.specs.Prelude.{ℕ, List, Bool, codes, cond, Option, None, Some, ◌==◌, length, [], ◌∷◌, ◌++◌}
 use Rattle.std.specs.Str.{bytes_eq}
 use Rattle.std.specs.List.{position_or_len, before_first, after_first}
 use Rattle.resp_value.specs.declared.errors.kinds.ServerErrorKind.{ServerErrorKind}
@@ -66,3 +66,11 @@ code_of (Extension code detail) = code
 abbrev pub details_of : ServerError → Option (List ℕ)
 details_of (Known kind detail) = detail
 details_of (Extension code detail) = detail
+
+abbrev pub after_code : Option (List ℕ) → List ℕ
+after_code None = []
+after_code (Some detail) = 32 ∷ detail
+
+-- the text of an error: its code, and where there is a detail a space and the detail
+abbrev pub text_of : ServerError → List ℕ
+text_of error = code_of error ++ after_code (details_of error)

@@ -51,6 +51,11 @@ impl<T> Items<T> {
         items
     }
 
+    /// The allocator of the memory behind the elements.
+    pub fn allocator(&self) -> Global {
+        *self.items.allocator()
+    }
+
     /// How many elements there are.
     pub fn len(&self) -> usize
         ensures { result ≡ length self.now }

@@ -39,7 +39,8 @@ pub enum PushKind {
 /// The kind of push messages with this name. Takes no memory.
 #[tactic(auto, unfolding(crate::specs::Names::kind_named))]
 pub fn get_push_kind(name: String) -> PushKind
-    ensures { result ≡ kind_named (string_bytes name) }
+    ensures kind { result ≡ kind_named (string_bytes name) }
+    ensures named { name_of_kind result ≡ string_bytes name }
 {
     match name.as_str() {
         "invalidate" => PushKind::Invalidate,
@@ -121,7 +122,8 @@ pub enum VerbatimFormat {
 /// The format with this name. Takes no memory.
 #[tactic(auto, unfolding(crate::specs::Names::format_named))]
 pub fn verbatim_format(name: String) -> VerbatimFormat
-    ensures { result ≡ format_named (string_bytes name) }
+    ensures format { result ≡ format_named (string_bytes name) }
+    ensures named { name_of_format result ≡ string_bytes name }
 {
     match name.as_str() {
         "mkd" => VerbatimFormat::Markdown,

@@ -71,9 +71,10 @@ pub struct PushInfo {
 
 impl PushInfo {
     /// An equal message.
-    pub fn try_clone(&self, alloc: Global) -> Result<PushInfo, AllocError>
+    pub fn try_clone(&self) -> Result<PushInfo, AllocError>
         ensures { IfOk result (λ p. p ≡ self.now) }
     {
+        let alloc = self.payload.allocator();
         Ok(PushInfo {
             kind: self.kind.try_clone(alloc)?,
             payload: clone_parts(alloc, &self.payload)?,

@@ -1,6 +1,6 @@
 //! The kinds of errors, as plain enums.
 
-ghost use Rattle.std.specs.Prelude.{◌≡◌};
+ghost use Rattle.std.specs.Prelude.{◌≡◌, IfSome};
 ghost use Rattle.resp_value.specs.ServerErrors.{code_of_kind, kind_of_code};
 ghost use Rattle.resp_value.specs.Errors.{category_of_kind, category_of_server_kind, fault_text};
 ghost use Rattle.resp_value.specs.declared.errors.kinds.ErrorKind.TheVariants as kind;
@@ -66,7 +66,8 @@ impl ServerErrorKind {
     /// The kind that a code stands for, if it is one of the known codes.
     #[tactic(auto, unfolding(crate::specs::ServerErrors::kind_of_code))]
     pub fn from_code(code: &str) -> Option<ServerErrorKind>
-        ensures { result ≡ kind_of_code code.now }
+        ensures kind { result ≡ kind_of_code code.now }
+        ensures code { IfSome result (λ k. code_of_kind k ≡ code.now) }
     {
         match code {
             "ERR" => Some(ServerErrorKind::ResponseError),

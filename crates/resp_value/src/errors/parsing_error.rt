@@ -5,8 +5,8 @@ ghost use Rattle.resp_value.specs.Errors.{description_of};
 ghost use Rattle.resp_value.specs.Errors as errors;
 ghost use Rattle.resp_value.specs.declared.errors.parsing_error.ParsingError.TheVariants as parsing;
 
+use crate::description::Description;
 use crate::errors::FrameFault;
-use crate::text::Description;
 use std::alloc::{AllocError, AllocFailed, Global};
 use std::error::Error;
 use std::fmt;
@@ -59,6 +59,17 @@ impl ParsingError {
         ensures { IsTrue result ↔ (self.now ≡ ParsingError.OutOfMemory) }
     {
         matches!(self, ParsingError::OutOfMemory)
+    }
+
+    /// An equal error.
+    pub fn try_clone(&self, alloc: Global) -> Result<ParsingError, AllocError>
+        ensures { IfOk result (λ e. e ≡ self.now) }
+    {
+        match self {
+            ParsingError::Described(text) => Ok(ParsingError::Described(text.try_clone(alloc)?)),
+            ParsingError::Fault(fault) => Ok(ParsingError::Fault(*fault)),
+            ParsingError::OutOfMemory => Ok(ParsingError::OutOfMemory),
+        }
     }
 }
 

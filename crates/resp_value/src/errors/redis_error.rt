@@ -6,9 +6,10 @@ ghost use Rattle.resp_value.specs.Errors.{kind_of, detail_of, code_of, category_
 ghost use Rattle.resp_value.specs.Memory.{OnlyMemory};
 ghost use Rattle.resp_value.specs.declared.errors.redis_error.RedisError.TheVariants as form;
 
+use crate::description::Description;
 use crate::errors::{ErrorKind, FrameFault, IoKind, ParsingError, ServerError, ServerErrorKind};
 use crate::items::Items;
-use crate::text::{Description, Text};
+use crate::text::Text;
 use std::alloc::{AllocError, AllocFailed, Global};
 use std::error::Error;
 use std::fmt;
@@ -17,12 +18,18 @@ use std::fmt;
 pub type RedisResult<T> = Result<T, RedisError>;
 
 /// The error of every call of the library, in one of seven forms.
+///
+/// Errors of different forms differ. Two refusals of the library's own are equal where their kinds
+/// are, whatever they say; two errors of another form are equal where all of their parts are.
 #[derive(Drop)]
+#[derive_where(PartialEq, Eq)]
 pub enum RedisError {
     /// A refusal of the library's own: its kind, a fixed text, and perhaps a detail.
     General {
         kind: ErrorKind,
+        #[derive_where(skip)]
         text: Description,
+        #[derive_where(skip)]
         detail: Option<Text>,
     },
     /// A fault of a reader or a writer.
@@ -128,6 +135,45 @@ impl RedisError {
             _ => Ok(None),
         }
     }
+
+    /// An equal error, its texts included. Fails only for want of memory.
+    pub fn try_clone(&self, alloc: Global) -> Result<RedisError, AllocError>
+        ensures { IfOk result (λ e. e ≡ self.now) }
+    {
+        match self {
+            RedisError::General { kind, text, detail } => Ok(RedisError::General {
+                kind: *kind,
+                text: text.try_clone(alloc)?,
+                detail: match detail {
+                    Some(detail) => Some(detail.try_clone(alloc)?),
+                    None => None,
+                },
+            }),
+            RedisError::Io(kind) => Ok(RedisError::Io(*kind)),
+            RedisError::Parse(error) => Ok(RedisError::Parse(error.try_clone(alloc)?)),
+            RedisError::Server(error) => Ok(RedisError::Server(error.try_clone(alloc)?)),
+            RedisError::Pipeline(errors) => {
+                Ok(RedisError::Pipeline(clone_errors(alloc, errors.as_slice())?))
+            }
+            RedisError::Aborted(errors) => {
+                Ok(RedisError::Aborted(clone_errors(alloc, errors.as_slice())?))
+            }
+            RedisError::OutOfMemory => Ok(RedisError::OutOfMemory),
+        }
+    }
+}
+
+fn clone_errors(
+    alloc: Global,
+    errors: &[(usize, ServerError)],
+) -> Result<Items<(usize, ServerError)>, AllocError>
+    ensures { IfOk result (λ copies. copies ≡ errors.now) }
+{
+    let mut copies = Items::new(alloc);
+    for (position, error) in errors {
+        copies.push((*position, error.try_clone(alloc)?))?;
+    }
+    Ok(copies)
 }
 
 fn kind_of_server_error(error: &ServerError) -> ErrorKind

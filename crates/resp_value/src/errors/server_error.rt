@@ -1,8 +1,8 @@
 //! Errors that a server answers.
 
-ghost use Rattle.std.specs.Prelude.{◌≡◌, IfOk};
+ghost use Rattle.std.specs.Prelude.{◌≡◌, ◌++◌, IfOk};
 ghost use Rattle.std.specs.Option.{option_copied};
-ghost use Rattle.resp_value.specs.ServerErrors.{kind_of, code_of, details_of, server_error, error_with};
+ghost use Rattle.resp_value.specs.ServerErrors.{kind_of, code_of, details_of, text_of, after_code, server_error, error_with};
 ghost use Rattle.resp_value.specs.Memory.{OnlyMemory};
 
 use crate::errors::{RedisResult, ServerErrorKind};
@@ -37,6 +37,7 @@ impl ServerError {
     #[tactic(auto, unfolding(crate::specs::ServerErrors::server_error))]
     pub fn from_text(alloc: Global, text: &str) -> RedisResult<ServerError>
         ensures read { IfOk result (λ e. e ≡ server_error text.now) }
+        ensures joins { IfOk result (λ e. text_of e ≡ text.now) }
         ensures memory { OnlyMemory result }
     {
         match text.split_once(' ') {
@@ -50,6 +51,7 @@ impl ServerError {
 
     fn with_code(alloc: Global, code: &str, detail: Option<Text>) -> RedisResult<ServerError>
         ensures read { IfOk result (λ e. e ≡ error_with code.now detail) }
+        ensures joins { IfOk result (λ e. text_of e ≡ code.now ++ after_code detail) }
         ensures memory { OnlyMemory result }
     {
         match ServerErrorKind::from_code(code) {

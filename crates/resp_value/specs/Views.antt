@@ -1,0 +1,41 @@
+-- A reply seen as a list of values, or as a list of pairs.
+use Rattle.std.specs.Prelude.{ℕ, ◌%◌, ◌==◌, Bool, true, false, cond, List, [], ◌∷◌, ◌++◌, length, Option, None, Some}
+use Rattle.resp_value.specs.declared.value.Value.{Value, out-Value}
+use Rattle.resp_value.specs.declared.value.Value.TheOpen.{Value-F}
+
+-- a list two by two; an odd last one is left out
+abbrev pub pairs : List Value → List (Value × Value)
+pairs [] = []
+pairs (key ∷ []) = []
+pairs (key ∷ value ∷ rest) = (key, value) ∷ pairs rest
+
+-- the values of an array, of a set, or of nothing
+abbrev pub sequence_of : Value → Option (List Value)
+sequence_of value = elim (out-Value value) [
+  | Value-F.Array parts ↦ Some parts
+  | Value-F.Set parts ↦ Some parts
+  | Value-F.Nil ↦ Some []
+  | _ ↦ None
+]
+
+-- the pairs of a map, or of an array of even length
+abbrev pub pairs_of : Value → Option (List (Value × Value))
+pairs_of value = elim (out-Value value) [
+  | Value-F.Map entries ↦ Some entries
+  | Value-F.Array parts ↦ cond (length parts % 2 == 0) (Some (pairs parts)) None
+  | _ ↦ None
+]
+
+abbrev pub is_bulk_string : Value → Bool
+is_bulk_string value = elim (out-Value value) [ Value-F.BulkString bytes ↦ true | _ ↦ false ]
+
+abbrev pub is_array : Value → Bool
+is_array value = elim (out-Value value) [ Value-F.Array parts ↦ true | _ ↦ false ]
+
+abbrev pub is_cursor_list : List Value → Bool
+is_cursor_list (cursor ∷ items ∷ []) = cond (is_bulk_string cursor) (is_array items) false
+is_cursor_list _ = false
+
+-- an array of exactly a bulk string and an array
+abbrev pub is_cursor : Value → Bool
+is_cursor value = elim (out-Value value) [ Value-F.Array parts ↦ is_cursor_list parts | _ ↦ false ]
