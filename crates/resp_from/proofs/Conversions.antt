@@ -16,6 +16,10 @@ pub Converts-err : {X : Type 0} (Fits : X → Type 0) (r : Result X ParsingError
 Converts-err Fits (Ok x) e h f = absurd (cc (h.0))
 Converts-err {X} Fits (Err d) e h f = subst (λ b. RefusesIf b ((x : X) → Fits x → ⊥)) (sym h.1) f
 
+-- the same where the value is made of another, which has none
+pub Converts-shape : {X Y : Type 0} (P : Y → Type 0) (Q : X → Type 0) (r : Result X ParsingError) (e : ParsingError) → IsErr r × IsErrAnd r (λ d. d ≡ e) → RefusesIf e ((y : Y) → P y → ⊥) → ((x : X) → Q x → (y : Y) × P y) → Converts Q r
+Converts-shape P Q r e h none back = Converts-err Q r e h (RefusesIf-along e (λ f x q. let y = back x q in f y.0 y.1) none)
+
 pub ConvertsList-err : {X : Type 0} (Fits : List X → Type 0) (r : Result (Vec X Global) ParsingError) (e : ParsingError) → IsErr r × IsErrAnd r (λ d. d ≡ e) → RefusesIf e ((xs : List X) → Fits xs → ⊥) → ConvertsList Fits r
 ConvertsList-err Fits (Ok x) e h f = absurd (cc (h.0))
 ConvertsList-err {X} Fits (Err d) e h f = subst (λ b. RefusesIf b ((xs : List X) → Fits xs → ⊥)) (sym h.1) f

@@ -1,3 +1,4 @@
 pub mod Conversions
 pub mod Cuts
 pub mod Layers
+pub mod Pairs

@@ -43,3 +43,7 @@ abbrev pub OfResult : {X : Type 0} → (Value → X → Type 0) → Value → Re
 OfResult Of reply (Ok x) = (is_error (out-Value reply) ≡ false) × Of reply x
 OfResult Of reply (Err (form.Server error)) = reply ≡ ServerError error
 OfResult Of reply (Err _) = ⊥
+
+-- the reply is no error of the server
+abbrev pub OfUnit : Value → Type 0
+OfUnit reply = is_error (out-Value reply) ≡ false

@@ -5,7 +5,7 @@ use Rattle.std.specs.declared.vec.Vec.{Vec}
 use Rattle.resp_value.specs.declared.errors.parsing_error.ParsingError.{ParsingError}
 use Rattle.resp_value.specs.declared.value.Value.{Value, out-Value}
 use Rattle.resp_value.specs.declared.value.Value.TheOpen.{Value-F}
-use Rattle.resp_from.specs.Conversion.{Converts, RefusesIf}
+use Rattle.resp_from.specs.Conversion.{RefusesIf}
 use Rattle.resp_from.specs.Replies.{bare}
 
 -- each key before its value
@@ -42,8 +42,3 @@ End (value ∷ values) = ⊥
 abbrev pub FindsHeld : Option (List Value) → Result (Vec Value Global) ParsingError → Type 0
 FindsHeld found (Ok v) = found ≡ Some v.items
 FindsHeld found (Err e) = RefusesIf e (found ≡ None)
-
--- taking the first of some values: it is converted, and the others are left
-abbrev pub TakesFirst : {X : Type 0} → (Value → X → Type 0) → List Value → List Value → Result X ParsingError → Type 0
-TakesFirst Of [] new r = ⊥
-TakesFirst Of (value ∷ values) new r = (new ≡ values) × Converts (Of value) r

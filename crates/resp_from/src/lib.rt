@@ -8,6 +8,7 @@ mod lists;
 mod rules;
 mod single;
 mod texts;
+mod tuples;
 mod values;
 
 pub use convert::{FromRedisValue, from_redis_value, from_redis_value_ref};

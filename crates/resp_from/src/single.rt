@@ -165,3 +165,26 @@ impl<T: FromRedisValue> FromRedisValue for Result<T, RedisError> {
         }
     }
 }
+
+/// Every reply but an error of the server, whose text the refusal carries.
+impl FromRedisValue for () {
+    ghost use Rattle.std.specs.Prelude.{false};
+    ghost use Rattle.resp_from.specs.Single.{OfUnit};
+
+    const WIDTH: usize = 0;
+
+    const BYTES: bool = false;
+
+    ghost WIDTH = { 0 };
+
+    ghost BYTES = { false };
+
+    ghost of_value = { λ reply _. OfUnit reply };
+
+    fn from_redis_value(alloc: Global, value: Value) -> Result<(), ParsingError> {
+        match value {
+            Value::ServerError(error) => Err(ParsingError::from(format!(in alloc; "{error}")?)),
+            _ => Ok(()),
+        }
+    }
+}

@@ -176,3 +176,39 @@ fn bytes_that_refuse_are_none(rt: HostRuntime) -> Result<(), Fail> {
     assert_eq!(rt; one.and_then(|mut all| all.pop()), Some(7));
     Ok(())
 }
+
+#[test]
+fn tuples_are_lists_of_their_width(rt: HostRuntime) -> Result<(), Fail> {
+    let alloc = rt.alloc();
+    let pair: (i64, i64) = from_redis_value(alloc, attributed(alloc, array(alloc, &[1, 2])?)?)?;
+    assert_eq!(rt; pair, (1, 2));
+    assert!(rt; <(i64,)>::from_redis_value(alloc, array(alloc, &[1, 2])?).is_err());
+    let pairs: Vec<(i64, i64)> = from_redis_value(alloc, array(alloc, &[1, 2, 3, 4])?)?;
+    assert_eq!(rt; pairs.as_slice(), [(1, 2), (3, 4)].as_slice());
+    let short = array(alloc, &[1, 2, 3])?;
+    assert!(rt; Vec::<(i64, i64)>::from_redis_value_ref(alloc, &short).is_err());
+    Ok(())
+}
+
+#[test]
+fn a_short_last_group_is_one_refusal(rt: HostRuntime) -> Result<(), Fail> {
+    let alloc = rt.alloc();
+    let mut values = Vec::new(alloc);
+    values.push(Value::Int(1))?;
+    values.push(Value::Int(2))?;
+    values.push(Value::Int(3))?;
+    let mut answers = <(i64, i64)>::from_each_redis_values(alloc, values)?;
+    assert_eq!(rt; answers.len(), 1);
+    assert!(rt; answers.pop().is_some_and(|answer| answer.is_err()));
+    Ok(())
+}
+
+#[test]
+fn unit_is_everything_but_an_error(rt: HostRuntime) -> Result<(), Fail> {
+    let alloc = rt.alloc();
+    assert!(rt; <()>::from_redis_value(alloc, Value::Int(1)).is_ok());
+    let error = Value::ServerError(ServerError::from_text(alloc, "ERR x")?);
+    let refused = <()>::from_redis_value(alloc, error).err();
+    assert!(rt; refused.is_some_and(|e| e.description() == "ResponseError: x"));
+    Ok(())
+}

@@ -1,0 +1,434 @@
+//! Replies as tuples.
+
+ghost use Rattle.std.specs.Prelude.{◌≡◌, List, IfOk};
+ghost use Rattle.std.specs.Vec.Iter.{into_iter_items};
+ghost use Rattle.resp_value.specs.declared.value.Value.{Value, out-Value};
+ghost use Rattle.resp_from.specs.Conversion.{Converts};
+ghost use Rattle.resp_from.specs.Replies.{bare};
+ghost use Rattle.resp_from.specs.Tuples.{FindsHeld, Holds, held, in_turn, of_length};
+
+use crate::bare::without_attribute;
+use crate::convert::FromRedisValue;
+use resp_value::{Items, ParsingError, Value};
+use std::alloc::{AllocError, Global};
+use std::vec::IntoIter;
+
+/// The keys and values of a map, in turn.
+fn values_in_turn(alloc: Global, pairs: Items<(Value, Value)>) -> Result<Vec<Value>, AllocError>
+    ensures { IfOk result (λ v. v.items ≡ in_turn pairs) }
+{
+    let mut values = Vec::new(alloc);
+    for (key, value) in pairs.into_vec() {
+        values.push(key)?;
+        values.push(value)?;
+    }
+    Ok(values)
+}
+
+fn if_long(values: Vec<Value>, width: usize) -> Result<Vec<Value>, ParsingError>
+    ensures finds { FindsHeld (of_length width values.items) result }
+{
+    if values.len() == width {
+        Ok(values)
+    } else {
+        Err(ParsingError::from("Array response of wrong dimension"))
+    }
+}
+
+/// The `width` values that a reply holds.
+fn held_values(alloc: Global, width: usize, reply: Value) -> Result<Vec<Value>, ParsingError>
+    ensures finds { FindsHeld (held width (out-Value (bare reply))) result }
+{
+    match without_attribute(reply) {
+        Value::Array(items) => if_long(items.into_vec(), width),
+        Value::Set(items) => if_long(items.into_vec(), width),
+        Value::Map(pairs) => if_long(values_in_turn(alloc, pairs)?, width),
+        _ => Err(ParsingError::from("Response type not tuple compatible")),
+    }
+}
+
+/// What is left of a tuple's parts: none, or one and what is left then.
+pub trait Parts: Sized + Drop {
+    // Holds of values and the parts that they are.
+    ghost of_values: { List Value → Self → Type 0 };
+
+    /// Converts all values that are left.
+    fn take(alloc: Global, values: &mut IntoIter<Value>) -> Result<Self, ParsingError>
+        ensures converts { Converts (of_values (into_iter_items values.old)) result };
+}
+
+impl Parts for () {
+    ghost use Rattle.resp_from.specs.Tuples.{End};
+
+    ghost of_values = { λ values _. End values };
+
+    fn take(_alloc: Global, values: &mut IntoIter<Value>) -> Result<(), ParsingError> {
+        match values.next() {
+            Some(_) => Err(ParsingError::from("Array response of wrong dimension")),
+            None => Ok(()),
+        }
+    }
+}
+
+impl<A: FromRedisValue, R: Parts> Parts for (A, R) {
+    ghost use Rattle.resp_from.specs.Tuples.{First};
+
+    ghost of_values = { λ values x. First A.of_value x.0 (λ rest. R.of_values rest x.1) values };
+
+    fn take(alloc: Global, values: &mut IntoIter<Value>) -> Result<(A, R), ParsingError> {
+        match values.next() {
+            Some(value) => {
+                let first = A::from_redis_value(alloc, value)?;
+                let rest = R::take(alloc, values)?;
+                Ok((first, rest))
+            }
+            None => Err(ParsingError::from("Array response of wrong dimension")),
+        }
+    }
+}
+
+/// All parts of a tuple of this width.
+fn parts_of<P: Parts>(alloc: Global, width: usize, reply: Value) -> Result<P, ParsingError>
+    ensures converts { Converts (λ parts. Holds width reply (λ values. P.of_values values parts)) result }
+{
+    P::take(alloc, &mut held_values(alloc, width, reply)?.into_iter())
+}
+
+/// A tuple is an array or a set of as many values, or a map of half as many pairs, part by part,
+/// each key before its value. At most one attribute is removed.
+impl<A: FromRedisValue> FromRedisValue for (A,) {
+    ghost use Rattle.std.specs.Prelude.{false};
+    ghost use Rattle.resp_from.specs.Tuples.{Holds, First, End};
+
+    const WIDTH: usize = 1;
+
+    const BYTES: bool = false;
+
+    ghost WIDTH = { 1 };
+
+    ghost BYTES = { false };
+
+    ghost of_value = { λ reply x. Holds 1 reply (First A.of_value x.0 End) };
+
+    fn from_redis_value(alloc: Global, value: Value) -> Result<(A,), ParsingError> {
+        let (a, ()) = parts_of(alloc, 1, value)?;
+        Ok((a,))
+    }
+}
+
+impl<A: FromRedisValue, B: FromRedisValue> FromRedisValue for (A, B) {
+    ghost use Rattle.std.specs.Prelude.{false};
+    ghost use Rattle.resp_from.specs.Tuples.{Holds, First, End};
+
+    const WIDTH: usize = 2;
+
+    const BYTES: bool = false;
+
+    ghost WIDTH = { 2 };
+
+    ghost BYTES = { false };
+
+    ghost of_value = { λ reply x. Holds 2 reply (First A.of_value x.0 (First B.of_value x.1 End)) };
+
+    fn from_redis_value(alloc: Global, value: Value) -> Result<(A, B), ParsingError> {
+        let (a, (b, ())) = parts_of(alloc, 2, value)?;
+        Ok((a, b))
+    }
+}
+
+impl<A: FromRedisValue, B: FromRedisValue, C: FromRedisValue> FromRedisValue for (A, B, C) {
+    ghost use Rattle.std.specs.Prelude.{false};
+    ghost use Rattle.resp_from.specs.Tuples.{Holds, First, End};
+
+    const WIDTH: usize = 3;
+
+    const BYTES: bool = false;
+
+    ghost WIDTH = { 3 };
+
+    ghost BYTES = { false };
+
+    ghost of_value = { λ reply x. Holds 3 reply (First A.of_value x.0 (First B.of_value x.1 (First C.of_value x.2 End))) };
+
+    fn from_redis_value(alloc: Global, value: Value) -> Result<(A, B, C), ParsingError> {
+        let (a, (b, (c, ()))) = parts_of(alloc, 3, value)?;
+        Ok((a, b, c))
+    }
+}
+
+impl<A: FromRedisValue, B: FromRedisValue, C: FromRedisValue, D: FromRedisValue> FromRedisValue
+    for (A, B, C, D) {
+    ghost use Rattle.std.specs.Prelude.{false};
+    ghost use Rattle.resp_from.specs.Tuples.{Holds, First, End};
+
+    const WIDTH: usize = 4;
+
+    const BYTES: bool = false;
+
+    ghost WIDTH = { 4 };
+
+    ghost BYTES = { false };
+
+    ghost of_value = { λ reply x. Holds 4 reply (First A.of_value x.0 (First B.of_value x.1 (First C.of_value x.2 (First D.of_value x.3 End)))) };
+
+    fn from_redis_value(alloc: Global, value: Value) -> Result<(A, B, C, D), ParsingError> {
+        let (a, (b, (c, (d, ())))) = parts_of(alloc, 4, value)?;
+        Ok((a, b, c, d))
+    }
+}
+
+impl<
+    A: FromRedisValue,
+    B: FromRedisValue,
+    C: FromRedisValue,
+    D: FromRedisValue,
+    E: FromRedisValue,
+> FromRedisValue for (A, B, C, D, E) {
+    ghost use Rattle.std.specs.Prelude.{false};
+    ghost use Rattle.resp_from.specs.Tuples.{Holds, First, End};
+
+    const WIDTH: usize = 5;
+
+    const BYTES: bool = false;
+
+    ghost WIDTH = { 5 };
+
+    ghost BYTES = { false };
+
+    ghost of_value = { λ reply x. Holds 5 reply (First A.of_value x.0 (First B.of_value x.1 (First C.of_value x.2 (First D.of_value x.3 (First E.of_value x.4 End))))) };
+
+    fn from_redis_value(alloc: Global, value: Value) -> Result<(A, B, C, D, E), ParsingError> {
+        let (a, (b, (c, (d, (e, ()))))) = parts_of(alloc, 5, value)?;
+        Ok((a, b, c, d, e))
+    }
+}
+
+impl<
+    A: FromRedisValue,
+    B: FromRedisValue,
+    C: FromRedisValue,
+    D: FromRedisValue,
+    E: FromRedisValue,
+    F: FromRedisValue,
+> FromRedisValue for (A, B, C, D, E, F) {
+    ghost use Rattle.std.specs.Prelude.{false};
+    ghost use Rattle.resp_from.specs.Tuples.{Holds, First, End};
+
+    const WIDTH: usize = 6;
+
+    const BYTES: bool = false;
+
+    ghost WIDTH = { 6 };
+
+    ghost BYTES = { false };
+
+    ghost of_value = { λ reply x. Holds 6 reply (First A.of_value x.0 (First B.of_value x.1 (First C.of_value x.2 (First D.of_value x.3 (First E.of_value x.4 (First F.of_value x.5 End)))))) };
+
+    fn from_redis_value(alloc: Global, value: Value) -> Result<(A, B, C, D, E, F), ParsingError> {
+        let (a, (b, (c, (d, (e, (f, ())))))) = parts_of(alloc, 6, value)?;
+        Ok((a, b, c, d, e, f))
+    }
+}
+
+impl<
+    A: FromRedisValue,
+    B: FromRedisValue,
+    C: FromRedisValue,
+    D: FromRedisValue,
+    E: FromRedisValue,
+    F: FromRedisValue,
+    G: FromRedisValue,
+> FromRedisValue for (A, B, C, D, E, F, G) {
+    ghost use Rattle.std.specs.Prelude.{false};
+    ghost use Rattle.resp_from.specs.Tuples.{Holds, First, End};
+
+    const WIDTH: usize = 7;
+
+    const BYTES: bool = false;
+
+    ghost WIDTH = { 7 };
+
+    ghost BYTES = { false };
+
+    ghost of_value = { λ reply x. Holds 7 reply (First A.of_value x.0 (First B.of_value x.1 (First C.of_value x.2 (First D.of_value x.3 (First E.of_value x.4 (First F.of_value x.5 (First G.of_value x.6 End))))))) };
+
+    fn from_redis_value(
+        alloc: Global,
+        value: Value,
+    ) -> Result<(A, B, C, D, E, F, G), ParsingError> {
+        let (a, (b, (c, (d, (e, (f, (g, ()))))))) = parts_of(alloc, 7, value)?;
+        Ok((a, b, c, d, e, f, g))
+    }
+}
+
+impl<
+    A: FromRedisValue,
+    B: FromRedisValue,
+    C: FromRedisValue,
+    D: FromRedisValue,
+    E: FromRedisValue,
+    F: FromRedisValue,
+    G: FromRedisValue,
+    H: FromRedisValue,
+> FromRedisValue for (A, B, C, D, E, F, G, H) {
+    ghost use Rattle.std.specs.Prelude.{false};
+    ghost use Rattle.resp_from.specs.Tuples.{Holds, First, End};
+
+    const WIDTH: usize = 8;
+
+    const BYTES: bool = false;
+
+    ghost WIDTH = { 8 };
+
+    ghost BYTES = { false };
+
+    ghost of_value = { λ reply x. Holds 8 reply (First A.of_value x.0 (First B.of_value x.1 (First C.of_value x.2 (First D.of_value x.3 (First E.of_value x.4 (First F.of_value x.5 (First G.of_value x.6 (First H.of_value x.7 End)))))))) };
+
+    fn from_redis_value(
+        alloc: Global,
+        value: Value,
+    ) -> Result<(A, B, C, D, E, F, G, H), ParsingError> {
+        let (a, (b, (c, (d, (e, (f, (g, (h, ())))))))) = parts_of(alloc, 8, value)?;
+        Ok((a, b, c, d, e, f, g, h))
+    }
+}
+
+impl<
+    A: FromRedisValue,
+    B: FromRedisValue,
+    C: FromRedisValue,
+    D: FromRedisValue,
+    E: FromRedisValue,
+    F: FromRedisValue,
+    G: FromRedisValue,
+    H: FromRedisValue,
+    I: FromRedisValue,
+> FromRedisValue for (A, B, C, D, E, F, G, H, I) {
+    ghost use Rattle.std.specs.Prelude.{false};
+    ghost use Rattle.resp_from.specs.Tuples.{Holds, First, End};
+
+    const WIDTH: usize = 9;
+
+    const BYTES: bool = false;
+
+    ghost WIDTH = { 9 };
+
+    ghost BYTES = { false };
+
+    ghost of_value = { λ reply x. Holds 9 reply (First A.of_value x.0 (First B.of_value x.1 (First C.of_value x.2 (First D.of_value x.3 (First E.of_value x.4 (First F.of_value x.5 (First G.of_value x.6 (First H.of_value x.7 (First I.of_value x.8 End))))))))) };
+
+    fn from_redis_value(
+        alloc: Global,
+        value: Value,
+    ) -> Result<(A, B, C, D, E, F, G, H, I), ParsingError> {
+        let (a, (b, (c, (d, (e, (f, (g, (h, (i, ()))))))))) = parts_of(alloc, 9, value)?;
+        Ok((a, b, c, d, e, f, g, h, i))
+    }
+}
+
+impl<
+    A: FromRedisValue,
+    B: FromRedisValue,
+    C: FromRedisValue,
+    D: FromRedisValue,
+    E: FromRedisValue,
+    F: FromRedisValue,
+    G: FromRedisValue,
+    H: FromRedisValue,
+    I: FromRedisValue,
+    J: FromRedisValue,
+> FromRedisValue for (A, B, C, D, E, F, G, H, I, J) {
+    ghost use Rattle.std.specs.Prelude.{false};
+    ghost use Rattle.resp_from.specs.Tuples.{Holds, First, End};
+
+    const WIDTH: usize = 10;
+
+    const BYTES: bool = false;
+
+    ghost WIDTH = { 10 };
+
+    ghost BYTES = { false };
+
+    ghost of_value = { λ reply x. Holds 10 reply (First A.of_value x.0 (First B.of_value x.1 (First C.of_value x.2 (First D.of_value x.3 (First E.of_value x.4 (First F.of_value x.5 (First G.of_value x.6 (First H.of_value x.7 (First I.of_value x.8 (First J.of_value x.9 End)))))))))) };
+
+    fn from_redis_value(
+        alloc: Global,
+        value: Value,
+    ) -> Result<(A, B, C, D, E, F, G, H, I, J), ParsingError> {
+        let (a, (b, (c, (d, (e, (f, (g, (h, (i, (j, ())))))))))) = parts_of(alloc, 10, value)?;
+        Ok((a, b, c, d, e, f, g, h, i, j))
+    }
+}
+
+impl<
+    A: FromRedisValue,
+    B: FromRedisValue,
+    C: FromRedisValue,
+    D: FromRedisValue,
+    E: FromRedisValue,
+    F: FromRedisValue,
+    G: FromRedisValue,
+    H: FromRedisValue,
+    I: FromRedisValue,
+    J: FromRedisValue,
+    K: FromRedisValue,
+> FromRedisValue for (A, B, C, D, E, F, G, H, I, J, K) {
+    ghost use Rattle.std.specs.Prelude.{false};
+    ghost use Rattle.resp_from.specs.Tuples.{Holds, First, End};
+
+    const WIDTH: usize = 11;
+
+    const BYTES: bool = false;
+
+    ghost WIDTH = { 11 };
+
+    ghost BYTES = { false };
+
+    ghost of_value = { λ reply x. Holds 11 reply (First A.of_value x.0 (First B.of_value x.1 (First C.of_value x.2 (First D.of_value x.3 (First E.of_value x.4 (First F.of_value x.5 (First G.of_value x.6 (First H.of_value x.7 (First I.of_value x.8 (First J.of_value x.9 (First K.of_value x.10 End))))))))))) };
+
+    fn from_redis_value(
+        alloc: Global,
+        value: Value,
+    ) -> Result<(A, B, C, D, E, F, G, H, I, J, K), ParsingError> {
+        let (a, (b, (c, (d, (e, (f, (g, (h, (i, (j, (k, ()))))))))))) = parts_of(alloc, 11, value)?;
+        Ok((a, b, c, d, e, f, g, h, i, j, k))
+    }
+}
+
+impl<
+    A: FromRedisValue,
+    B: FromRedisValue,
+    C: FromRedisValue,
+    D: FromRedisValue,
+    E: FromRedisValue,
+    F: FromRedisValue,
+    G: FromRedisValue,
+    H: FromRedisValue,
+    I: FromRedisValue,
+    J: FromRedisValue,
+    K: FromRedisValue,
+    L: FromRedisValue,
+> FromRedisValue for (A, B, C, D, E, F, G, H, I, J, K, L) {
+    ghost use Rattle.std.specs.Prelude.{false};
+    ghost use Rattle.resp_from.specs.Tuples.{Holds, First, End};
+
+    const WIDTH: usize = 12;
+
+    const BYTES: bool = false;
+
+    ghost WIDTH = { 12 };
+
+    ghost BYTES = { false };
+
+    ghost of_value = { λ reply x. Holds 12 reply (First A.of_value x.0 (First B.of_value x.1 (First C.of_value x.2 (First D.of_value x.3 (First E.of_value x.4 (First F.of_value x.5 (First G.of_value x.6 (First H.of_value x.7 (First I.of_value x.8 (First J.of_value x.9 (First K.of_value x.10 (First L.of_value x.11 End)))))))))))) };
+
+    fn from_redis_value(
+        alloc: Global,
+        value: Value,
+    ) -> Result<(A, B, C, D, E, F, G, H, I, J, K, L), ParsingError> {
+        let (a, (b, (c, (d, (e, (f, (g, (h, (i, (j, (k, (l, ())))))))))))) = parts_of(
+            alloc, 12, value,
+        )?;
+        Ok((a, b, c, d, e, f, g, h, i, j, k, l))
+    }
+}
