@@ -4,7 +4,8 @@ use Rattle.std.specs.Str.{is_utf8}
 use Rattle.std.proofs.lemmas.Grind.{common_steps}
 use Rattle.resp_value.specs.declared.value.Value.{Value, BulkString, Attribute, Nil}
 use Rattle.resp_value.specs.Names.{kind_named}
-use Rattle.resp_parse.specs.Grammar.{push_kind, last_part, attribute, pairs}
+use Rattle.resp_parse.specs.Grammar.{push_kind, last_part, attribute}
+use Rattle.resp_value.specs.Views.{pairs}
 
 pub push_kind-text : (v : Value) (name : List ℕ) → v ≡ BulkString name → is_utf8 name ≡ true → push_kind v ≡ Some (kind_named name)
 push_kind-text v name e u = ap push_kind e ∙ rw u refl

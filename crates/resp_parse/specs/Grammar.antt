@@ -9,6 +9,7 @@ use Rattle.resp_value.specs.declared.errors.kinds.FrameFault.{FrameFault}
 use Rattle.resp_value.specs.declared.errors.kinds.FrameFault.TheVariants.{TooDeep, UnknownType, LineNotUtf8, NotInteger, NegativeLength, BodyEnd, NotBoolean, NotDouble, NoVerbatimFormat, BadPushKind}
 use Rattle.resp_value.specs.Names.{kind_named, format_named}
 use Rattle.resp_value.specs.ServerErrors.{server_error}
+use Rattle.resp_value.specs.Views.{pairs}
 use Rattle.resp_parse.specs.Lines.{crlf, NoBreak}
 use Rattle.resp_parse.specs.Number.{number}
 use Rattle.resp_parse.specs.Double.{double}
@@ -76,12 +77,6 @@ verbatim_text text = cond (position_or_len is_colon text == length text)
 -- = a verbatim string
 abbrev pub verbatim : List ℕ → Result Value FrameFault
 verbatim bytes = verbatim_text (lossy bytes)
-
--- a list two by two; an odd last one is left out
-abbrev pub pairs : List Value → List (Value × Value)
-pairs [] = []
-pairs (key ∷ []) = []
-pairs (key ∷ value ∷ rest) = (key, value) ∷ pairs rest
 
 -- the last of a list that isn't empty
 abbrev pub last_part : List Value → Value

@@ -10,7 +10,8 @@ use Rattle.resp_parse.specs.declared.shape.Shape.{Shape}
 use Rattle.resp_parse.specs.declared.shape.Shape.TheVariants.{Whole, Body, Parts}
 use Rattle.resp_parse.specs.declared.stop.Stop.{Stop}
 use Rattle.resp_parse.specs.declared.stop.Stop.TheVariants.{Memory, Unfinished, Fault}
-use Rattle.resp_parse.specs.Grammar.{Next, done, body, parts, wrong, bulk_error, verbatim, pairs, attribute, push}
+use Rattle.resp_parse.specs.Grammar.{Next, done, body, parts, wrong, bulk_error, verbatim, attribute, push}
+use Rattle.resp_value.specs.Views.{pairs}
 
 -- what a body makes
 abbrev pub body_value : BodyKind → List ℕ → Result Value FrameFault

@@ -1,5 +1,6 @@
 -- What a parser holds.
 use Rattle.std.specs.Prelude.{◌≡◌, ℕ, Bool, true, false, List, codes}
+use Rattle.std.proofs.Props.{props}
 use Rattle.resp_value.specs.declared.errors.parsing_error.ParsingError.TheVariants as parsing
 use Rattle.resp_value.specs.declared.errors.redis_error.RedisError.{RedisError}
 use Rattle.resp_value.specs.declared.errors.redis_error.RedisError.TheVariants as form
@@ -13,6 +14,10 @@ pub record State : Type 0 where
 unfoldable pub StandsAfter : State → List ℕ → Type 0
 StandsAfter s b = (s.failed ≡ false) × (b ≡ s.unseen)
 
+-- the parser stands after some bytes
+abbrev pub IsUsable : State → Type 0
+IsUsable s = (b : List ℕ) × StandsAfter s b
+
 -- the parser has failed, and b are the bytes from the last value that it handed out up to the failure
 unfoldable pub FailedAfter : State → List ℕ → Type 0
 FailedAfter s b = (s.failed ≡ true) × (b ≡ s.unseen)
@@ -25,3 +30,8 @@ pub record IsAtRest (s : State) : Type 0 where
 -- what a parser that has failed answers
 abbrev pub has_failed : RedisError
 has_failed = form.Parse (parsing.Described (codes "parser has failed"))
+
+-- there is at most one proof that a parser is at rest
+pub IsAtRest-prop : (s : State) → IsProp (IsAtRest s)
+unfolding StandsAfter
+IsAtRest-prop s = hlevel props

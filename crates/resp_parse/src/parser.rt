@@ -1,7 +1,7 @@
 //! A parser of bytes that come in pieces.
 
 ghost use Rattle.std.specs.Prelude.{◌≡◌, ◌≢◌, ◌↔◌, ◌++◌, ◌⊎◌, [], true, Err, List, ℕ, IsTrue, OnOk};
-ghost use Rattle.resp_parse.specs.State.{StandsAfter, FailedAfter, IsAtRest, has_failed};
+ghost use Rattle.resp_parse.specs.State.{StandsAfter, FailedAfter, IsAtRest, IsUsable, has_failed};
 ghost use Rattle.resp_parse.specs.Takes.{Feeds, Takes};
 ghost use Rattle.resp_parse.specs.Asks.{Asks};
 ghost use Rattle.resp_parse.specs.Ends.{end_of};
@@ -79,13 +79,14 @@ impl Parser {
     /// Bytes that can't begin a value are refused as [`RedisError::Parse`] with their
     /// [`FrameFault`](resp_value::FrameFault); values before them are still handed out. Values are
     /// read down to 100 levels, the outermost being the first.
-    pub fn take_value(&mut self, alloc: Global) -> RedisResult<Option<Value>>
+    pub fn take_value(&mut self) -> RedisResult<Option<Value>>
         ensures failed { self.old.failed ≡ true → (result ≡ Err has_failed) × (self.new ≡ self.old) }
         ensures takes { (b : List ℕ) → StandsAfter self.old b → Takes b self.new result }
     {
         if self.failed {
             return Err(failed_before());
         }
+        let alloc = *self.held.allocator();
         match first_value(alloc, &self.held[self.seen..]) {
             Ok((value, len)) => {
                 self.seen += len;
@@ -111,20 +112,17 @@ impl Parser {
     /// is refused as [`RedisError::Io`] with its kind; the parser then holds what came before it, and
     /// the call may be repeated. The source is asked for at most 4,096 bytes at a time, and only while
     /// the bytes that are held are unfinished.
-    pub fn parse_from<S: ReplySource>(
-        &mut self,
-        alloc: Global,
-        source: &mut S,
-    ) -> RedisResult<Value>
+    pub fn parse_from<S: ReplySource>(&mut self, source: &mut S) -> RedisResult<Value>
         ensures failed { self.old.failed ≡ true → (result ≡ Err has_failed) × (self.new ≡ self.old) × (S.source source.new ≡ S.source source.old) }
         ensures parses { (b : List ℕ) → StandsAfter self.old b → (S.source source.old).tells ≡ true → Parses b self.new (S.source source.old) (S.source source.new) result }
+        ensures rest { IsUsable self.old → OnOk result (IsAtRest self.new) }
         ensures tells { (S.source source.old).tells ≡ true → (S.source source.new).tells ≡ true }
     {
         if self.failed {
             return Err(failed_before());
         }
         for _ in 0..u64::MAX {
-            if let Some(value) = self.take_value(alloc)? {
+            if let Some(value) = self.take_value()? {
                 return Ok(value);
             }
             self.ask(source)?;
@@ -137,12 +135,12 @@ impl Parser {
     /// past the value are held for the next call.
     ///
     /// Refusals are those of [`Parser::parse_from`]; the reader is asked in the same way.
-    pub fn parse_value<R: Read + Drop>(&mut self, alloc: Global, reader: R) -> RedisResult<Value>
+    pub fn parse_value<R: Read + Drop>(&mut self, reader: R) -> RedisResult<Value>
         ensures failed { self.old.failed ≡ true → (result ≡ Err has_failed) × (self.new ≡ self.old) }
         ensures parses { (b : List ℕ) → StandsAfter self.old b → (end_of (R.remaining reader) 0).tells ≡ true → ParsesReader b self.new (end_of (R.remaining reader) 0) result }
     {
         let mut source = Reading::new(reader);
-        self.parse_from(alloc, &mut source)
+        self.parse_from(&mut source)
     }
 
     /// Whether the parser has failed for good.
@@ -163,6 +161,7 @@ impl Parser {
     /// Asks the source once, for at most 4,096 bytes, and holds what it gives.
     fn ask<S: ReplySource>(&mut self, source: &mut S) -> RedisResult<()>
         ensures asks { (b : List ℕ) → StandsAfter self.old b → (S.source source.old).tells ≡ true → Asks b self.new (S.source source.old) (S.source source.new) result }
+        ensures usable { IsUsable self.old → OnOk result (IsUsable self.new) }
         ensures tells { (S.source source.old).tells ≡ true → (S.source source.new).tells ≡ true }
     {
         self.compact();

@@ -1,7 +1,7 @@
 //! Worked replies, fed whole and in pieces, and readers that end or fail in the middle.
 
 use crate::*;
-use resp_value::{FrameFault, IoKind, Items, Value};
+use resp_value::{FrameFault, IoKind, Text, Value};
 use std::io;
 use std::io::{Cursor, Read};
 use std::test::Fail;
@@ -13,7 +13,7 @@ fn shown(rt: &HostRuntime, bytes: &[u8]) -> Result<String, Fail> {
     parser.feed(bytes)?;
     let mut text = String::new(rt.alloc());
     for _ in 0..bytes.len() + 1 {
-        match parser.take_value(rt.alloc()) {
+        match parser.take_value() {
             Ok(Some(value)) => write!(text, "{value:?} ")?,
             Ok(None) => {
                 if parser.in_progress() {
@@ -111,6 +111,19 @@ fn bodies(rt: HostRuntime) -> Result<(), Fail> {
     Ok(())
 }
 
+/// Whether the value is an attribute of one pair, a text and 1.
+fn describes_one(value: &Value) -> bool {
+    match value {
+        Value::Attribute { attributes, .. } => {
+            matches!(
+                attributes.as_slice(),
+                [(Value::SimpleString(_), Value::Int(1))]
+            )
+        }
+        _ => false,
+    }
+}
+
 #[test]
 fn aggregates(rt: HostRuntime) -> Result<(), Fail> {
     for (bytes, want) in [
@@ -147,18 +160,8 @@ fn aggregates(rt: HostRuntime) -> Result<(), Fail> {
     ] {
         assert_eq!(rt; shown(&rt, bytes)?.as_str(), want);
     }
-    let mut parser = Parser::new(rt.alloc());
-    parser.feed(b"|1\r\n+k\r\n:1\r\n:2\r\n")?;
-    let attributes = match parser.take_value(rt.alloc())? {
-        Some(Value::Attribute { attributes, .. }) => attributes,
-        _ => Items::new(rt.alloc()),
-    };
-    assert!(rt;
-        matches!(
-            attributes.as_slice(),
-            [(Value::SimpleString(_), Value::Int(1))]
-        )
-    );
+    let attribute = parse_redis_value(rt.alloc(), b"|1\r\n+k\r\n:1\r\n:2\r\n")?;
+    assert!(rt; describes_one(&attribute));
     Ok(())
 }
 
@@ -193,23 +196,28 @@ fn pieces(rt: HostRuntime) -> Result<(), Fail> {
     let mut parser = Parser::new(rt.alloc());
     assert!(rt; !parser.in_progress());
     parser.feed(b"+a\r")?;
-    assert!(rt; parser.take_value(rt.alloc())?.is_none());
+    assert!(rt; parser.take_value()?.is_none());
     assert!(rt; parser.in_progress());
     parser.feed(b"\n:1\r\n")?;
-    assert!(rt;
-        matches!(parser.take_value(rt.alloc())?, Some(Value::SimpleString(text)) if text.as_str() == "a")
-    );
-    assert!(rt; matches!(parser.take_value(rt.alloc())?, Some(Value::Int(1))));
-    assert!(rt; parser.take_value(rt.alloc())?.is_none());
+    let text = Value::SimpleString(Text::from_str(rt.alloc(), "a")?);
+    assert_eq!(rt; parser.take_value()?, Some(text));
+    assert!(rt; matches!(parser.take_value()?, Some(Value::Int(1))));
+    assert!(rt; parser.take_value()?.is_none());
     assert!(rt; !parser.in_progress());
+    Ok(())
+}
+
+#[test]
+fn single_bytes(rt: HostRuntime) -> Result<(), Fail> {
+    let mut parser = Parser::new(rt.alloc());
     let bytes = b"*2\r\n$3\r\nabc\r\n:7\r\n";
     for at in 0..bytes.len() {
-        assert!(rt; parser.take_value(rt.alloc())?.is_none());
+        assert!(rt; parser.take_value()?.is_none());
         parser.feed(&bytes[at..at + 1])?;
     }
-    assert!(rt; matches!(parser.take_value(rt.alloc())?, Some(Value::Array(_))));
+    assert!(rt; matches!(parser.take_value()?, Some(Value::Array(_))));
     parser.feed(b"@")?;
-    assert!(rt; parser.take_value(rt.alloc()).is_err());
+    assert!(rt; parser.take_value().is_err());
     assert!(rt; parser.is_failed() && parser.in_progress());
     assert_eq!(rt;
         parser
@@ -264,17 +272,17 @@ impl Read for Noting {
 fn sources(rt: HostRuntime) -> Result<(), Fail> {
     let mut parser = Parser::new(rt.alloc());
     assert_eq!(rt;
-        parser.parse_value(rt.alloc(), &b":7\r\n+x\r\n"[..])?,
+        parser.parse_value(&b":7\r\n+x\r\n"[..])?,
         Value::Int(7)
     );
     let mut source = Reading::new(Cursor::new(&b"*1\r\n"[..]));
     assert!(rt;
         matches!(
-            parser.parse_from(rt.alloc(), &mut source)?,
+            parser.parse_from(&mut source)?,
             Value::SimpleString(_)
         )
     );
-    let early = parser.parse_from(rt.alloc(), &mut source);
+    let early = parser.parse_from(&mut source);
     assert_eq!(rt;
         early.err().and_then(|e| e.io_kind()),
         Some(IoKind::UnexpectedEof)
@@ -282,7 +290,7 @@ fn sources(rt: HostRuntime) -> Result<(), Fail> {
     assert!(rt; parser.is_failed());
     let mut parser = Parser::new(rt.alloc());
     let mut source = Reading::new(Failing { reads: 0 });
-    let broken = parser.parse_from(rt.alloc(), &mut source);
+    let broken = parser.parse_from(&mut source);
     assert_eq!(rt;
         broken.err().and_then(|e| e.io_kind()),
         Some(IoKind::TimedOut)
@@ -290,9 +298,9 @@ fn sources(rt: HostRuntime) -> Result<(), Fail> {
     assert!(rt; !parser.is_failed() && parser.in_progress());
     assert!(rt; source.into_inner().reads == 2);
     parser.feed(b"2\r\n")?;
-    assert_eq!(rt; parser.take_value(rt.alloc())?, Some(Value::Int(12)));
+    assert_eq!(rt; parser.take_value()?, Some(Value::Int(12)));
     let mut source = Reading::new(Noting { most: 0 });
-    assert!(rt; parser.parse_from(rt.alloc(), &mut source).is_err());
+    assert!(rt; parser.parse_from(&mut source).is_err());
     assert_eq!(rt; source.into_inner().most, 4096);
     Ok(())
 }

@@ -3,7 +3,8 @@
 ghost use Rattle.std.specs.Prelude.{◌≡◌, [], string_bytes};
 ghost use Rattle.resp_value.specs.declared.value.Value.TheVariants as value;
 ghost use Rattle.resp_value.specs.ServerErrors.{server_error};
-ghost use Rattle.resp_parse.specs.Grammar.{simple, bulk_error, lossy, verbatim, pairs as pairs_of, attribute, push_kind, push, empty_push};
+ghost use Rattle.resp_value.specs.Views.{pairs as pairs_of};
+ghost use Rattle.resp_parse.specs.Grammar.{simple, bulk_error, lossy, verbatim, attribute, push_kind, push, empty_push};
 ghost use Rattle.resp_parse.specs.Double.{double};
 ghost use Rattle.resp_parse.specs.Shows.{IsOrMemory, Makes, DoubleOf};
 

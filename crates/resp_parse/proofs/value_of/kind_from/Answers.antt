@@ -11,7 +11,7 @@ pub returns-in-Ok : goal.returns-in-Ok
 returns-in-Ok c =
     let e : string_bytes c.in-Ok.name ≡ c.in-BulkString.name = grind (arith, c.in-Ok.ensures.ok, c.into_vec.ensures) in
     let u : is_utf8 c.in-BulkString.name ≡ true = is_utf8-from_IsUtf8 _ (subst IsUtf8 e (IsUtf8-string_bytes c.in-Ok.name)) in
-    record { kind = ap (λ k. Some k) (c.get_push_kind-in-Ok.ensures ∙ ap kind_named e) ∙ sym (push_kind-text c.args.first c.in-BulkString.name c.in-BulkString.is u) }
+    record { kind = ap (λ k. Some k) (c.get_push_kind-in-Ok.ensures.kind ∙ ap kind_named e) ∙ sym (push_kind-text c.args.first c.in-BulkString.name c.in-BulkString.is u) }
 
 pub returns-in-BulkString : goal.returns-in-BulkString
 returns-in-BulkString c =

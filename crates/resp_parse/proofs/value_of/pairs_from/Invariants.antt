@@ -1,6 +1,6 @@
 use Rattle.std.proofs.Common.{◌≡◌, ◌++◌, length}
 use Rattle.std.specs.Vec.Iter.{into_iter_items}
-use Rattle.resp_parse.specs.Grammar.{pairs}
+use Rattle.resp_value.specs.Views.{pairs}
 use Rattle.resp_parse.proofs.value_of.pairs_from.Given as goal
 
 -- the pairs so far and those of the parts that are left are all the pairs

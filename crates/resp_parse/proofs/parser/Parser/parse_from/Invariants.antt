@@ -1,5 +1,5 @@
 use Rattle.std.proofs.Common.{◌≡◌, true, List, ℕ}
-use Rattle.resp_parse.specs.State.{StandsAfter}
+use Rattle.resp_parse.specs.State.{StandsAfter, IsUsable}
 use Rattle.resp_parse.specs.Asks.{Filled}
 use Rattle.resp_parse.proofs.parser.Parser.parse_from.Given as goal
 
@@ -8,6 +8,7 @@ abbrev pub invariant-loop : goal.invariant-loop
 invariant-loop g l =
     let source = g.S.ReplySource.source in
     record {
+      usable : IsUsable l.fn.self → IsUsable l.self;
       tells : (source l.fn.source).tells ≡ true → (source l.source).tells ≡ true;
       filled : (b : List ℕ) → StandsAfter l.fn.self b → (source l.fn.source).tells ≡ true → Filled b l.self (source l.fn.source) (source l.source);
     }
