@@ -1,5 +1,6 @@
 ghost use Rattle.std.specs.Prelude.{◌≡◌, ◌<◌, ◌↔◌, [], length, take, IsTrue, IfOk, slice_get};
 ghost use Rattle.std.specs.Option.{option_copied};
+ghost use Rattle.resp_args.specs.Args.{args_of};
 
 use crate::write::RedisWrite;
 use resp_value::RedisResult;
@@ -42,6 +43,13 @@ impl ArgList {
         ensures { IsTrue result ↔ (self.now ≡ []) }
     {
         self.args.is_empty()
+    }
+
+    /// The arguments as vectors of their bytes.
+    pub fn as_slice(&self) -> &[Vec<u8>]
+        ensures { args_of result.now ≡ self.now }
+    {
+        self.args.as_slice()
     }
 
     /// The bytes of the argument at this index, if there are so many.

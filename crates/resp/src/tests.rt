@@ -1,0 +1,122 @@
+//! The program over memory.
+
+use crate::program::{pack, query, read};
+use resp_core::{ByteLink, Reading, Writing};
+use std::alloc::Global;
+use std::io::Cursor;
+use std::test::Fail;
+
+type Link = ByteLink<Reading<Cursor<Vec<u8>>>, Writing<Vec<u8>>>;
+
+fn link_over(alloc: Global, replies: &[u8]) -> Result<Link, Fail> {
+    let reader = Cursor::new(Vec::from_slice(alloc, replies)?);
+    Ok(ByteLink::new(alloc, reader, Vec::new(alloc)))
+}
+
+fn words_of(alloc: Global, words: &[&str]) -> Result<Vec<String>, Fail> {
+    let mut all = Vec::new(alloc);
+    for word in words {
+        all.push(String::from_str(alloc, word)?)?;
+    }
+    Ok(all)
+}
+
+const USAGE: &str =
+    "usage: resp pack WORD.. | resp read | resp query [--atomic] WORD.. [, WORD..]..\n";
+
+#[test]
+fn packs_a_command(rt: HostRuntime) -> Result<(), Fail> {
+    let alloc = rt.alloc();
+    for (words, packed) in [
+        (
+            words_of(alloc, &["SET", "my_key", "42"])?,
+            "*3\r\n$3\r\nSET\r\n$6\r\nmy_key\r\n$2\r\n42\r\n",
+        ),
+        (
+            words_of(alloc, &["SET", "k", ""])?,
+            "*3\r\n$3\r\nSET\r\n$1\r\nk\r\n$0\r\n\r\n",
+        ),
+    ] {
+        let mut out: Vec<u8> = Vec::new(alloc);
+        let mut err: Vec<u8> = Vec::new(alloc);
+        assert_eq!(rt; pack(alloc, words.as_slice(), &mut out, &mut err), 0);
+        assert_eq!(rt; out.as_slice(), packed.as_bytes());
+        assert!(rt; err.is_empty());
+    }
+    Ok(())
+}
+
+#[test]
+fn wrong_words(rt: HostRuntime) -> Result<(), Fail> {
+    let alloc = rt.alloc();
+    let mut out: Vec<u8> = Vec::new(alloc);
+    let mut err: Vec<u8> = Vec::new(alloc);
+    assert_eq!(rt; pack(alloc, &[], &mut out, &mut err), 1);
+    assert_eq!(rt; err.as_slice(), USAGE.as_bytes());
+    for words in [
+        words_of(alloc, &[])?,
+        words_of(alloc, &["--atomic", "GET", "k"])?,
+        words_of(alloc, &["GET", "k", ",", "GET", "l"])?,
+    ] {
+        let mut link = link_over(alloc, b"$1\r\n1\r\n")?;
+        let mut err: Vec<u8> = Vec::new(alloc);
+        assert_eq!(rt; query(alloc, words.as_slice(), &mut link, &mut err), 1);
+        assert_eq!(rt; err.as_slice(), USAGE.as_bytes());
+        let (_source, sink) = link.into_ends();
+        assert!(rt; sink.into_inner().is_empty());
+    }
+    Ok(())
+}
+
+#[test]
+fn queries_a_server(rt: HostRuntime) -> Result<(), Fail> {
+    let alloc = rt.alloc();
+    for (replies, printed, status) in [
+        ("$1\r\n1\r\n", "bulk-string('\"1\"')\n", 0),
+        ("-ERR x\r\n", "refused: response error 0:ERR\n", 2),
+        ("", "refused: I/O error\n", 2),
+        ("$1\r\n1", "refused: I/O error\n", 2),
+        (":x\r\n", "refused: parse error\n", 2),
+    ] {
+        let words = words_of(alloc, &["GET", "k"])?;
+        let mut link = link_over(alloc, replies.as_bytes())?;
+        let mut err: Vec<u8> = Vec::new(alloc);
+        assert_eq!(rt; query(alloc, words.as_slice(), &mut link, &mut err), status);
+        assert_eq!(rt; err.as_slice(), printed.as_bytes());
+        let (_source, sink) = link.into_ends();
+        assert_eq!(rt;
+            sink.into_inner().as_slice(),
+            b"*2\r\n$3\r\nGET\r\n$1\r\nk\r\n".as_slice()
+        );
+    }
+    Ok(())
+}
+
+#[test]
+fn reads_replies(rt: HostRuntime) -> Result<(), Fail> {
+    let alloc = rt.alloc();
+    for (replies, lines, refusal, status) in [
+        (
+            ":1\r\n*2\r\n+OK\r\n$-1\r\n:x\r\n",
+            "int(1)\narray([ok, nil])\n",
+            "refused: NotInteger\n",
+            2,
+        ),
+        ("$2\r\na", "", "refused: early end\n", 2),
+        (
+            "_\r\n,1.5\r\n>2\r\n+message\r\n:1\r\n",
+            "nil\ndouble(1.5)\npush(Message, [int(1)])\n",
+            "",
+            0,
+        ),
+        ("", "", "", 0),
+    ] {
+        let mut reader = Cursor::new(Vec::from_slice(alloc, replies.as_bytes())?);
+        let mut out: Vec<u8> = Vec::new(alloc);
+        let mut err: Vec<u8> = Vec::new(alloc);
+        assert_eq!(rt; read(alloc, &mut reader, &mut out, &mut err), status);
+        assert_eq!(rt; out.as_slice(), lines.as_bytes());
+        assert_eq!(rt; err.as_slice(), refusal.as_bytes());
+    }
+    Ok(())
+}

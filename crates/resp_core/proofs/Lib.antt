@@ -1,0 +1,5 @@
+pub mod Exchanging
+pub mod Fronts
+pub mod Numerals
+pub mod Sending
+pub mod Spelling

@@ -1,0 +1,8 @@
+-- What a contract sees of a command.
+use Rattle.std.specs.Prelude.{Bool}
+use Rattle.resp_args.specs.Args.{Args}
+
+-- its arguments in order, and whether its reply isn't waited for
+pub record Command : Type 0 where
+  pub args : Args
+  pub no_response : Bool

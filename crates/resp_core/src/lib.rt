@@ -1,0 +1,32 @@
+//! Commands, connections and queries of a RESP server, in the names of the crate `redis`.
+//!
+//! A command is made by [`cmd`] and sent over a connection by [`Cmd::query`], which converts its
+//! reply:
+//!
+//! ```text
+//! let mut link = ByteLink::new(alloc, reader, writer);
+//! let value: String = cmd(alloc, "GET")?.arg("my_key")?.query(&mut link)?;
+//! ```
+//!
+//! This crate gives out the public names of the crates below it, so a user names it alone.
+#![tactic(auto)]
+
+mod command;
+mod link;
+mod packing;
+mod sink;
+mod start;
+
+pub use command::Cmd;
+pub use link::{ByteLink, ConnectionLike};
+pub use packing::{law_of_packing, pack_command};
+pub use resp_args::{NumericBehavior, RedisWrite, ToRedisArgs, ToSingleRedisArg};
+pub use resp_from::{FromRedisValue, from_redis_value, from_redis_value_ref};
+pub use resp_parse::{Parser, Reading, ReplySource, parse_redis_value};
+pub use resp_value::{
+    Boxed, Description, ErrorKind, FrameFault, IoKind, Items, ParsingError, PushInfo, PushKind,
+    RedisError, RedisResult, ServerError, ServerErrorKind, Text, Value, VerbatimFormat,
+    get_push_kind,
+};
+pub use sink::{CommandSink, Writing};
+pub use start::cmd;

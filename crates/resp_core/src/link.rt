@@ -1,0 +1,136 @@
+//! Connections, and a connection over bytes.
+
+ghost use Rattle.std.specs.Prelude.{◌≡◌, [], true, false, Ok};
+ghost use Rattle.resp_parse.specs.State.{IsAtRest, IsAtRest-prop};
+ghost use Rattle.resp_core.specs.Linking.{Exchanges};
+ghost use Rattle.resp_parse.specs.Ends.{end_of};
+ghost use Rattle.resp_core.specs.Sinks.{sink_of};
+ghost use Rattle.resp_core.specs.Wire.{Wire};
+ghost use Rattle.resp_core.specs.Call.{CommandCall};
+ghost use Rattle.resp_core.specs.Linking.{wire_of};
+
+use crate::command::Cmd;
+use crate::sink::{CommandSink, Writing, send_all};
+use resp_parse::{Parser, Reading, ReplySource};
+use resp_value::{ErrorKind, RedisError, RedisResult, Value};
+use std::alloc::Global;
+use std::io::{Read, Write};
+
+/// A connection to a server: something that takes requests and answers replies.
+pub trait ConnectionLike {
+    /// What is known of it: what was sent, what is to come, whether it is broken.
+    ghost wire: { Self → Wire };
+
+    /// Sends a command and answers its reply, or `Nil` at once where none is waited for.
+    ///
+    /// Refused, in this order: where the connection broke before; for an empty command; for a
+    /// fault of sending or flushing; for a fault of receiving; for an early end; for bytes that are
+    /// no reply. Want of memory may come at any place. After a refusal of the last four, and for
+    /// want of memory once sending was begun, the connection is broken for good.
+    fn req_command(&mut self, cmd: &Cmd) -> RedisResult<Value>
+        ensures { CommandCall (wire self.old) (wire self.new) cmd.now result (λ reply. result ≡ Ok reply) };
+
+    /// Whether several commands may be sent at once.
+    fn supports_pipelining(&self) -> bool
+        ensures { result ≡ (wire self.now).pipelines };
+}
+
+/// A connection over a source and a sink of bytes.
+///
+/// A call writes its request whole and flushes, then takes the reply. The source is asked, for at
+/// most 4096 bytes a time, only while what was received is no reply yet; later bytes are kept for
+/// the next call.
+#[derive(Drop)]
+pub struct ByteLink<S, K> {
+    source: S,
+    sink: K,
+    parser: Parser,
+    broken: bool,
+    ghost rested: { broken ≡ false → IsAtRest parser } by { Prim.hlevel IsAtRest-prop },
+}
+
+impl<R: Read, W: Write> ByteLink<Reading<R>, Writing<W>> {
+    /// A link over a reader and a writer.
+    pub fn new(alloc: Global, reader: R, writer: W) -> ByteLink<Reading<R>, Writing<W>>
+        ensures { ⟦<ByteLink<Reading<R>, Writing<W>> as ConnectionLike>⟧.wire result
+            ≡ wire_of (end_of (R.remaining reader) 0) (sink_of (W.contents writer) false 0) [] false }
+    {
+        ByteLink::over(alloc, Reading::new(reader), Writing::new(writer))
+    }
+}
+
+impl<S: ReplySource, K: CommandSink> ByteLink<S, K> {
+    /// A link over a source and a sink.
+    pub fn over(alloc: Global, source: S, sink: K) -> ByteLink<S, K>
+        ensures { ⟦<ByteLink<S, K> as ConnectionLike>⟧.wire result ≡ wire_of (S.source source) (K.sink sink) [] false }
+    {
+        ByteLink {
+            source,
+            sink,
+            parser: Parser::new(alloc),
+            broken: false,
+        }
+    }
+
+    /// Whether the link is broken: every further call is refused.
+    pub fn is_broken(&self) -> bool
+        ensures { result ≡ (⟦<ByteLink<S, K> as ConnectionLike>⟧.wire self.now).broken }
+    {
+        self.broken
+    }
+
+    /// The source and the sink, by move.
+    pub fn into_ends(self) -> (S, K)
+        ensures source { S.source result.0 ≡ S.source self.source }
+        ensures sink { K.sink result.1 ≡ K.sink self.sink }
+    {
+        let ByteLink {
+            source,
+            sink,
+            parser,
+            broken: _,
+        } = self;
+        drop(parser);
+        (source, sink)
+    }
+
+    /// Sends a request, and takes its reply unless none is waited for.
+    fn exchange(&mut self, bytes: &[u8], silent: bool) -> RedisResult<Value>
+        requires { self.old.broken ≡ false }
+        ensures exchanged { Exchanges
+            (wire_of (S.source self.old.source) (K.sink self.old.sink) self.old.parser.unseen self.old.broken)
+            (wire_of (S.source self.new.source) (K.sink self.new.sink) self.new.parser.unseen self.new.broken)
+            bytes.now silent result }
+    {
+        self.broken = true;
+        send_all(&mut self.sink, bytes)?;
+        if silent {
+            self.broken = false;
+            return Ok(Value::Nil);
+        }
+        let reply = self.parser.parse_from(&mut self.source)?;
+        self.broken = false;
+        Ok(reply)
+    }
+}
+
+impl<S: ReplySource, K: CommandSink> ConnectionLike for ByteLink<S, K> {
+    ghost use Rattle.resp_core.specs.Linking.{wire_of};
+
+    ghost wire = { λ c. wire_of (S.source c.source) (K.sink c.sink) c.parser.unseen c.broken };
+
+    fn req_command(&mut self, cmd: &Cmd) -> RedisResult<Value> {
+        if self.broken {
+            return Err(RedisError::from((ErrorKind::Io, "link is broken")));
+        }
+        if cmd.is_empty() {
+            return Err(RedisError::from((ErrorKind::Client, "empty command")));
+        }
+        let bytes = cmd.get_packed_command()?;
+        self.exchange(bytes.as_slice(), cmd.is_no_response())
+    }
+
+    fn supports_pipelining(&self) -> bool {
+        true
+    }
+}

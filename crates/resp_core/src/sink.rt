@@ -1,0 +1,111 @@
+//! Where requests go.
+
+ghost use Rattle.std.specs.Prelude.{◌≡◌, ◌+◌, ◌-◌, ◌^◌, ◌-◌, min, false, length};
+ghost use Rattle.resp_parse.specs.Ends.{FailureCounted};
+ghost use Rattle.resp_core.specs.Sinks.{Sink, Sends, Flushes, SendsAll, sink_of};
+
+use resp_value::IoKind;
+use std::io::Write;
+
+/// A place to send bytes to.
+pub trait CommandSink {
+    /// What is known of it: whether it tells its bytes, the bytes sent so far, whether some of
+    /// them may wait to be flushed, and how many calls have failed.
+    ghost sink: { Self → Sink };
+
+    /// Sends a front of the bytes, at least one of any, and answers how many. An `Err` sends
+    /// nothing and raises the count of failures by one, up to the greatest `u64`.
+    fn send(&mut self, bytes: &[u8]) -> Result<usize, IoKind>
+        ensures sends { Sends (sink self.old) (sink self.new) bytes.now result };
+
+    /// Passes on what waits. An `Err` raises the count of failures.
+    fn flush(&mut self) -> Result<(), IoKind>
+        ensures flushes { Flushes (sink self.old) (sink self.new) result };
+}
+
+/// Any writer as a [`CommandSink`].
+///
+/// It counts the failures of the writer, and tells its bytes where the writer does, as over
+/// memory. A write of nothing is the fault `WriteZero`.
+#[derive(Drop)]
+pub struct Writing<W> {
+    writer: W,
+    waiting: bool,
+    failures: u64,
+}
+
+impl<W: Write> Writing<W> {
+    /// A sink over a writer, with no failures so far.
+    pub fn new(writer: W) -> Writing<W>
+        ensures { ⟦<Writing<W> as CommandSink>⟧.sink result ≡ sink_of (W.contents writer) false 0 }
+    {
+        Writing {
+            writer,
+            waiting: false,
+            failures: 0,
+        }
+    }
+
+    /// The writer, by move.
+    pub fn into_inner(self) -> W
+        ensures { (⟦<Writing<W> as CommandSink>⟧.sink self).bytes ≡ (sink_of (W.contents result) false 0).bytes }
+    {
+        let Writing {
+            writer,
+            waiting: _,
+            failures: _,
+        } = self;
+        writer
+    }
+}
+
+impl<W: Write> CommandSink for Writing<W> {
+    ghost sink = { λ s. sink_of (W.contents s.writer) s.waiting s.failures };
+
+    fn send(&mut self, bytes: &[u8]) -> Result<usize, IoKind> {
+        self.waiting = true;
+        match self.writer.write(bytes) {
+            Ok(n) => {
+                if n == 0 && !bytes.is_empty() {
+                    count_failure(&mut self.failures);
+                    return Err(IoKind::WriteZero);
+                }
+                Ok(n)
+            }
+            Err(error) => {
+                count_failure(&mut self.failures);
+                Err(IoKind::from(error.kind()))
+            }
+        }
+    }
+
+    fn flush(&mut self) -> Result<(), IoKind> {
+        match self.writer.flush() {
+            Ok(()) => {
+                self.waiting = false;
+                Ok(())
+            }
+            Err(error) => {
+                count_failure(&mut self.failures);
+                Err(IoKind::from(error.kind()))
+            }
+        }
+    }
+}
+
+fn count_failure(failures: &mut u64)
+    ensures { FailureCounted failures.old failures.new }
+{
+    *failures = failures.saturating_add(1);
+}
+
+/// Sends all of the bytes and flushes.
+pub fn send_all<K: CommandSink>(sink: &mut K, bytes: &[u8]) -> Result<(), IoKind>
+    ensures { SendsAll (K.sink sink.old) (K.sink sink.new) bytes.now result }
+{
+    let mut done: usize = 0;
+    while done < bytes.len() {
+        done += sink.send(&bytes[done..])?;
+    }
+    sink.flush()
+}

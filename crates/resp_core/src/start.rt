@@ -1,0 +1,19 @@
+//! The first step of a command.
+
+ghost use Rattle.std.specs.Prelude.{◌≡◌, ◌∷◌, [], IfOk, false};
+ghost use Rattle.resp_value.specs.Memory.{OnlyMemory};
+
+use crate::command::Cmd;
+use resp_args::RedisWrite;
+use resp_value::RedisResult;
+use std::alloc::Global;
+
+/// A command of this name, without arguments so far. Fails only for want of memory.
+pub fn cmd(alloc: Global, name: &str) -> RedisResult<Cmd>
+    ensures named { IfOk result (λ c. c ≡ record { args = name.now ∷ []; no_response = false }) }
+    ensures memory { OnlyMemory result }
+{
+    let mut command = Cmd::new(alloc);
+    command.write_arg(name.as_bytes())?;
+    Ok(command)
+}

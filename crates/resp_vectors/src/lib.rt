@@ -1,0 +1,11 @@
+//! Worked examples as tests over the public names of `resp_core`, and fakes of its devices.
+#![tactic(auto)]
+
+#[cfg(test)]
+mod commands;
+#[cfg(test)]
+mod devices;
+#[cfg(test)]
+mod links;
+#[cfg(test)]
+mod replies;
