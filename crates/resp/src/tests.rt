@@ -3,7 +3,8 @@
 use crate::program::{pack, query, read};
 use resp_core::{ByteLink, Reading, Writing};
 use std::alloc::Global;
-use std::io::Cursor;
+use std::io;
+use std::io::{Cursor, Write};
 use std::test::Fail;
 
 type Link = ByteLink<Reading<Cursor<Vec<u8>>>, Writing<Vec<u8>>>;
@@ -118,5 +119,50 @@ fn reads_replies(rt: HostRuntime) -> Result<(), Fail> {
         assert_eq!(rt; out.as_slice(), lines.as_bytes());
         assert_eq!(rt; err.as_slice(), refusal.as_bytes());
     }
+    Ok(())
+}
+
+#[test]
+fn reads_many_replies(rt: HostRuntime) -> Result<(), Fail> {
+    let alloc = rt.alloc();
+    let mut replies = Vec::new(alloc);
+    for _ in 0..50_000 {
+        replies.extend_from_slice(b"*2\r\n+a\r\n:1\r\n$3\r\nabc\r\n")?;
+    }
+    let mut out: Vec<u8> = Vec::new(alloc);
+    let mut err: Vec<u8> = Vec::new(alloc);
+    assert_eq!(rt;
+        read(alloc, &mut Cursor::new(replies), &mut out, &mut err),
+        0
+    );
+    assert_eq!(rt; out.iter().filter(|byte| **byte == b'\n').count(), 100_000);
+    Ok(())
+}
+
+/// Takes nothing.
+#[derive(Drop)]
+struct Closed;
+
+impl Write for Closed {
+    fn write(&mut self, bytes: &[u8]) -> io::Result<usize> {
+        let _ = bytes;
+        Err(io::Error::from(io::ErrorKind::BrokenPipe))
+    }
+
+    fn flush(&mut self) -> io::Result<()> {
+        Ok(())
+    }
+}
+
+#[test]
+fn streams_that_fail(rt: HostRuntime) -> Result<(), Fail> {
+    let alloc = rt.alloc();
+    let words = words_of(alloc, &["GET", "k"])?;
+    let mut err: Vec<u8> = Vec::new(alloc);
+    assert_eq!(rt; pack(alloc, words.as_slice(), &mut Closed, &mut err), 2);
+    assert_eq!(rt; err.as_slice(), b"refused: I/O error\n".as_slice());
+    assert_eq!(rt; pack(alloc, &[], &mut Closed, &mut Closed), 1);
+    let mut link = link_over(alloc, b":1\r\n")?;
+    assert_eq!(rt; query(alloc, words.as_slice(), &mut link, &mut Closed), 2);
     Ok(())
 }

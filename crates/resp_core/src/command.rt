@@ -104,10 +104,12 @@ impl Cmd {
     }
 
     /// Says whether a reply is waited for; `true`: none is.
-    pub fn set_no_response(&mut self, no_response: bool)
-        ensures { self.new ≡ record self.old { no_response = no_response } }
+    pub fn set_no_response(&mut self, no_response: bool) -> &mut Self
+        ensures same { result.ghost_name ≡ self.entry.ghost_name }
+        ensures flag { result.now ≡ record self.old { no_response = no_response } }
     {
         self.no_response = no_response;
+        self
     }
 
     /// Whether no reply is waited for.

@@ -181,6 +181,8 @@ fn levels(rt: HostRuntime) -> Result<(), Fail> {
         ("*1\r\n", "*0\r\n", "array(["),
         ("~1\r\n", "~0\r\n", "set(["),
         ("%1\r\n+a\r\n", "%0\r\n", "map([(simple-string(\"a\"), "),
+        ("|0\r\n", "_\r\n", "attribute("),
+        (">2\r\n+a\r\n", ">0\r\n", "push(Other(\"a\"), ["),
     ] {
         let deepest = nested(&rt, header, 99, last)?;
         assert!(rt; deepest.as_str().starts_with(open));

@@ -74,6 +74,6 @@ fn refused_argument_changes_nothing(rt: HostRuntime) -> Result<(), Fail> {
 fn no_response_flag(rt: HostRuntime) {
     let mut command = Cmd::new(rt.alloc());
     assert!(rt; !command.is_no_response());
-    command.set_no_response(true);
+    let _ = command.set_no_response(true);
     assert!(rt; command.is_no_response());
 }

@@ -83,7 +83,7 @@ fn empty_command_is_refused(rt: HostRuntime) -> Result<(), Fail> {
 fn no_response_reads_nothing(rt: HostRuntime) -> Result<(), Fail> {
     let mut link = link_over(rt.alloc(), b":7\r\n")?;
     let mut publish = get(rt.alloc())?;
-    publish.set_no_response(true);
+    let _ = publish.set_no_response(true);
     assert!(rt; publish.query::<Value>(&mut link)? == Value::Nil);
     let reply: i64 = get(rt.alloc())?.query(&mut link)?;
     assert_eq!(rt; reply, 7);
