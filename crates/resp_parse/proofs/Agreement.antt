@@ -12,7 +12,7 @@ use Rattle.resp_parse.proofs.Bits.{not_true}
 use Rattle.resp_parse.proofs.Then.{then-got, then-fault}
 use Rattle.resp_parse.proofs.LineReads.{line-reads, line-got, line-no_fault}
 use Rattle.resp_parse.proofs.BodyReads.{body-reads, body-fails, body-got, body-fault}
-use Rattle.resp_parse.proofs.PartReads.{Front, ReadsGood, ReadsFaulty, GivesGood, GivesFaulty, parts-reads, parts-fail, parts-got, parts-fault}
+use Rattle.resp_parse.proofs.PartReads.{Front, append-front, ReadsGood, ReadsFaulty, GivesGood, GivesFaulty, parts-reads, parts-fail, parts-got, parts-fault}
 
 made-got : (r : Result Value FrameFault) (mid rest : List ℕ) (v : Value) → made r mid ≡ got v rest → (r ≡ Ok v) × (mid ≡ rest)
 made-got (Ok w) mid rest v e = ((let i : w ≡ v = cc in ap (λ z. Ok z) i), (let i : mid ≡ rest = cc in i))
@@ -44,7 +44,7 @@ module _ (R : List ℕ → Outcome Value) (G : List ℕ → Value → Type 0) (F
       let p = then-got (read_body n bs) (λ x r. made (make x) r) v rest e in
       let q = body-got n bs p.0 p.1 p.2 in
       let m = made-got (make p.0) p.1 rest v p.3 in
-      (p.0 ++ crlf, q.1 ∙ ap (λ s. p.0 ++ (crlf ++ s)) m.1 ∙ sym (append_assoc p.0 crlf rest), (p.0, q.0, refl, m.0))
+      (p.0 ++ crlf, append-front bs p.0 (crlf ++ p.1) crlf p.1 rest q.1 refl m.1, (p.0, q.0, refl, m.0))
   next-got good (parts n make) bs rest v e =
       let p = then-got (read_parts R n bs) (λ vs r. made (make vs) r) v rest e in
       let q = parts-got R G F good n bs p.0 p.1 p.2 in
@@ -57,7 +57,7 @@ module _ (R : List ℕ → Outcome Value) (G : List ℕ → Value → Type 0) (F
   next-fault good bad (body n make) bs rest f e = elim (then-fault (read_body n bs) (λ x r. made (make x) r) f rest e) [
     | inl h ↦ let w = body-fault n bs f rest h in (w.0, w.1, inl (w.2, w.3))
     | inr p ↦ let q = body-got n bs p.0 p.1 p.2 in let m = made-fault (make p.0) p.1 rest f p.3 in
-        (p.0 ++ crlf, q.1 ∙ ap (λ s. p.0 ++ (crlf ++ s)) m.1 ∙ sym (append_assoc p.0 crlf rest), inr (p.0, q.0, refl, m.0))
+        (p.0 ++ crlf, append-front bs p.0 (crlf ++ p.1) crlf p.1 rest q.1 refl m.1, inr (p.0, q.0, refl, m.0))
   ]
   next-fault good bad (parts n make) bs rest f e = elim (then-fault (read_parts R n bs) (λ vs r. made (make vs) r) f rest e) [
     | inl h ↦ let w = parts-fault R G F good bad n bs rest f h in (w.0, w.1, inl w.2)

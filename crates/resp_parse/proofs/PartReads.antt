@@ -10,6 +10,10 @@ use Rattle.resp_parse.proofs.Then.{then-got, then-fault}
 abbrev pub Front : {X : Type 0} → (List ℕ → X → Type 0) → List ℕ → List ℕ → X → Type 0
 Front P b rest y = (x : List ℕ) × (b ≡ x ++ rest) × P x y
 
+-- a front, and then a front of what follows it
+pub append-front : (bs a mid b rest after : List ℕ) → bs ≡ a ++ mid → mid ≡ b ++ rest → rest ≡ after → bs ≡ (a ++ b) ++ after
+append-front bs a mid b rest after e f k = e ∙ ap (λ s. a ++ s) (f ∙ ap (λ s. b ++ s) k) ∙ sym (append_assoc a b after)
+
 -- reading gives what the relation says, whatever follows
 abbrev pub ReadsGood : (List ℕ → Outcome Value) → (List ℕ → Value → Type 0) → Type 0
 ReadsGood R G = (b rest : List ℕ) (v : Value) → G b v → R (b ++ rest) ≡ got v rest
@@ -65,7 +69,7 @@ module _ (R : List ℕ → Outcome Value) (G : List ℕ → Value → Type 0) (F
       let ev : p.0 ∷ q.0 ≡ vs = (let k = q.3 in cc) in
       let er : q.1 ≡ rest = (let k = q.3 in cc) in
       subst (λ ws. PartsFront (suc n) bs rest ws) ev
-      (g.0 ++ h.0, g.1 ∙ ap (λ s. g.0 ++ s) (h.1 ∙ ap (λ s. h.0 ++ s) er) ∙ sym (append_assoc g.0 h.0 rest), ap suc h.2, (g.0, h.0, refl, g.2, h.3))
+      (g.0 ++ h.0, append-front bs g.0 p.1 h.0 q.1 rest g.1 h.1 er, ap suc h.2, (g.0, h.0, refl, g.2, h.3))
 
   pub parts-fault : GivesGood R G → GivesFaulty R F → (n : ℕ) (bs rest : List ℕ) (f : FrameFault) → read_parts R n bs ≡ fault f rest → (x : List ℕ) × (bs ≡ x ++ rest) × PartWrong G F n x f
   parts-fault good bad zero bs rest f e = absurd (cc)
@@ -80,6 +84,6 @@ module _ (R : List ℕ → Outcome Value) (G : List ℕ → Value → Type 0) (F
       later : (v : Value) (r : List ℕ) → Front G bs r v → ((x : List ℕ) × (r ≡ x ++ rest) × PartWrong G F n x f) → (x : List ℕ) × (bs ≡ x ++ rest) × PartWrong G F (suc n) x f
       later v r (a, ea, ga) (b, eb, (vs, x, y, l, e2, j, w)) = (
         a ++ b,
-        ea ∙ ap (λ s. a ++ s) eb ∙ sym (append_assoc a b rest),
+        append-front bs a r b rest rest ea eb refl,
         (v ∷ vs, a ++ x, y, omega arith, ap (λ s. a ++ s) e2 ∙ sym (append_assoc a x y), (a, x, refl, ga, j), w),
       )
