@@ -90,7 +90,7 @@ is_one_each-false : (n : ℕ) (replies : List Value) → is_one_each n replies �
 is_one_each-false zero replies e = absurd (let f : true ≡ false = e in cc)
 is_one_each-false (suc n) replies e = omega arith
 
-one_list_of_pieces : (n : ℕ) (replies ps qs : List Value) → ArePieces n replies ps → ArePieces n replies qs → ps ≡ qs
+pub one_list_of_pieces : (n : ℕ) (replies ps qs : List Value) → ArePieces n replies ps → ArePieces n replies qs → ps ≡ qs
 one_list_of_pieces n replies ps qs g h = one_each n replies ps qs (is_one_each n replies) (is_one_each-false n replies) g h
 
 -- a list that isn't taken item by item is cut

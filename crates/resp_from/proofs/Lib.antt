@@ -1,4 +1,5 @@
 pub mod Conversions
 pub mod Cuts
+pub mod Functions
 pub mod Layers
 pub mod Pairs

@@ -1,6 +1,7 @@
 pub mod Conversion
 pub mod Integers
 pub mod Items
+pub mod Laws
 pub mod Lists
 pub mod Replies
 pub mod Single

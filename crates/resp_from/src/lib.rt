@@ -4,6 +4,7 @@
 mod bare;
 mod convert;
 mod integers;
+pub mod laws;
 mod lists;
 mod rules;
 mod single;

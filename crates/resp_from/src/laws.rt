@@ -1,0 +1,35 @@
+//! Laws of the conversions: functions that do nothing, and whose clauses are proved.
+
+ghost use Rattle.std.specs.Prelude.{ℕ};
+ghost use Rattle.std.specs.Int.{Width};
+ghost use Rattle.resp_from.specs.Integers.{OfInteger, SignedNumber, SignedText, UnsignedNumber, UnsignedText};
+ghost use Rattle.resp_from.specs.Items.{OfItems};
+ghost use Rattle.resp_from.specs.Laws.{IsFunction};
+ghost use Rattle.resp_from.specs.Single.{OfBool, OfOption};
+ghost use Rattle.resp_from.specs.Texts.{OfText};
+
+use crate::convert::FromRedisValue;
+
+/// A reply is one integer of a type at most, one truth value and one text. So an owned and a
+/// borrowed conversion, which meet one contract, give equal values where both succeed.
+#[tactic(auto, using(crate::proofs::Functions::signed_function, crate::proofs::Functions::unsigned_function, crate::proofs::Functions::bool_function, crate::proofs::Functions::text_function))]
+pub fn one_value_each()
+    ensures signed { (w : Width) → IsFunction (OfInteger (SignedNumber w) (SignedText w)) }
+    ensures unsigned { (k : ℕ) → IsFunction (OfInteger (UnsignedNumber k) (UnsignedText k)) }
+    ensures truth { IsFunction OfBool }
+    ensures text { IsFunction OfText }
+{}
+
+/// The same of an `Option`, where it holds of what is inside.
+#[tactic(auto, using(crate::proofs::Functions::option_function))]
+pub fn one_option_each<T: FromRedisValue>()
+    requires inside { IsFunction T.of_value }
+    ensures option { IsFunction (OfOption T.of_value) }
+{}
+
+/// The same of the items of a `Vec`, where it holds of each item.
+#[tactic(auto, using(crate::proofs::Functions::items_function))]
+pub fn one_list_each<T: FromRedisValue>()
+    requires inside { IsFunction T.of_value }
+    ensures items { IsFunction (OfItems T.WIDTH T.BYTES T.of_value) }
+{}
