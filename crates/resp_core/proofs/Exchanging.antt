@@ -1,20 +1,14 @@
 -- A request, and then its reply.
-use Rattle.std.proofs.Common.{◌≡◌, ◌≢◌, ◌&&◌, ℕ, ◌+◌, ◌<◌, List, [], ◌∷◌, ◌++◌, length, true, false, Bool, arith, append-nil, sym, ap, refl, ◌∙◌, Result, Ok, Err, if◌then◌else◌, inr}
+use Rattle.std.proofs.Common.{◌≡◌, ◌&&◌, ℕ, List, [], ◌∷◌, ◌++◌, true, false, Bool, arith, append-nil, sym, ap, refl, Ok, Err, inr}
 use Rattle.std.proofs.lemmas.Grind.{common_steps}
 use Rattle.resp_value.specs.declared.value.Value.{Value, Nil}
 use Rattle.resp_value.specs.declared.errors.kinds.FrameFault.{FrameFault}
-use Rattle.resp_value.specs.declared.errors.kinds.IoKind.{IoKind}
-use Rattle.resp_value.specs.declared.errors.kinds.IoKind.TheVariants.{UnexpectedEof}
-use Rattle.resp_value.specs.declared.errors.parsing_error.ParsingError.TheVariants.{Fault}
 use Rattle.resp_value.specs.declared.errors.redis_error.RedisError.{RedisError}
-use Rattle.resp_value.specs.declared.errors.redis_error.RedisError.TheVariants.{Io, Parse, OutOfMemory}
 use Rattle.resp_parse.specs.Ends.{End}
 use Rattle.resp_parse.specs.Fronts.{HasGood, HasFaulty, IsUnfinished}
-use Rattle.resp_parse.specs.Grammar.{Good, Joined}
 use Rattle.resp_parse.specs.Reads.{Reads}
 use Rattle.resp_parse.specs.State.{State}
 use Rattle.resp_parse.specs.Parses.{Parses, Parsed, CannotParse, faulty, early, interrupted, out_of_memory}
-use Rattle.resp_core.specs.Call.{AnswersReply}
 use Rattle.resp_core.specs.Linking.{wire_of, Exchanges}
 use Rattle.resp_core.specs.Sinks.{Sink, SendsAll}
 use Rattle.resp_core.specs.Taken.{TakesAll, TakesFault, TakesEarly}

@@ -1,5 +1,5 @@
 -- What stands in front of a list.
-use Rattle.std.proofs.Common.{◌≡◌, ◌++◌, ◌∙◌, List, length, take, drop, arith, append_assoc, sym, ap}
+use Rattle.std.proofs.Common.{◌≡◌, ◌++◌, List, length, take, arith}
 use Rattle.std.proofs.lemmas.Grind.{common_steps}
 use Rattle.std.proofs.lemmas.List.{take-append-drop}
 

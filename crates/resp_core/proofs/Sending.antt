@@ -1,10 +1,10 @@
 -- A loop that sends the whole of a request.
-use Rattle.std.proofs.Common.{◌≡◌, ℕ, ◌+◌, ◌-◌, ◌<◌, ◌≤◌, ◌++◌, List, length, take, drop, true, false, arith, sym, ◌∙◌, length-drop, Ok, Err}
+use Rattle.std.proofs.Common.{◌≡◌, ℕ, ◌+◌, ◌-◌, ◌≤◌, ◌++◌, List, length, take, drop, true, arith, sym, ◌∙◌, length-drop, Ok, Err}
 use Rattle.std.proofs.lemmas.Grind.{common_steps}
 use Rattle.std.proofs.lemmas.List.{take-append-drop, take_all}
 use Rattle.std.proofs.Math.Seq.{take-add}
 use Rattle.resp_value.specs.declared.errors.kinds.IoKind.{IoKind}
-use Rattle.resp_core.specs.Sinks.{Sink, Sends, Flushes, SendsAll}
+use Rattle.resp_core.specs.Sinks.{Sink, Sends, SendsAll}
 
 -- the first bytes of the request were sent
 pub record SentSoFar (start now : Sink) (q : List ℕ) (done : ℕ) : Type 0 where

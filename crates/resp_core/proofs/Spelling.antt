@@ -1,7 +1,6 @@
 -- What a packed command spells.
-use Rattle.std.proofs.Common.{◌≡◌, ◌≢◌, ℕ, zero, suc, ◌+◌, ◌<◌, ◌≤◌, ◌^◌, Bool, true, List, [], ◌∷◌, ◌++◌, length, map, get_or, Option, Some, None, Ok, pos, refl, sym, ap, ◌∙◌, arith, length-append, append_assoc, append-nil}
+use Rattle.std.proofs.Common.{◌≡◌, ℕ, zero, suc, ◌<◌, ◌≤◌, ◌^◌, true, List, [], ◌∷◌, ◌++◌, length, map, Some, None, Ok, refl, sym, ap, ◌∙◌, arith, length-append, append_assoc, append-nil}
 use Rattle.std.proofs.lemmas.Fmt.{IsAscii-decimal, digits_decimal}
-use Rattle.std.proofs.lemmas.Grind.{common_steps}
 use Rattle.std.proofs.lemmas.List.{append_cancel_left}
 use Rattle.std.proofs.lemmas.Str.{IsUtf8-from_ascii}
 use Rattle.std.proofs.lemmas.Bool.{and_parts, leb-true}
@@ -13,9 +12,8 @@ use Rattle.resp_value.specs.declared.value.Value.{Value, Array, BulkString}
 use Rattle.resp_args.specs.Args.{Args}
 use Rattle.resp_parse.specs.Lines.{crlf, NoBreak}
 use Rattle.resp_parse.specs.Laws.{LawOfPrefixes}
-use Rattle.resp_parse.specs.Number.{number}
 use Rattle.resp_parse.specs.Reads.{Reads}
-use Rattle.resp_parse.specs.Grammar.{Good, Header, Joined, Follows, Next, is_type, next, body, parts, wrong, or_nil}
+use Rattle.resp_parse.specs.Grammar.{Good, Header, Joined, is_type, next, body, parts, wrong, or_nil}
 use Rattle.resp_value.specs.declared.errors.kinds.FrameFault.TheVariants.{NotInteger}
 use Rattle.resp_core.specs.Packed.{header, frame, packed, as_value}
 use Rattle.resp_core.specs.PackingLaw.{LawOfPacking}
@@ -54,9 +52,14 @@ array_next len small = ap (λ o. elim o [ Some n ↦ or_nil (λ k. parts k (λ v
 
 -- a frame spells its argument as a bulk string
 frame_good : (d : ℕ) (arg : List ℕ) → length arg < 2 ^ 63 → Good (suc d) (frame arg) (BulkString arg)
-frame_good d arg small =
-    (36, decimal (length arg), arg ++ crlf, headed 36 (length arg) (arg ++ crlf) (frame arg) small refl refl, text_of (length arg) small,
-      rw (bulk_next (length arg) small) (arg, refl, refl, refl))
+frame_good d arg small = (
+  36,
+  decimal (length arg),
+  arg ++ crlf,
+  headed 36 (length arg) (arg ++ crlf) (frame arg) small refl refl,
+  text_of (length arg) small,
+  rw (bulk_next (length arg) small) (arg, refl, refl, refl),
+)
 
 -- each argument is short
 abbrev AllShort : Args → Type 0
@@ -72,9 +75,14 @@ length-map [] = refl
 length-map (arg ∷ args) = ap suc (length-map args)
 
 packed_good : (d : ℕ) (args : Args) → length args < 2 ^ 63 → AllShort args → Good (suc (suc d)) (packed args) (as_value args)
-packed_good d args few short =
-    (42, decimal (length args), flat_map frame args, headed 42 (length args) (flat_map frame args) (packed args) few refl refl, text_of (length args) few,
-      rw (array_next (length args) few) (map BulkString args, length-map args, frames_joined d args short, refl))
+packed_good d args few short = (
+  42,
+  decimal (length args),
+  flat_map frame args,
+  headed 42 (length args) (flat_map frame args) (packed args) few refl refl,
+  text_of (length args) few,
+  rw (array_next (length args) few) (map BulkString args, length-map args, frames_joined d args short, refl),
+)
 
 frame_longer : (arg : List ℕ) → length arg < length (frame arg)
 frame_longer arg = simp length-append (omega arith)

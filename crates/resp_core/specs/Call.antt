@@ -1,5 +1,5 @@
 -- What a call over a connection answers.
-use Rattle.std.specs.Prelude.{◌≡◌, ◌≢◌, ℕ, Bool, true, false, List, [], ◌∷◌, Result, Err, None, codes, if◌then◌else◌, MatchOption}
+use Rattle.std.specs.Prelude.{◌≡◌, ◌≢◌, ℕ, true, false, List, [], ◌∷◌, Result, Err, None, codes, if◌then◌else◌, MatchOption}
 use Rattle.resp_value.specs.declared.value.Value.{Value, Nil}
 use Rattle.resp_value.specs.declared.errors.kinds.ErrorKind.TheVariants as kind
 use Rattle.resp_value.specs.declared.errors.redis_error.RedisError.{RedisError}

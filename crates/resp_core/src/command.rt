@@ -53,6 +53,7 @@ impl Cmd {
     pub fn arg<T: ToRedisArgs + Drop>(&mut self, arg: T) -> RedisResult<&mut Self>
         ensures same { IfOk result (λ c. c.ghost_name ≡ self.entry.ghost_name) }
         ensures given { IfOk result (λ c. Appends (T.gives arg) self.old.args c.now.args) }
+        ensures accepted { OnOk result (T.refuses arg → ⊥) }
         ensures refused { IfErr result (IsRefusal (T.refuses arg)) }
     {
         self.push_arg(arg)?;
@@ -62,6 +63,7 @@ impl Cmd {
     /// Adds an argument as [`Cmd::arg`] does, and answers nothing.
     pub fn push_arg<T: ToRedisArgs + Drop>(&mut self, arg: T) -> RedisResult<()>
         ensures given { OnOk result (Appends (T.gives arg) self.old.args self.new.args) }
+        ensures accepted { OnOk result (T.refuses arg → ⊥) }
         ensures flag { OnOk result (self.new.no_response ≡ self.old.no_response) }
         ensures refused { IfErr result (IsRefusal (T.refuses arg)) }
         ensures unchanged { OnErr result (self.new ≡ self.old) }

@@ -12,14 +12,18 @@ returns-in_err-reply g c =
     let source = g.S.ReplySource.source in
     let held = c.args.self.now.parser.unseen in
     let p = err_from_is_err_and c.from_residual-in_err-reply.result c.from_residual-in_err-reply.ensures.1 in
-    record { exchanged = rw (p.1, p.2, c.if-silent.false) (unanswered (source c.args.self.now.source) _ _ _ held c.parse_from.new.self _ _ _
-      (rw c.in_ok-send_all.was at c.send_all.ensures) c.parse_from.ensures.tells
-      (λ told. rw c.in_err-reply.was at c.parse_from.ensures.parses held (c.args.self.now.rested c.requires).stands told)) }
+    record {
+      exchanged = rw (p.1, p.2, c.if-silent.false) (unanswered (source c.args.self.now.source) _ _ _ held c.parse_from.new.self _ _ _
+          (rw c.in_ok-send_all.was at c.send_all.ensures) c.parse_from.ensures.tells
+          (λ told. rw c.in_err-reply.was at c.parse_from.ensures.parses held (c.args.self.now.rested c.requires).stands told));
+    }
 
 pub returns : goal.returns
 returns g c =
     let source = g.S.ReplySource.source in
     let held = c.args.self.now.parser.unseen in
-    record { exchanged = rw (c.if-silent.false) (answered (source c.args.self.now.source) _ _ _ held c.parse_from.new.self _ _ _
-      (rw c.in_ok-send_all.was at c.send_all.ensures) c.parse_from.ensures.tells
-      (λ told. rw c.in_ok-reply.was at c.parse_from.ensures.parses held (c.args.self.now.rested c.requires).stands told)) }
+    record {
+      exchanged = rw (c.if-silent.false) (answered (source c.args.self.now.source) _ _ _ held c.parse_from.new.self _ _ _
+          (rw c.in_ok-send_all.was at c.send_all.ensures) c.parse_from.ensures.tells
+          (λ told. rw c.in_ok-reply.was at c.parse_from.ensures.parses held (c.args.self.now.rested c.requires).stands told));
+    }
