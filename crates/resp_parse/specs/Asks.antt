@@ -1,5 +1,5 @@
 -- What asking a source once does to a parser that stood after b, while the source went from s to t.
-use Rattle.std.specs.Prelude.{◌≡◌, ℕ, List, [], ◌++◌, Result, Ok, Err}
+use Rattle.std.specs.Prelude.{◌≡◌, ◌<◌, ℕ, List, [], ◌++◌, length, Result, Ok, Err}
 use Rattle.resp_value.specs.declared.errors.kinds.IoKind.{IoKind}
 use Rattle.resp_value.specs.declared.errors.kinds.IoKind.TheVariants.{UnexpectedEof}
 use Rattle.resp_value.specs.declared.errors.redis_error.RedisError.{RedisError}
@@ -20,6 +20,7 @@ pub data CannotFill (b : List ℕ) (e : RedisError) (new : State) (s t : End) : 
   broken : (kind : IoKind) → e ≡ form.Io kind → t.bytes ≡ s.bytes → FailureCounted s.failures t.failures → StandsAfter new b → CannotFill b e new s t
   out_of_memory : e ≡ form.OutOfMemory → t.bytes ≡ s.bytes → t.failures ≡ s.failures → FailedAfter new b → CannotFill b e new s t
 
+-- some bytes were filled, or why none were
 abbrev pub Asks : List ℕ → State → End → End → Result (Unit {0}) RedisError → Type 0
-Asks b new s t (Ok u) = Filled b new s t
+Asks b new s t (Ok u) = (more : Filled b new s t) × (0 < length more.filled)
 Asks b new s t (Err e) = CannotFill b e new s t

@@ -273,17 +273,9 @@ impl Read for Noting {
 #[test]
 fn sources(rt: HostRuntime) -> Result<(), Fail> {
     let mut parser = Parser::new(rt.alloc());
-    assert_eq!(rt;
-        parser.parse_value(&b":7\r\n+x\r\n"[..])?,
-        Value::Int(7)
-    );
+    assert_eq!(rt; parser.parse_value(&b":7\r\n+x\r\n"[..])?, Value::Int(7));
     let mut source = Reading::new(Cursor::new(&b"*1\r\n"[..]));
-    assert!(rt;
-        matches!(
-            parser.parse_from(&mut source)?,
-            Value::SimpleString(_)
-        )
-    );
+    assert!(rt; matches!(parser.parse_from(&mut source)?, Value::SimpleString(_)));
     let early = parser.parse_from(&mut source);
     assert_eq!(rt;
         early.err().and_then(|e| e.io_kind()),

@@ -1,6 +1,6 @@
 use Rattle.std.proofs.Common.{◌∙◌, arith, ap, sym}
 use Rattle.std.proofs.lemmas.Grind.{common_steps}
-use Rattle.resp_parse.proofs.Asked.{Asks-memory, Asks-ended, Asks-broken, Asks-filled}
+use Rattle.resp_parse.proofs.Asked.{Asks-memory, Asks-ended, Asks-broken, Asks-filled, take-some}
 use Rattle.resp_parse.specs.State.{State}
 use Rattle.resp_parse.proofs.Standing.{IsUsable-same}
 use Rattle.resp_parse.proofs.parser.Parser.ask.Goals as goal
@@ -25,6 +25,7 @@ returns-in_ok-extend_from_slice-in-Ok-clause-asks g c = λ b h tells.
     Asks-filled c.args.self.now b c.self.inside.held.items c.reserve.new.self.items c.self.inside.seen c.self.inside.failed (c.self.view_is ∙ c.compact.ensures.same) c.reserve.ensures.items h
     (g.S.ReplySource.source c.args.source.now) (g.S.ReplySource.source c.fill.new.self) _ c.fill.new.buf c.extend_from_slice.new.self.items c.in-Ok.n c.self.invariant
     c.in_ok-extend_from_slice-in-Ok.ensures.items c.in-Ok.ensures.fills tells
+    (take-some c.in-Ok.n c.fill.new.buf c.in-Ok.n-test.1 (grind (arith, common_steps)))
 
 pub returns-in_ok-extend_from_slice-in-Ok-clause-usable : goal.returns-in_ok-extend_from_slice-in-Ok-clause-usable
 returns-in_ok-extend_from_slice-in-Ok-clause-usable g c =
