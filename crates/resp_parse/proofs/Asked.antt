@@ -1,5 +1,5 @@
 -- A plain parser that asked a source once.
-use Rattle.std.proofs.Common.{◌≡◌, ℕ, zero, suc, ◌∷◌, ◌<◌, ◌≤◌, Bool, true, false, List, [], ◌++◌, length, take, drop, refl, ap, sym, ◌∙◌, Ok, Err}
+use Rattle.std.proofs.Common.{◌≡◌, ℕ, zero, suc, ◌∷◌, ◌<◌, ◌≤◌, Bool, true, false, List, [], ◌++◌, length, take, drop, refl, ap, sym, ◌∙◌, arith, Ok, Err}
 use Rattle.resp_value.specs.declared.errors.kinds.IoKind.{IoKind}
 use Rattle.resp_value.specs.declared.errors.kinds.IoKind.TheVariants.{UnexpectedEof}
 use Rattle.resp_value.specs.declared.errors.redis_error.RedisError.TheVariants as form
