@@ -78,6 +78,11 @@ fn queries_a_server(rt: HostRuntime) -> Result<(), Fail> {
         ("", "refused: I/O error\n", 2),
         ("$1\r\n1", "refused: I/O error\n", 2),
         (":x\r\n", "refused: parse error\n", 2),
+        (
+            "*2\r\n:1\r\n-LOADING\r\n",
+            "refused: busy loading 0:LOADING\n",
+            2,
+        ),
     ] {
         let words = words_of(alloc, &["GET", "k"])?;
         let mut link = link_over(alloc, replies.as_bytes())?;

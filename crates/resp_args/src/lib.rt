@@ -5,8 +5,6 @@ mod arg_list;
 mod args;
 mod impls;
 mod single;
-#[cfg(test)]
-mod tests;
 mod write;
 
 pub use arg_list::ArgList;

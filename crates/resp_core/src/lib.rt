@@ -20,13 +20,15 @@ mod start;
 pub use command::Cmd;
 pub use link::{ByteLink, ConnectionLike};
 pub use packing::{law_of_packing, pack_command};
-pub use resp_args::{NumericBehavior, RedisWrite, ToRedisArgs, ToSingleRedisArg};
+pub use resp_args::{
+    ArgList, NumericBehavior, RedisWrite, ToRedisArgs, ToSingleRedisArg, write_each_arg,
+};
 pub use resp_from::{FromRedisValue, from_redis_value, from_redis_value_ref};
-pub use resp_parse::{Parser, Reading, ReplySource, parse_redis_value};
+pub use resp_parse::{Parser, Reading, ReplySource, law_of_prefixes, parse_redis_value};
 pub use resp_value::{
-    Boxed, Description, ErrorKind, FrameFault, IoKind, Items, ParsingError, PushInfo, PushKind,
-    RedisError, RedisResult, ServerError, ServerErrorKind, Text, Value, VerbatimFormat,
-    get_push_kind,
+    Boxed, Description, ErrorKind, FrameFault, IoKind, Items, MapIter, OwnedMapIter, ParsingError,
+    PushInfo, PushKind, RedisError, RedisResult, ServerError, ServerErrorKind, Text, Value,
+    VerbatimFormat, get_push_kind, verbatim_format,
 };
 pub use sink::{CommandSink, Writing};
 pub use start::cmd;

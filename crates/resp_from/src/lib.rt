@@ -14,5 +14,3 @@ mod values;
 
 pub use convert::{FromRedisValue, from_redis_value, from_redis_value_ref};
 
-#[cfg(test)]
-mod tests;

@@ -10,8 +10,6 @@ mod reading;
 mod shape;
 mod source;
 mod stop;
-#[cfg(test)]
-mod tests;
 mod value_of;
 
 ghost use Rattle.std.specs.Prelude.{ℕ, List};

@@ -1,5 +1,5 @@
 -- Lists two by two.
-use Rattle.std.proofs.Common.{◌≡◌, ℕ, ◌+◌, ◌/◌, ◌∷◌, List, [], length, refl, arith}
+use Rattle.std.proofs.Common.{◌≡◌, ◌/◌, ◌∷◌, List, [], length, refl, arith}
 use Rattle.resp_value.specs.declared.value.Value.{Value}
 use Rattle.resp_value.specs.Views.{pairs}
 

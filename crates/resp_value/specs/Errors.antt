@@ -7,6 +7,9 @@ use Rattle.resp_value.specs.declared.errors.kinds.ErrorKind.TheVariants as kind
 use Rattle.resp_value.specs.declared.errors.kinds.FrameFault.{FrameFault}
 use Rattle.resp_value.specs.declared.errors.kinds.FrameFault.TheVariants.{TooDeep, UnknownType, LineNotUtf8, NotInteger, NegativeLength, BodyEnd, NotBoolean, NotDouble, NoVerbatimFormat, BadPushKind}
 use Rattle.resp_value.specs.declared.errors.kinds.IoKind.{IoKind}
+use Rattle.resp_value.specs.declared.errors.kinds.IoKind.TheVariants.{NotFound, PermissionDenied, ConnectionRefused, ConnectionReset, ConnectionAborted, NotConnected, BrokenPipe, WouldBlock, TimedOut, Interrupted, Unsupported, UnexpectedEof, WriteZero, Other}
+use Rattle.std.specs.declared.io.ErrorKind as device
+use Rattle.std.specs.declared.io.ErrorKind.TheVariants as device_kind
 use Rattle.resp_value.specs.declared.errors.server_error.ServerError.{ServerError}
 use Rattle.resp_value.specs.declared.errors.parsing_error.ParsingError.{ParsingError}
 use Rattle.resp_value.specs.declared.errors.parsing_error.ParsingError.TheVariants as parsing
@@ -45,6 +48,23 @@ category_of_kind kind.EmptySentinelList = codes "empty sentinel list"
 category_of_kind kind.ClusterConnectionNotFound = codes "connection to node in cluster not found"
 category_of_kind kind.RESP3NotSupported = codes "resp3 is not supported by server"
 category_of_kind kind.OutOfMemory = codes "out of memory"
+
+-- the kind of a fault of the standard library: that of the same name, if there is one
+abbrev pub io_kind_of_kind : device.ErrorKind → IoKind
+io_kind_of_kind device_kind.NotFound = NotFound
+io_kind_of_kind device_kind.PermissionDenied = PermissionDenied
+io_kind_of_kind device_kind.ConnectionRefused = ConnectionRefused
+io_kind_of_kind device_kind.ConnectionReset = ConnectionReset
+io_kind_of_kind device_kind.ConnectionAborted = ConnectionAborted
+io_kind_of_kind device_kind.NotConnected = NotConnected
+io_kind_of_kind device_kind.BrokenPipe = BrokenPipe
+io_kind_of_kind device_kind.WouldBlock = WouldBlock
+io_kind_of_kind device_kind.TimedOut = TimedOut
+io_kind_of_kind device_kind.Interrupted = Interrupted
+io_kind_of_kind device_kind.Unsupported = Unsupported
+io_kind_of_kind device_kind.UnexpectedEof = UnexpectedEof
+io_kind_of_kind device_kind.WriteZero = WriteZero
+io_kind_of_kind _ = Other
 
 abbrev pub fault_text : FrameFault → List ℕ
 fault_text TooDeep = codes "value is nested too deeply"

@@ -1,5 +1,5 @@
 -- What the iterators over pairs have left.
-use Rattle.std.specs.Prelude.{List, ◌∷◌, []}
+use Rattle.std.specs.Prelude.{List}
 use Rattle.std.specs.Borrow.{Bor}
 use Rattle.resp_value.specs.declared.value.Value.{Value}
 use Rattle.resp_value.specs.declared.map_iter.MapIter.{MapIter}

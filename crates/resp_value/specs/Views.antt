@@ -1,5 +1,5 @@
 -- A reply seen as a list of values, or as a list of pairs.
-use Rattle.std.specs.Prelude.{ℕ, ◌%◌, ◌==◌, Bool, true, false, cond, List, [], ◌∷◌, ◌++◌, length, Option, None, Some}
+use Rattle.std.specs.Prelude.{◌%◌, ◌==◌, Bool, true, false, cond, List, [], ◌∷◌, length, Option, None, Some}
 use Rattle.resp_value.specs.declared.value.Value.{Value, out-Value}
 use Rattle.resp_value.specs.declared.value.Value.TheOpen.{Value-F}
 

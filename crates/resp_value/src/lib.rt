@@ -7,8 +7,6 @@ pub mod errors;
 mod items;
 mod map_iter;
 mod names;
-#[cfg(test)]
-mod tests;
 mod text;
 mod value;
 mod views;

@@ -3,6 +3,7 @@
 ghost use Rattle.std.specs.Prelude.{◌≡◌, IfOk, map, is_some, MatchOption, Ok, Err};
 ghost use Rattle.resp_value.specs.Tree.{first_error, first_some, first_of_pairs};
 ghost use Rattle.resp_value.specs.declared.errors.redis_error.RedisError.TheVariants as form;
+ghost use Rattle.resp_value.specs.declared.value.Value.TheVariants as value;
 
 use crate::boxed::Boxed;
 use crate::errors::{RedisError, RedisResult, ServerError};
@@ -34,7 +35,9 @@ pub enum Value {
     Map(Items<(Value, Value)>),
     /// A value with out-of-band pairs that describe it (RESP3).
     Attribute {
+        /// The value that is described.
         payload: Boxed<Value>,
+        /// What is said of it.
         attributes: Items<(Value, Value)>,
     },
     /// An error.
@@ -50,12 +53,16 @@ pub enum Value {
     Set(Items<Value>),
     /// A text for display, with its format (RESP3).
     VerbatimString {
+        /// How the text is to be shown.
         format: VerbatimFormat,
+        /// The text after the format and its colon.
         text: Text,
     },
     /// Out-of-band data that no request asked for (RESP3).
     Push {
+        /// What it is about.
         kind: PushKind,
+        /// The values after the kind.
         payload: Items<Value>,
     },
 }
@@ -83,6 +90,8 @@ impl PushInfo {
 }
 
 impl Default for Value {
+    ghost is_default = { λ v. v ≡ value.Nil };
+
     fn default() -> Value {
         Value::Nil
     }

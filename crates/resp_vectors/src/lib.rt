@@ -8,4 +8,6 @@ mod devices;
 #[cfg(test)]
 mod links;
 #[cfg(test)]
+mod parsers;
+#[cfg(test)]
 mod replies;

@@ -2,7 +2,7 @@
 
 ghost use Rattle.std.specs.Prelude.{◌≡◌, IfSome};
 ghost use Rattle.resp_value.specs.ServerErrors.{code_of_kind, kind_of_code};
-ghost use Rattle.resp_value.specs.Errors.{category_of_kind, category_of_server_kind, fault_text};
+ghost use Rattle.resp_value.specs.Errors.{category_of_kind, category_of_server_kind, fault_text, io_kind_of_kind};
 ghost use Rattle.resp_value.specs.declared.errors.kinds.ErrorKind.TheVariants as kind;
 
 use std::io;
@@ -183,23 +183,39 @@ impl From<ServerErrorKind> for ErrorKind {
 /// every other is `Other`.
 #[derive(Clone, Copy, PartialEq, Eq, Debug)]
 pub enum IoKind {
+    /// There is nothing of this name.
     NotFound,
+    /// It is not allowed.
     PermissionDenied,
+    /// The other side takes no connection.
     ConnectionRefused,
+    /// The other side ended the connection at once.
     ConnectionReset,
+    /// The connection was ended before it was used.
     ConnectionAborted,
+    /// There is no connection yet.
     NotConnected,
+    /// The other side reads no more.
     BrokenPipe,
+    /// It would have to wait, which it was told not to.
     WouldBlock,
+    /// It took longer than it may.
     TimedOut,
+    /// A signal came in between; the call may be repeated.
     Interrupted,
+    /// This device or system can't do it.
     Unsupported,
+    /// The bytes end too early.
     UnexpectedEof,
+    /// A write took no byte.
     WriteZero,
+    /// A fault of any other kind.
     Other,
 }
 
 impl From<io::ErrorKind> for IoKind {
+    ghost from_gives = { λ k e. e ≡ io_kind_of_kind k };
+
     fn from(kind: io::ErrorKind) -> IoKind {
         match kind {
             io::ErrorKind::NotFound => IoKind::NotFound,

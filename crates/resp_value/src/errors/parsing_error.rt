@@ -98,12 +98,20 @@ impl From<FrameFault> for ParsingError {
 }
 
 impl From<Utf8Error> for ParsingError {
+    ghost use Rattle.std.specs.Prelude.{codes};
+
+    ghost from_gives = { λ _ e. e ≡ parsing.Described (codes "Invalid UTF-8") };
+
     fn from(_error: Utf8Error) -> ParsingError {
         ParsingError::from("Invalid UTF-8")
     }
 }
 
 impl From<FromUtf8Error> for ParsingError {
+    ghost use Rattle.std.specs.Prelude.{codes};
+
+    ghost from_gives = { λ _ e. e ≡ parsing.Described (codes "Cannot convert from UTF-8") };
+
     fn from(_error: FromUtf8Error) -> ParsingError {
         ParsingError::from("Cannot convert from UTF-8")
     }

@@ -26,9 +26,12 @@ pub type RedisResult<T> = Result<T, RedisError>;
 pub enum RedisError {
     /// A refusal of the library's own: its kind, a fixed text, and perhaps a detail.
     General {
+        /// What sort of refusal it is.
         kind: ErrorKind,
+        /// Its fixed text.
         #[derive_where(skip)]
         text: Description,
+        /// What more is known of the case, if anything is.
         #[derive_where(skip)]
         detail: Option<Text>,
     },

@@ -19,12 +19,16 @@ use std::fmt;
 pub enum ServerError {
     /// An error with one of the codes that [`ServerErrorKind`] names.
     Known {
+        /// Which code.
         kind: ServerErrorKind,
+        /// What stands after the code, if anything does.
         detail: Option<Text>,
     },
     /// An error with a code of its own.
     Extension {
+        /// The code.
         code: Text,
+        /// What stands after the code, if anything does.
         detail: Option<Text>,
     },
 }

@@ -1,7 +1,7 @@
 //! Each function once with ample memory. The arguments and counts are those that `redis` 1.7.0
 //! gives for the same values.
 
-use crate::*;
+use resp_args::{ArgList, NumericBehavior, RedisWrite, ToRedisArgs, write_each_arg};
 use resp_value::ErrorKind;
 use std::borrow::{CowSlice, CowStr};
 use std::boxed::BoxedSlice;

@@ -1,6 +1,6 @@
 //! Conversions of single replies.
 
-use crate::{FromRedisValue, from_redis_value, from_redis_value_ref};
+use resp_from::{FromRedisValue, from_redis_value, from_redis_value_ref};
 use resp_value::{Boxed, ErrorKind, Items, RedisResult, ServerError, ServerErrorKind, Text, Value};
 use std::alloc::Global;
 use std::rc::Rc;

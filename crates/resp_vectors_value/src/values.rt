@@ -1,6 +1,6 @@
 //! Each call once with ample memory, and what no clause says: printed text.
 
-use crate::{
+use resp_value::{
     Boxed, Description, ErrorKind, FrameFault, IoKind, Items, ParsingError, PushInfo, PushKind,
     RedisError, ServerError, ServerErrorKind, Text, Value, VerbatimFormat, get_push_kind,
     verbatim_format,

@@ -1,7 +1,8 @@
 //! Worked replies, fed whole and in pieces, and readers that end or fail in the middle.
 
-use crate::*;
-use resp_value::{FrameFault, IoKind, Text, Value};
+use resp_core::{
+    FrameFault, IoKind, Parser, Reading, Text, Value, law_of_prefixes, parse_redis_value,
+};
 use std::io;
 use std::io::{Cursor, Read};
 use std::test::Fail;
@@ -58,6 +59,10 @@ fn scalars(rt: HostRuntime) -> Result<(), Fail> {
         (
             &b",.5\r\n,inf\r\n,+InFinity\r\n,2.67923e+8\r\n"[..],
             "double(.5) double(inf) double(+InFinity) double(2.67923e+8) ",
+        ),
+        (
+            &b",nan\r\n,2.67923E+8\r\n,-2.67923E+8\r\n,-inf\r\n"[..],
+            "double(nan) double(2.67923E+8) double(-2.67923E+8) double(-inf) ",
         ),
         (&b",.\r\n"[..], "NotDouble"),
         (&b",1e\r\n"[..], "NotDouble"),
@@ -148,6 +153,10 @@ fn aggregates(rt: HostRuntime) -> Result<(), Fail> {
         (
             &b">2\r\n$7\r\nmessage\r\n:1\r\n"[..],
             "push(Message, [int(1)]) ",
+        ),
+        (
+            &b">3\r\n+message\r\n+somechannel\r\n+this is the message\r\n"[..],
+            "push(Message, [simple-string(\"somechannel\"), simple-string(\"this is the message\")]) ",
         ),
         (
             &b">0\r\n>-3\r\n"[..],

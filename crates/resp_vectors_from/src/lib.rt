@@ -1,0 +1,5 @@
+//! Worked examples of replies as Rust values, as tests.
+#![tactic(auto)]
+
+#[cfg(test)]
+mod conversions;
