@@ -1,5 +1,5 @@
 -- Answers of conversions, and lists that are converted item by item.
-use Rattle.std.proofs.Common.{◌≡◌, List, [], ◌∷◌, ◌++◌, Vec, Global, Result, Ok, Err, refl, sym, ap, ◌∙◌, subst}
+use Rattle.std.proofs.Common.{◌≡◌, List, [], ◌∷◌, ◌++◌, Vec, Global, Result, Ok, Err, sym, subst}
 use Rattle.std.specs.Result.{IsErr, IsErrAnd}
 use Rattle.std.specs.List.{AllZip}
 use Rattle.resp_value.specs.declared.errors.parsing_error.ParsingError.{ParsingError}

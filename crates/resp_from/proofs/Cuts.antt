@@ -1,5 +1,5 @@
 -- Lists that are cut in groups of one length.
-use Rattle.std.proofs.Common.{◌≡◌, ◌≢◌, ℕ, ◌+◌, ◌*◌, ◌%◌, ◌<◌, zero, suc, Bool, true, false, List, [], ◌∷◌, ◌++◌, length, map, take, drop, Vec, Global, Result, Ok, Err, refl, sym, ap, ◌∙◌, subst, arith, append_assoc, length-append, rules}
+use Rattle.std.proofs.Common.{◌≡◌, ◌≢◌, ℕ, ◌+◌, ◌*◌, ◌%◌, ◌<◌, zero, suc, Bool, true, false, List, [], ◌∷◌, ◌++◌, length, map, take, drop, Vec, Global, Result, Ok, Err, refl, sym, ap, ◌∙◌, subst, arith, append_assoc, length-append}
 use Rattle.std.proofs.Math.Seq.{take-append_seam, drop-append_seam}
 use Rattle.std.proofs.Math.Nat.{mul-mod_left}
 use Rattle.std.proofs.lemmas.Nat.{mod-mul-add}
@@ -10,7 +10,7 @@ use Rattle.std.specs.List.{AllZip, AllByRecursion, flat_map}
 use Rattle.resp_value.specs.declared.value.Value.{Value, Array}
 use Rattle.resp_value.specs.declared.errors.parsing_error.ParsingError.{ParsingError}
 use Rattle.resp_from.specs.Conversion.{RefusesIf, ConvertsList}
-use Rattle.resp_from.specs.Lists.{IsCut, AreGroups, ArePieces, OfList, is_one_each}
+use Rattle.resp_from.specs.Lists.{AreGroups, ArePieces, OfList, is_one_each}
 use Rattle.resp_from.proofs.Conversions.{RefusesIf-along}
 
 abbrev joined : List (List Value) → List Value

@@ -1,5 +1,5 @@
 -- A reply is one value of a type at most.
-use Rattle.std.proofs.Common.{◌≡◌, ◌≢◌, ℕ, ℤ, pos, Bool, true, false, List, [], ◌∷◌, codes, Option, None, Some, refl, sym, ap, ◌∙◌, subst, get_or, arith, ◌<◌, lit<}
+use Rattle.std.proofs.Common.{◌≡◌, ◌≢◌, ℕ, ℤ, pos, Bool, true, false, List, [], ◌∷◌, codes, None, Some, refl, sym, ap, ◌∙◌, subst, get_or, arith, ◌<◌, lit<}
 use Rattle.std.specs.Bool.{MatchBool}
 use Rattle.std.specs.Int.{Width}
 use Rattle.std.specs.List.{AllZip}
@@ -10,7 +10,7 @@ use Rattle.resp_from.specs.Items.{IsItems, OfItems, single_maps}
 use Rattle.resp_from.specs.Laws.{IsFunction}
 use Rattle.resp_from.specs.Lists.{OfList, byte_replies}
 use Rattle.resp_from.specs.Replies.{bare}
-use Rattle.resp_from.specs.Single.{IsTruth, TruthText, OfBool, OfOption, is_nil}
+use Rattle.resp_from.specs.Single.{IsTruth, TruthText, OfBool, OfOption}
 use Rattle.resp_from.specs.Texts.{IsText, OfText}
 use Rattle.resp_from.proofs.Cuts.{one_list_of_pieces}
 

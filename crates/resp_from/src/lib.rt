@@ -13,4 +13,3 @@ mod tuples;
 mod values;
 
 pub use convert::{FromRedisValue, from_redis_value, from_redis_value_ref};
-

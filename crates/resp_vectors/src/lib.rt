@@ -2,9 +2,15 @@
 #![tactic(auto)]
 
 #[cfg(test)]
+mod arguments;
+#[cfg(test)]
 mod commands;
 #[cfg(test)]
+mod conversions;
+#[cfg(test)]
 mod devices;
+#[cfg(test)]
+mod errors;
 #[cfg(test)]
 mod links;
 #[cfg(test)]

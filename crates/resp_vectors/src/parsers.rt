@@ -5,30 +5,46 @@ use resp_core::{
 };
 use std::io;
 use std::io::{Cursor, Read};
+use std::process::Abort;
 use std::test::Fail;
 
-/// What the values of the bytes and then the refusal show, each in its Debug form; `..` where bytes
-/// are awaited.
-fn shown(rt: &HostRuntime, bytes: &[u8]) -> Result<String, Fail> {
+/// Adds what the parser answers next, in its Debug form, and says whether that was a value: else
+/// it was a refusal, or `..` where bytes are awaited. A value equals its copy.
+fn show_next(
+    rt: &(impl Abort + AllocGlobal),
+    parser: &mut Parser,
+    text: &mut String,
+) -> Result<bool, Fail> {
+    match parser.take_value() {
+        Ok(Some(value)) => {
+            assert!(rt; value.try_clone(rt.alloc())? == value);
+            write!(text, "{value:?} ")?;
+            Ok(true)
+        }
+        Ok(None) => {
+            if parser.in_progress() {
+                text.push_str("..")?;
+            }
+            Ok(false)
+        }
+        Err(error) => {
+            match error.frame_fault() {
+                Some(fault) => write!(text, "{fault:?}")?,
+                None => write!(text, "{error:?}")?,
+            }
+            Ok(false)
+        }
+    }
+}
+
+/// What the values of the bytes and then the refusal show.
+fn shown(rt: &(impl Abort + AllocGlobal), bytes: &[u8]) -> Result<String, Fail> {
     let mut parser = Parser::new(rt.alloc());
     parser.feed(bytes)?;
     let mut text = String::new(rt.alloc());
     for _ in 0..bytes.len() + 1 {
-        match parser.take_value() {
-            Ok(Some(value)) => write!(text, "{value:?} ")?,
-            Ok(None) => {
-                if parser.in_progress() {
-                    text.push_str("..")?;
-                }
-                return Ok(text);
-            }
-            Err(error) => {
-                match error.frame_fault() {
-                    Some(fault) => write!(text, "{fault:?}")?,
-                    None => write!(text, "{error:?}")?,
-                }
-                return Ok(text);
-            }
+        if !show_next(rt, &mut parser, &mut text)? {
+            break;
         }
     }
     Ok(text)
@@ -91,9 +107,8 @@ fn bodies(rt: HostRuntime) -> Result<(), Fail> {
             &b"$2\r\nab\r\n$-7\r\n$2\r\nOK\r\n"[..],
             "bulk-string('\"ab\"') nil bulk-string('\"OK\"') ",
         ),
+        (&b"$2\r\n\xFF\0\r\n"[..], "binary-data([255, 0]) "),
         (&b"$2\r\nab"[..], ".."),
-        (&b"$2\r\nabX"[..], "BodyEnd"),
-        (&b"$2\r\nab\rX"[..], "BodyEnd"),
         (
             &b"!21\r\nSYNTAX invalid syntax\r\n"[..],
             "Server error: `SYNTAX: invalid syntax` ",
@@ -175,7 +190,12 @@ fn aggregates(rt: HostRuntime) -> Result<(), Fail> {
 }
 
 /// A header or a value again and again, and then the last bytes.
-fn nested(rt: &HostRuntime, header: &str, times: usize, last: &str) -> Result<String, Fail> {
+fn nested(
+    rt: &(impl Abort + AllocGlobal),
+    header: &str,
+    times: usize,
+    last: &str,
+) -> Result<String, Fail> {
     let mut bytes = String::new(rt.alloc());
     for _ in 0..times {
         bytes.push_str(header)?;

@@ -5,14 +5,11 @@ use resp_core::{
 };
 use std::alloc::Global;
 use std::io::Cursor;
+use std::process::Abort;
 use std::test::Fail;
 
 /// The bytes end exactly where this fault shows: without the last one they are unfinished.
-fn faults(
-    rt: &(impl std::process::Abort + AllocGlobal),
-    bytes: &[u8],
-    wanted: FrameFault,
-) -> Result<(), Fail> {
+fn faults(rt: &(impl Abort + AllocGlobal), bytes: &[u8], wanted: FrameFault) -> Result<(), Fail> {
     let mut parser = Parser::new(rt.alloc());
     let Some((last, front)) = bytes.split_last() else {
         return Ok(());
@@ -72,7 +69,7 @@ fn early_end(rt: HostRuntime) -> Result<(), Fail> {
 
 /// The first error in the reply has this kind, code and detail.
 fn holds_error(
-    rt: &(impl std::process::Abort + AllocGlobal),
+    rt: &(impl Abort + AllocGlobal),
     bytes: &[u8],
     kind: ErrorKind,
     code: &str,
@@ -91,50 +88,113 @@ fn holds_error(
 
 #[test]
 fn errors_inside(rt: HostRuntime) -> Result<(), Fail> {
-    holds_error(
-        &rt,
-        b"|1\r\n-A x\r\n:1\r\n-B y\r\n",
-        ErrorKind::Extension,
-        "B",
-        "y",
-    )?;
-    holds_error(
-        &rt,
-        b"*3\r\n+OK\r\n-LOADING server is loading\r\n+OK\r\n",
-        ErrorKind::Server(ServerErrorKind::BusyLoading),
-        "LOADING",
-        "server is loading",
-    )?;
-    holds_error(
-        &rt,
-        b"!21\r\nSYNTAX invalid syntax\r\n",
-        ErrorKind::Extension,
-        "SYNTAX",
-        "invalid syntax",
-    )
+    for (bytes, kind, code, detail) in [
+        (
+            "|1\r\n-A x\r\n:1\r\n-B y\r\n",
+            ErrorKind::Extension,
+            "B",
+            "y",
+        ),
+        (
+            "*3\r\n+OK\r\n-LOADING server is loading\r\n+OK\r\n",
+            ErrorKind::Server(ServerErrorKind::BusyLoading),
+            "LOADING",
+            "server is loading",
+        ),
+        (
+            "!21\r\nSYNTAX invalid syntax\r\n",
+            ErrorKind::Extension,
+            "SYNTAX",
+            "invalid syntax",
+        ),
+        (
+            "*2\r\n:1\r\n>2\r\n+message\r\n%2\r\n:1\r\n:2\r\n~1\r\n-C z\r\n-D w\r\n",
+            ErrorKind::Extension,
+            "C",
+            "z",
+        ),
+    ] {
+        holds_error(&rt, bytes.as_bytes(), kind, code, detail)?;
+    }
+    Ok(())
+}
+
+fn reply(rt: &(impl Abort + AllocGlobal), bytes: &[u8]) -> Result<Value, Fail> {
+    Ok(parse_redis_value(rt.alloc(), bytes)?)
 }
 
 #[test]
-fn a_set_is_a_sequence(rt: HostRuntime) -> Result<(), Fail> {
-    let bytes = b"~5\r\n+orange\r\n+apple\r\n#t\r\n:100\r\n:999\r\n";
-    let value = parse_redis_value(rt.alloc(), bytes)?;
-    let parts = value.as_sequence().ok_or("none")?;
-    assert_eq!(rt;
-        format!(in rt.alloc(); "{parts:?}")?.as_str(),
-        "[simple-string(\"orange\"), simple-string(\"apple\"), boolean(true), int(100), int(999)]"
-    );
+fn without_errors_a_reply_stays(rt: HostRuntime) -> Result<(), Fail> {
+    let good = b"%1\r\n+a\r\n*1\r\n+OK\r\n";
+    assert!(rt; reply(&rt, good)?.extract_error()? == reply(&rt, good)?);
+    Ok(())
+}
+
+/// How many values the reply is a sequence of, borrowed and by move.
+fn length(rt: &(impl Abort + AllocGlobal), bytes: &[u8]) -> Result<Option<usize>, Fail> {
+    let value = reply(rt, bytes)?;
+    let borrowed = value.as_sequence().map(|parts| parts.len());
+    let moved = value
+        .into_sequence(rt.alloc())
+        .ok()
+        .map(|parts| parts.len());
+    assert_eq!(rt; borrowed, moved);
+    Ok(borrowed)
+}
+
+#[test]
+fn sequences(rt: HostRuntime) -> Result<(), Fail> {
+    let set = b"~5\r\n+orange\r\n+apple\r\n#t\r\n:100\r\n:999\r\n";
+    assert_eq!(rt; length(&rt, set)?, Some(5));
+    assert_eq!(rt; length(&rt, b"*1\r\n:1\r\n")?, Some(1));
+    assert_eq!(rt; length(&rt, b"_\r\n")?, Some(0));
+    assert_eq!(rt; length(&rt, b"%0\r\n")?, None);
     Ok(())
 }
 
 #[test]
-fn a_map_has_pairs(rt: HostRuntime) -> Result<(), Fail> {
-    let bytes = b"%2\r\n+first\r\n:1\r\n+second\r\n:2\r\n";
-    let value = parse_redis_value(rt.alloc(), bytes)?;
-    let mut pairs = value.as_map_iter().ok_or("none")?;
+fn cursors(rt: HostRuntime) -> Result<(), Fail> {
+    let scan = reply(&rt, b"*2\r\n$1\r\n0\r\n*0\r\n")?;
+    assert!(rt; scan.looks_like_cursor());
+    let pair = reply(&rt, b"*2\r\n:0\r\n*0\r\n")?;
+    assert!(rt; !pair.looks_like_cursor());
+    Ok(())
+}
+
+#[test]
+fn borrowed_pairs(rt: HostRuntime) -> Result<(), Fail> {
+    let map = reply(&rt, b"%2\r\n+first\r\n:1\r\n+second\r\n:2\r\n")?;
+    let mut pairs = map.as_map_iter().ok_or("none")?;
     assert_eq!(rt; pairs.size_hint(), (2, Some(2)));
     let (_key, first) = pairs.next().ok_or("none")?;
+    assert!(rt; *first == Value::Int(1));
     let (_key, second) = pairs.next().ok_or("none")?;
-    assert!(rt; *first == Value::Int(1) && *second == Value::Int(2));
+    assert!(rt; *second == Value::Int(2));
     assert!(rt; pairs.next().is_none());
+    Ok(())
+}
+
+#[test]
+fn pairs_of_an_array(rt: HostRuntime) -> Result<(), Fail> {
+    let four = reply(&rt, b"*4\r\n:1\r\n:2\r\n:3\r\n:4\r\n")?;
+    assert_eq!(rt; four.as_map_iter().ok_or("none")?.size_hint(), (2, Some(2)));
+    match four.into_map_iter() {
+        Ok(mut pairs) => {
+            assert_eq!(rt; pairs.size_hint(), (2, Some(2)));
+            assert!(rt; pairs.next() == Some((Value::Int(1), Value::Int(2))));
+        }
+        Err(_other) => assert!(rt; false),
+    }
+    Ok(())
+}
+
+#[test]
+fn no_pairs_of_three(rt: HostRuntime) -> Result<(), Fail> {
+    let three = reply(&rt, b"*3\r\n:1\r\n:2\r\n:3\r\n")?;
+    assert!(rt; three.as_map_iter().is_none());
+    match three.into_map_iter() {
+        Ok(_pairs) => assert!(rt; false),
+        Err(back) => assert_eq!(rt; back.as_sequence().map(|parts| parts.len()), Some(3)),
+    }
     Ok(())
 }

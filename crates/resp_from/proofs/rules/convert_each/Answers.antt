@@ -1,4 +1,4 @@
-use Rattle.std.proofs.Common.{◌≡◌, sym, ap, ◌∙◌, ◌∷◌, [], ◌++◌, append_assoc}
+use Rattle.std.proofs.Common.{sym, ap, ◌∙◌, ◌∷◌, [], ◌++◌, append_assoc}
 use Rattle.std.specs.Vec.Iter.{into_iter_items}
 use Rattle.resp_from.proofs.Conversions.{RefusesIf-along, ConvertsList-err, AllZip-none, AllZip-more}
 use Rattle.resp_from.proofs.rules.convert_each.Goals as goal

@@ -1,6 +1,6 @@
-//! Each call once with ample memory, and what no clause says: printed text.
+//! Errors, names and the small containers: each call once, and the texts that they print.
 
-use resp_value::{
+use resp_core::{
     Boxed, Description, ErrorKind, FrameFault, IoKind, Items, ParsingError, PushInfo, PushKind,
     RedisError, ServerError, ServerErrorKind, Text, Value, VerbatimFormat, get_push_kind,
     verbatim_format,
@@ -13,14 +13,6 @@ use std::test::Fail;
 
 fn text(alloc: Global, text: &str) -> Result<String, Fail> {
     Ok(String::from_str(alloc, text)?)
-}
-
-fn simple(alloc: Global, text: &str) -> Result<Value, Fail> {
-    Ok(Value::SimpleString(Text::from_str(alloc, text)?))
-}
-
-fn error(alloc: Global, text: &str) -> Result<Value, Fail> {
-    Ok(Value::ServerError(ServerError::from_text(alloc, text)?))
 }
 
 fn shows<T: Display>(rt: &(impl Abort + AllocGlobal), value: &T, wanted: &str) -> Result<(), Fail> {
@@ -143,13 +135,17 @@ fn general_errors(rt: HostRuntime) -> Result<(), Fail> {
     let plain = RedisError::from((ErrorKind::Client, "empty command"));
     assert_eq!(rt; plain.kind(), ErrorKind::Client);
     assert_eq!(rt; plain.category(), "client error");
-    shows(&rt, &plain, "empty command - Client")?;
-    let detailed = RedisError::from((ErrorKind::Client, "other", text(rt.alloc(), "why")?));
+    shows(&rt, &plain, "empty command - Client")
+}
+
+#[test]
+fn detailed_errors(rt: HostRuntime) -> Result<(), Fail> {
+    let why = text(rt.alloc(), "why")?;
+    let detailed = RedisError::from((ErrorKind::Client, "other", why));
     assert!(rt; detailed.detail().is_some() && detailed.code().is_none());
-    debugs(&rt, &detailed, "other - Client: why")?;
-    assert!(rt; plain == detailed);
+    assert!(rt; detailed == RedisError::from((ErrorKind::Client, "empty command")));
     assert!(rt; detailed.try_clone(rt.alloc())? == detailed);
-    Ok(())
+    debugs(&rt, &detailed, "other - Client: why")
 }
 
 #[test]
@@ -268,144 +264,13 @@ fn names(rt: HostRuntime) -> Result<(), Fail> {
     Ok(())
 }
 
-/// It prints this, and its copy equals it.
-fn prints(rt: &(impl Abort + AllocGlobal), value: &Value, wanted: &str) -> Result<(), Fail> {
-    debugs(rt, value, wanted)?;
-    assert!(rt; value.try_clone(rt.alloc())? == *value);
-    Ok(())
-}
-
 #[test]
-fn plain_values(rt: HostRuntime) -> Result<(), Fail> {
-    prints(&rt, &Value::default(), "nil")?;
-    prints(&rt, &Value::Okay, "ok")?;
-    prints(&rt, &Value::Int(-7), "int(-7)")?;
-    prints(&rt, &Value::Boolean(true), "boolean(true)")?;
-    prints(&rt, &simple(rt.alloc(), "a")?, "simple-string(\"a\")")?;
-    prints(&rt, &error(rt.alloc(), "ERR x")?, "Server error: `ERR: x`")?;
-    prints(&rt, &error(rt.alloc(), "ERR")?, "Server error: `ERR`")
-}
-
-#[test]
-fn byte_values(rt: HostRuntime) -> Result<(), Fail> {
-    let bytes = Items::from_slice(rt.alloc(), b"1")?;
-    prints(&rt, &Value::BulkString(bytes), "bulk-string('\"1\"')")?;
-    let binary = Items::from_slice(rt.alloc(), &[255, 0])?;
-    prints(&rt, &Value::BulkString(binary), "binary-data([255, 0])")?;
-    let digits = Items::from_slice(rt.alloc(), b"12")?;
-    prints(&rt, &Value::BigNumber(digits), "big-number([49, 50])")?;
-    let double = Text::from_str(rt.alloc(), "1.5")?;
-    prints(&rt, &Value::Double(double), "double(1.5)")?;
-    let verbatim = Value::VerbatimString {
-        format: VerbatimFormat::Text,
-        text: Text::from_str(rt.alloc(), "a")?,
-    };
-    prints(&rt, &verbatim, "verbatim-string(Text,\"a\")")
-}
-
-#[test]
-fn nested_values(rt: HostRuntime) -> Result<(), Fail> {
-    let parts = vec![in rt.alloc(); Value::Okay, Value::Nil]?;
-    prints(&rt, &Value::Array(parts.into()), "array([ok, nil])")?;
-    let members = vec![in rt.alloc(); Value::Int(1)]?;
-    prints(&rt, &Value::Set(members.into()), "set([int(1)])")?;
-    let entries = vec![in rt.alloc(); (Value::Okay, Value::Int(1))]?;
-    prints(&rt, &Value::Map(entries.into()), "map([(ok, int(1))])")?;
-    let payload = vec![in rt.alloc(); Value::Int(1)]?;
+fn pushes(rt: HostRuntime) -> Result<(), Fail> {
+    assert!(rt; Value::default() == Value::Nil);
     let push = PushInfo {
         kind: PushKind::Message,
-        payload: payload.into(),
+        payload: Items::from(vec![in rt.alloc(); Value::Int(1)]?),
     };
     assert!(rt; push.try_clone()? == push);
-    Ok(())
-}
-
-/// An attribute with an error in its pairs and one in its data.
-fn attribute(alloc: Global) -> Result<Value, Fail> {
-    let pair = (error(alloc, "A x")?, Value::Int(1));
-    Ok(Value::Attribute {
-        payload: Boxed::new(alloc, error(alloc, "B y")?)?,
-        attributes: vec![in alloc; pair]?.into(),
-    })
-}
-
-/// The attribute in a set, in a map, in a push.
-fn nested_errors(alloc: Global) -> Result<Value, Fail> {
-    let entry = (
-        Value::Okay,
-        Value::Set(vec![in alloc; attribute(alloc)?]?.into()),
-    );
-    let map = Value::Map(vec![in alloc; entry]?.into());
-    Ok(Value::Push {
-        kind: PushKind::Message,
-        payload: vec![in alloc; map]?.into(),
-    })
-}
-
-#[test]
-fn first_error_in_order(rt: HostRuntime) -> Result<(), Fail> {
-    prints(
-        &rt,
-        &attribute(rt.alloc())?,
-        "attribute(Server error: `B: y`)",
-    )?;
-    let nested = nested_errors(rt.alloc())?;
-    match Value::Array(vec![in rt.alloc(); Value::Okay, nested]?.into()).extract_error() {
-        Err(found) => shows(&rt, &found, "\"B\": y")?,
-        Ok(_value) => assert!(rt; false),
-    }
-    let good = Value::Array(vec![in rt.alloc(); Value::Okay]?.into()).extract_error()?;
-    debugs(&rt, &good, "array([ok])")
-}
-
-fn integers(alloc: Global, to: i64) -> Result<Value, Fail> {
-    let mut parts = Vec::new(alloc);
-    for n in 0..to {
-        parts.push(Value::Int(n))?;
-    }
-    Ok(Value::Array(parts.into()))
-}
-
-#[test]
-fn sequences(rt: HostRuntime) -> Result<(), Fail> {
-    let cursor = Value::BulkString(Items::from_slice(rt.alloc(), b"0")?);
-    let parts = vec![in rt.alloc(); cursor, integers(rt.alloc(), 0)?]?;
-    assert!(rt; Value::Array(parts.into()).looks_like_cursor());
-    assert!(rt; !Value::Okay.looks_like_cursor());
-    let three = integers(rt.alloc(), 3)?;
-    assert_eq!(rt; three.as_sequence().ok_or("none")?.len(), 3);
-    assert!(rt; three.into_sequence(rt.alloc()).is_ok());
-    assert_eq!(rt; Value::Nil.as_sequence().ok_or("none")?.len(), 0);
-    assert!(rt; Value::Okay.into_sequence(rt.alloc()).is_err());
-    Ok(())
-}
-
-#[test]
-fn borrowed_pairs(rt: HostRuntime) -> Result<(), Fail> {
-    let four = integers(rt.alloc(), 4)?;
-    let mut iter = four.as_map_iter().ok_or("none")?;
-    assert_eq!(rt; iter.size_hint(), (2, Some(2)));
-    match iter.next() {
-        Some((key, value)) => assert!(rt; *key == Value::Int(0) && *value == Value::Int(1)),
-        None => assert!(rt; false),
-    }
-    assert_eq!(rt; iter.size_hint(), (1, Some(1)));
-    assert!(rt; integers(rt.alloc(), 3)?.as_map_iter().is_none());
-    Ok(())
-}
-
-#[test]
-fn owned_pairs(rt: HostRuntime) -> Result<(), Fail> {
-    match integers(rt.alloc(), 4)?.into_map_iter() {
-        Ok(mut iter) => {
-            assert_eq!(rt; iter.size_hint(), (2, Some(2)));
-            assert!(rt; iter.next() == Some((Value::Int(0), Value::Int(1))));
-        }
-        Err(_other) => assert!(rt; false),
-    }
-    match integers(rt.alloc(), 3)?.into_map_iter() {
-        Ok(_iter) => assert!(rt; false),
-        Err(back) => assert!(rt; back == integers(rt.alloc(), 3)?),
-    }
     Ok(())
 }
