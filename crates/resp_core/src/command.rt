@@ -1,8 +1,8 @@
 //! Commands.
 
-ghost use Rattle.std.specs.Prelude.{◌≡◌, ◌∷◌, [], ◌++◌, ◌↔◌, is_ok, if◌then◌else◌, IfOk, IfErr, OnOk, OnErr, IsTrue, true, false, length, take};
+ghost use Rattle.std.specs.Prelude.{◌≡◌, ◌∷◌, [], ◌++◌, ◌↔◌, is_ok, if◌then◌else◌, IfOk, IfErr, OnOk, OnErr, IsTrue, true, false, length, take, ◌<◌};
 ghost use Rattle.resp_value.specs.Memory.{OnlyMemory};
-ghost use Rattle.resp_args.specs.Args.{Appends, IsRefusal};
+ghost use Rattle.resp_args.specs.Args.{Appends, IsRefusal, extended};
 ghost use Rattle.resp_core.specs.Packed.{packed, packed_or_none};
 ghost use Rattle.resp_core.specs.Call.{CommandCall, Answers};
 
@@ -10,7 +10,7 @@ use crate::link::ConnectionLike;
 use crate::packing::{pack_command, write_packed};
 use resp_args::{ArgList, RedisWrite, ToRedisArgs};
 use resp_from::FromRedisValue;
-use resp_value::{RedisError, RedisResult, Value};
+use resp_value::{RedisResult, Value};
 use std::alloc::Global;
 use std::marker::Model;
 
@@ -53,6 +53,7 @@ impl Cmd {
     pub fn arg<T: ToRedisArgs + Drop>(&mut self, arg: T) -> RedisResult<&mut Self>
         ensures same { IfOk result (λ c. c.ghost_name ≡ self.entry.ghost_name) }
         ensures given { IfOk result (λ c. Appends (T.gives arg) self.old.args c.now.args) }
+        ensures flag { IfOk result (λ c. c.now.no_response ≡ self.old.no_response) }
         ensures accepted { OnOk result (T.refuses arg → ⊥) }
         ensures refused { IfErr result (IsRefusal (T.refuses arg)) }
     {
@@ -146,17 +147,28 @@ impl RedisWrite for Cmd {
     fn write_arg(&mut self, arg: &[u8]) -> RedisResult<()>
         ensures ok { OnOk result (self.new.args ≡ self.old.args ++ arg.now ∷ []) }
         ensures err { OnErr result (self.new.args ≡ self.old.args) }
-        ensures memory { IfErr result (λ e. e ≡ RedisError.OutOfMemory) }
+        ensures memory { OnlyMemory result }
         ensures rest { self.new ≡ record self.old { args = self.new.args } }
     {
         self.args.write_arg(arg)
     }
 
-    fn open_arg(&mut self) -> RedisResult<()> {
+    fn open_arg(&mut self) -> RedisResult<()>
+        ensures ok { OnOk result (self.new.args ≡ self.old.args ++ [] ∷ []) }
+        ensures err { OnErr result (self.new.args ≡ self.old.args) }
+        ensures memory { OnlyMemory result }
+        ensures rest { self.new ≡ record self.old { args = self.new.args } }
+    {
         self.args.open_arg()
     }
 
-    fn extend_arg(&mut self, more: &[u8]) -> RedisResult<()> {
+    fn extend_arg(&mut self, more: &[u8]) -> RedisResult<()>
+        requires { 0 < length self.old.args }
+        ensures ok { OnOk result (self.new.args ≡ extended self.old.args more.now) }
+        ensures err { OnErr result (self.new.args ≡ self.old.args) }
+        ensures memory { OnlyMemory result }
+        ensures rest { self.new ≡ record self.old { args = self.new.args } }
+    {
         self.args.extend_arg(more)
     }
 }

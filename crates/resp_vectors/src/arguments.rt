@@ -9,91 +9,99 @@ use std::rc::{Rc, RcSlice};
 use std::test::Fail;
 
 /// The value gives these arguments, each shown with its length before it, and counts for so many.
-fn gives<T: ToRedisArgs>(
-    rt: &(impl Abort + AllocGlobal),
-    value: &T,
-    wanted: &str,
-    count: usize,
-) -> Result<(), Fail> {
-    let args = value.to_redis_args(rt.alloc())?;
+fn gives<T: ToRedisArgs>(rt: &(impl Abort + AllocGlobal), value: &T, wanted: &str, count: usize) {
+    let args = value.to_redis_args(rt.alloc()).expect(rt, "no refusal");
     let mut text = String::new(rt.alloc());
     for arg in &args {
         write!(
             text,
             "{}:{} ",
             arg.len(),
-            std::str::from_utf8(arg.as_slice())?
-        )?;
+            std::str::from_utf8(arg.as_slice()).expect(rt, "no refusal")
+        )
+        .expect(rt, "no refusal");
     }
     assert_eq!(rt; text.as_str(), wanted);
     assert_eq!(rt; value.num_of_args(), count);
-    Ok(())
 }
 
 #[test]
-fn numbers_are_decimal(rt: HostRuntime) -> Result<(), Fail> {
-    gives(&rt, &42i32, "2:42 ", 1)?;
-    gives(&rt, &i8::MIN, "4:-128 ", 1)?;
-    gives(&rt, &0u8, "1:0 ", 1)?;
+fn numbers_are_decimal(rt: HostRuntime) {
+    gives(&rt, &42i32, "2:42 ", 1);
+    gives(&rt, &i8::MIN, "4:-128 ", 1);
+    gives(&rt, &0u8, "1:0 ", 1);
     gives(
         &rt,
         &i128::MIN,
         "40:-170141183460469231731687303715884105728 ",
         1,
-    )?;
+    );
     gives(
         &rt,
         &u128::MAX,
         "39:340282366920938463463374607431768211455 ",
         1,
-    )
+    );
 }
 
 #[test]
-fn texts_and_truth_values_are_one_argument(rt: HostRuntime) -> Result<(), Fail> {
-    gives(&rt, &"my_key", "6:my_key ", 1)?;
-    gives(&rt, &"", "0: ", 1)?;
-    gives(&rt, &String::from_str(rt.alloc(), "a b")?, "3:a b ", 1)?;
-    gives(&rt, &CowStr::from("ab"), "2:ab ", 1)?;
-    gives(&rt, &true, "1:1 ", 1)?;
-    gives(&rt, &false, "1:0 ", 1)
+fn texts_and_truth_values_are_one_argument(rt: HostRuntime) {
+    gives(&rt, &"my_key", "6:my_key ", 1);
+    gives(&rt, &"", "0: ", 1);
+    gives(
+        &rt,
+        &String::from_str(rt.alloc(), "a b").expect(&rt, "no refusal"),
+        "3:a b ",
+        1,
+    );
+    gives(&rt, &CowStr::from("ab"), "2:ab ", 1);
+    gives(&rt, &true, "1:1 ", 1);
+    gives(&rt, &false, "1:0 ", 1);
 }
 
 #[test]
-fn slices_of_bytes_are_one_argument(rt: HostRuntime) -> Result<(), Fail> {
-    gives(&rt, &Vec::<u8>::new(rt.alloc()), "0: ", 1)?;
-    gives(&rt, &b"a\r\n".as_slice(), "3:a\r\n ", 1)?;
-    gives(&rt, &b"ab", "2:ab ", 1)?;
-    gives(&rt, &CowSlice::from(b"ab".as_slice()), "2:ab ", 1)?;
+fn slices_of_bytes_are_one_argument(rt: HostRuntime) {
+    gives(&rt, &Vec::<u8>::new(rt.alloc()), "0: ", 1);
+    gives(&rt, &b"a\r\n".as_slice(), "3:a\r\n ", 1);
+    gives(&rt, &b"ab", "2:ab ", 1);
+    gives(&rt, &CowSlice::from(b"ab".as_slice()), "2:ab ", 1);
     gives(
         &rt,
         &[b"a".as_slice(), b"bc".as_slice()].as_slice(),
         "1:a 2:bc ",
         2,
-    )?;
+    );
     assert!(rt; u8::is_single_vec_arg(b"ab"));
-    Ok(())
 }
 
 #[test]
-fn slices_are_their_items(rt: HostRuntime) -> Result<(), Fail> {
-    gives(&rt, &&[1i64, 2], "1:1 1:2 ", 2)?;
-    gives(&rt, &[None::<i64>].as_slice(), "", 1)?;
+fn slices_are_their_items(rt: HostRuntime) {
+    gives(&rt, &&[1i64, 2], "1:1 1:2 ", 2);
+    gives(&rt, &[None::<i64>].as_slice(), "", 1);
     gives(
         &rt,
         &[Some(1i64), None, Some(-3)].as_slice(),
         "1:1 2:-3 ",
         3,
-    )?;
-    gives(&rt, &[(1i64, "a", true)].as_slice(), "1:1 1:a 1:1 ", 3)?;
+    );
+    gives(&rt, &[(1i64, "a", true)].as_slice(), "1:1 1:a 1:1 ", 3);
     assert!(rt; !i64::is_single_vec_arg(&[1, 2]));
-    Ok(())
 }
 
 #[test]
-fn vectors_are_their_items(rt: HostRuntime) -> Result<(), Fail> {
-    gives(&rt, &vec![in rt.alloc(); (1i64, 2i64)]?, "1:1 1:2 ", 2)?;
-    gives(&rt, &vec![in rt.alloc(); Some(1i64), None]?, "1:1 ", 2)
+fn vectors_are_their_items(rt: HostRuntime) {
+    gives(
+        &rt,
+        &vec![in rt.alloc(); (1i64, 2i64)].expect(&rt, "no refusal"),
+        "1:1 1:2 ",
+        2,
+    );
+    gives(
+        &rt,
+        &vec![in rt.alloc(); Some(1i64), None].expect(&rt, "no refusal"),
+        "1:1 ",
+        2,
+    )
 }
 
 #[test]
@@ -112,55 +120,76 @@ fn which_are_numbers(rt: HostRuntime) {
 }
 
 #[test]
-fn an_argument_list_grows(rt: HostRuntime) -> Result<(), Fail> {
+fn an_argument_list_grows(rt: HostRuntime) {
     let mut list = ArgList::new(rt.alloc());
     assert!(rt; list.is_empty());
-    list.write_arg(b"SET")?;
-    list.open_arg()?;
-    list.extend_arg(b"key")?;
-    write_each_arg(&[1u64, 2], &mut list)?;
+    list.write_arg(b"SET").expect(&rt, "no refusal");
+    list.open_arg().expect(&rt, "no refusal");
+    list.extend_arg(b"key").expect(&rt, "no refusal");
+    write_each_arg(&[1u64, 2], &mut list).expect(&rt, "no refusal");
     assert_eq!(rt; list.len(), 4);
     assert_eq!(rt; list.get(1), Some(b"key".as_slice()));
     assert_eq!(rt; list.get(3), Some(b"2".as_slice()));
     assert_eq!(rt; list.get(4), None);
-    Ok(())
 }
 
 #[test]
-fn an_argument_list_shrinks(rt: HostRuntime) -> Result<(), Fail> {
+fn an_argument_list_shrinks(rt: HostRuntime) {
     let mut list = ArgList::new(rt.alloc());
-    write_each_arg(&["a", "b", "c"], &mut list)?;
+    write_each_arg(&["a", "b", "c"], &mut list).expect(&rt, "no refusal");
     list.truncate(2);
-    assert_eq!(rt; list.try_clone(rt.alloc())?.len(), 2);
+    assert_eq!(rt;
+        list.try_clone(rt.alloc()).expect(&rt, "no refusal").len(),
+        2
+    );
     list.clear();
     assert!(rt; list.is_empty());
-    Ok(())
 }
 
 #[test]
-fn owners_are_what_they_hold(rt: HostRuntime) -> Result<(), Fail> {
+fn owners_are_what_they_hold(rt: HostRuntime) {
     let alloc = rt.alloc();
-    gives(&rt, &Box::new(alloc, 5i64)?, "1:5 ", 1)?;
-    gives(&rt, &Rc::new(alloc, "a")?, "1:a ", 1)?;
-    gives(&rt, &BoxedSlice::from_slice(alloc, b"ab")?, "2:ab ", 1)?;
-    gives(&rt, &RcSlice::from_slice(alloc, b"ab")?, "2:ab ", 1)?;
-    gives(&rt, &&7u8, "1:7 ", 1)?;
+    gives(
+        &rt,
+        &Box::new(alloc, 5i64).expect(&rt, "no refusal"),
+        "1:5 ",
+        1,
+    );
+    gives(
+        &rt,
+        &Rc::new(alloc, "a").expect(&rt, "no refusal"),
+        "1:a ",
+        1,
+    );
+    gives(
+        &rt,
+        &BoxedSlice::from_slice(alloc, b"ab").expect(&rt, "no refusal"),
+        "2:ab ",
+        1,
+    );
+    gives(
+        &rt,
+        &RcSlice::from_slice(alloc, b"ab").expect(&rt, "no refusal"),
+        "2:ab ",
+        1,
+    );
+    gives(&rt, &&7u8, "1:7 ", 1);
     let mut number = 3u16;
-    gives(&rt, &&mut number, "1:3 ", 1)
+    gives(&rt, &&mut number, "1:3 ", 1);
 }
 
 #[test]
-fn tuples_are_their_parts(rt: HostRuntime) -> Result<(), Fail> {
-    gives(&rt, &("a",), "1:a ", 1)?;
-    gives(&rt, &("a", Some(2i64)), "1:a 1:2 ", 2)?;
-    gives(&rt, &("a", None::<i64>), "1:a ", 2)?;
+fn tuples_are_their_parts(rt: HostRuntime) {
+    gives(&rt, &("a",), "1:a ", 1);
+    gives(&rt, &("a", Some(2i64)), "1:a 1:2 ", 2);
+    gives(&rt, &("a", None::<i64>), "1:a ", 2);
     let twelve = (1u8, 2u8, 3u8, 4u8, 5u8, 6u8, 7u8, 8u8, 9u8, "x", true, "yz");
     gives(
         &rt,
         &twelve,
         "1:1 1:2 1:3 1:4 1:5 1:6 1:7 1:8 1:9 1:x 1:1 2:yz ",
         12,
-    )
+    );
 }
 
 #[test]
@@ -168,21 +197,23 @@ fn sorted_sets_and_maps_are_their_members(rt: HostRuntime) -> Result<(), Fail> {
     let mut members = BTreeSet::new(rt.alloc());
     members.insert(2u32)?;
     members.insert(1)?;
-    gives(&rt, &members, "1:1 1:2 ", 2)?;
+    gives(&rt, &members, "1:1 1:2 ", 2);
     let mut pairs = BTreeMap::new(rt.alloc());
     pairs.insert("a", 1u32)?;
     pairs.insert("b", 2)?;
-    gives(&rt, &pairs, "1:a 1:1 1:b 1:2 ", 2)
+    gives(&rt, &pairs, "1:a 1:1 1:b 1:2 ", 2);
+    Ok(())
 }
 
 #[test]
 fn hashed_sets_and_maps_are_their_members(rt: HostRuntime) -> Result<(), Fail> {
     let mut members = HashSet::new(rt.alloc());
     members.insert("a")?;
-    gives(&rt, &members, "1:a ", 1)?;
+    gives(&rt, &members, "1:a ", 1);
     let mut pairs = HashMap::new(rt.alloc());
     pairs.insert("a", "b")?;
-    gives(&rt, &pairs, "1:a 1:b ", 1)
+    gives(&rt, &pairs, "1:a 1:b ", 1);
+    Ok(())
 }
 
 #[test]

@@ -9,59 +9,70 @@ use std::alloc::Global;
 use std::fmt::{Debug, Display};
 use std::io;
 use std::process::Abort;
-use std::test::Fail;
 
-fn text(alloc: Global, text: &str) -> Result<String, Fail> {
-    Ok(String::from_str(alloc, text)?)
+fn text(rt: &(impl Abort + AllocGlobal), text: &str) -> String {
+    String::from_str(rt.alloc(), text).expect(rt, "no refusal")
 }
 
-fn shows<T: Display>(rt: &(impl Abort + AllocGlobal), value: &T, wanted: &str) -> Result<(), Fail> {
-    assert_eq!(rt; format!(in rt.alloc(); "{value}")?.as_str(), wanted);
-    Ok(())
+fn shows<T: Display>(rt: &(impl Abort + AllocGlobal), value: &T, wanted: &str) {
+    assert_eq!(rt;
+        format!(in rt.alloc(); "{value}")
+            .expect(rt, "no refusal")
+            .as_str(),
+        wanted
+    );
 }
 
-fn debugs<T: Debug>(rt: &(impl Abort + AllocGlobal), value: &T, wanted: &str) -> Result<(), Fail> {
-    assert_eq!(rt; format!(in rt.alloc(); "{value:?}")?.as_str(), wanted);
-    Ok(())
+fn debugs<T: Debug>(rt: &(impl Abort + AllocGlobal), value: &T, wanted: &str) {
+    assert_eq!(rt;
+        format!(in rt.alloc(); "{value:?}")
+            .expect(rt, "no refusal")
+            .as_str(),
+        wanted
+    );
 }
 
 #[test]
-fn items(rt: HostRuntime) -> Result<(), Fail> {
-    let mut items = Items::from(vec![in rt.alloc(); 1, 2]?);
-    items.push(3)?;
+fn items(rt: HostRuntime) {
+    let mut items = Items::from(vec![in rt.alloc(); 1, 2].expect(&rt, "no refusal"));
+    items.push(3).expect(&rt, "no refusal");
     assert_eq!(rt; items.len(), 3);
     assert!(rt; !items.is_empty());
     assert_eq!(rt; items.pop(), Some(3));
-    assert!(rt; Items::from_slice(items.allocator(), items.as_slice())? == items);
-    debugs(&rt, &items, "[1, 2]")?;
+    assert!(rt;
+        Items::from_slice(items.allocator(), items.as_slice()).expect(&rt, "no refusal") == items
+    );
+    debugs(&rt, &items, "[1, 2]");
     assert_eq!(rt; items.into_vec().len(), 2);
-    Ok(())
 }
 
 #[test]
-fn boxes(rt: HostRuntime) -> Result<(), Fail> {
-    let boxed = Boxed::new(rt.alloc(), 7)?;
+fn boxes(rt: HostRuntime) {
+    let boxed = Boxed::new(rt.alloc(), 7).expect(&rt, "no refusal");
     assert_eq!(rt; *boxed.get(), 7);
-    debugs(&rt, &boxed, "7")?;
+    debugs(&rt, &boxed, "7");
     assert_eq!(rt; boxed.into_inner(), 7);
-    Ok(())
 }
 
 #[test]
-fn texts(rt: HostRuntime) -> Result<(), Fail> {
-    let short = Text::from(text(rt.alloc(), "a\"")?);
-    assert!(rt; short.try_clone(rt.alloc())? == short);
-    shows(&rt, &short, "a\"")?;
-    debugs(&rt, &short, "\"a\\\"\"")?;
+fn texts(rt: HostRuntime) {
+    let short = Text::from(text(&rt, "a\""));
+    assert!(rt; short.try_clone(rt.alloc()).expect(&rt, "no refusal") == short);
+    shows(&rt, &short, "a\"");
+    debugs(&rt, &short, "\"a\\\"\"");
     assert_eq!(rt; short.into_string().as_str(), "a\"");
     let fixed = Description::from("a");
     assert_eq!(rt; fixed.as_str(), "a");
-    assert!(rt; Description::from(text(rt.alloc(), "a")?).try_clone(rt.alloc())? == fixed);
-    Ok(())
+    assert!(rt;
+        Description::from(text(&rt, "a"))
+            .try_clone(rt.alloc())
+            .expect(&rt, "no refusal")
+            == fixed
+    );
 }
 
 #[test]
-fn server_errors(rt: HostRuntime) -> Result<(), Fail> {
+fn server_errors(rt: HostRuntime) {
     for (line, kind, code, shown) in [
         (
             "LOADING server is loading",
@@ -84,14 +95,13 @@ fn server_errors(rt: HostRuntime) -> Result<(), Fail> {
         ("", None, "", "\"\""),
         (" x", None, "", "\"\": x"),
     ] {
-        let error = ServerError::from_text(rt.alloc(), line)?;
+        let error = ServerError::from_text(rt.alloc(), line).expect(&rt, "no refusal");
         assert_eq!(rt; error.kind(), kind);
         assert_eq!(rt; error.code(), code);
         assert_eq!(rt; error.details().is_some(), line.contains(' '));
-        shows(&rt, &error, shown)?;
-        assert!(rt; error.try_clone(rt.alloc())? == error);
+        shows(&rt, &error, shown);
+        assert!(rt; error.try_clone(rt.alloc()).expect(&rt, "no refusal") == error);
     }
-    Ok(())
 }
 
 #[test]
@@ -131,28 +141,28 @@ fn codes(rt: HostRuntime) {
 }
 
 #[test]
-fn general_errors(rt: HostRuntime) -> Result<(), Fail> {
+fn general_errors(rt: HostRuntime) {
     let plain = RedisError::from((ErrorKind::Client, "empty command"));
     assert_eq!(rt; plain.kind(), ErrorKind::Client);
     assert_eq!(rt; plain.category(), "client error");
-    shows(&rt, &plain, "empty command - Client")
+    shows(&rt, &plain, "empty command - Client");
 }
 
 #[test]
-fn detailed_errors(rt: HostRuntime) -> Result<(), Fail> {
-    let why = text(rt.alloc(), "why")?;
+fn detailed_errors(rt: HostRuntime) {
+    let why = text(&rt, "why");
     let detailed = RedisError::from((ErrorKind::Client, "other", why));
     assert!(rt; detailed.detail().is_some() && detailed.code().is_none());
     assert!(rt; detailed == RedisError::from((ErrorKind::Client, "empty command")));
-    assert!(rt; detailed.try_clone(rt.alloc())? == detailed);
-    debugs(&rt, &detailed, "other - Client: why")
+    assert!(rt; detailed.try_clone(rt.alloc()).expect(&rt, "no refusal") == detailed);
+    debugs(&rt, &detailed, "other - Client: why");
 }
 
 #[test]
-fn errors_from_below(rt: HostRuntime) -> Result<(), Fail> {
+fn errors_from_below(rt: HostRuntime) {
     let io = RedisError::from(IoKind::TimedOut);
     assert_eq!(rt; io.io_kind(), Some(IoKind::TimedOut));
-    shows(&rt, &io, "TimedOut")?;
+    shows(&rt, &io, "TimedOut");
     let fault = RedisError::from(ParsingError::from(FrameFault::BodyEnd));
     assert_eq!(rt; fault.frame_fault(), Some(FrameFault::BodyEnd));
     assert_eq!(rt; fault.kind(), ErrorKind::Parse);
@@ -160,50 +170,64 @@ fn errors_from_below(rt: HostRuntime) -> Result<(), Fail> {
         RedisError::from(ParsingError::OutOfMemory).kind(),
         ErrorKind::OutOfMemory
     );
-    assert!(rt; io.try_clone(rt.alloc())? == io && io != fault);
-    Ok(())
+    assert!(rt; io.try_clone(rt.alloc()).expect(&rt, "no refusal") == io && io != fault);
 }
 
 #[test]
-fn lists_of_errors(rt: HostRuntime) -> Result<(), Fail> {
+fn lists_of_errors(rt: HostRuntime) {
     let mut list = Vec::new(rt.alloc());
-    list.push((1, ServerError::from_text(rt.alloc(), "CROSSSLOT")?))?;
-    list.push((3, ServerError::from_text(rt.alloc(), "ERR x")?))?;
+    list.push((
+        1,
+        ServerError::from_text(rt.alloc(), "CROSSSLOT").expect(&rt, "no refusal"),
+    ))
+    .expect(&rt, "no refusal");
+    list.push((
+        3,
+        ServerError::from_text(rt.alloc(), "ERR x").expect(&rt, "no refusal"),
+    ))
+    .expect(&rt, "no refusal");
     let pipeline = RedisError::Pipeline(list.into());
     assert_eq!(rt;
         pipeline.kind(),
         ErrorKind::Server(ServerErrorKind::CrossSlot)
     );
-    assert!(rt; pipeline.try_clone(rt.alloc())? == pipeline);
+    assert!(rt; pipeline.try_clone(rt.alloc()).expect(&rt, "no refusal") == pipeline);
     shows(
         &rt,
         &pipeline,
         "Pipeline failures: [(Index 1, error: CrossSlot), (Index 3, error: ResponseError: x)]",
-    )?;
+    );
     assert_eq!(rt;
         pipeline
-            .into_server_errors(rt.alloc())?
-            .ok_or("none")?
+            .into_server_errors(rt.alloc())
+            .expect(&rt, "no refusal")
+            .expect(&rt, "some")
             .len(),
         2
     );
-    Ok(())
 }
 
 #[test]
-fn lone_errors(rt: HostRuntime) -> Result<(), Fail> {
-    let lone = RedisError::from(ServerError::from_text(rt.alloc(), "WRONGTYPE x")?);
+fn lone_errors(rt: HostRuntime) {
+    let lone = RedisError::from(ServerError::from_text(rt.alloc(), "WRONGTYPE x").expect(
+        &rt,
+        "no refusal",
+    ));
     assert_eq!(rt; lone.kind(), ErrorKind::Extension);
     assert!(rt; lone.code().is_some() && lone.detail().is_some());
     assert_eq!(rt;
-        lone.into_server_errors(rt.alloc())?.ok_or("none")?.len(),
+        lone.into_server_errors(rt.alloc())
+            .expect(&rt, "no refusal")
+            .expect(&rt, "some")
+            .len(),
         1
     );
     let mut list = Vec::new(rt.alloc());
     list.push((
         1,
-        ServerError::from_text(rt.alloc(), "ERR unknown command")?,
-    ))?;
+        ServerError::from_text(rt.alloc(), "ERR unknown command").expect(&rt, "no refusal"),
+    ))
+    .expect(&rt, "no refusal");
     let aborted = RedisError::Aborted(list.into());
     assert_eq!(rt;
         aborted.kind(),
@@ -213,29 +237,29 @@ fn lone_errors(rt: HostRuntime) -> Result<(), Fail> {
         &rt,
         &aborted,
         "Transaction aborted: [(Index 1, error: ResponseError: unknown command)]",
-    )?;
-    Ok(())
+    );
 }
 
 #[test]
-fn parsing_errors(rt: HostRuntime) -> Result<(), Fail> {
+fn parsing_errors(rt: HostRuntime) {
     let fixed = ParsingError::from("not a number");
     assert_eq!(rt; fixed.description(), "not a number");
-    shows(&rt, &fixed, "Incompatible type - not a number")?;
-    assert!(rt; ParsingError::from_text(rt.alloc(), "not a number")? == fixed);
-    assert!(rt; fixed.try_clone(rt.alloc())? == fixed);
+    shows(&rt, &fixed, "Incompatible type - not a number");
+    assert!(rt;
+        ParsingError::from_text(rt.alloc(), "not a number").expect(&rt, "no refusal") == fixed
+    );
+    assert!(rt; fixed.try_clone(rt.alloc()).expect(&rt, "no refusal") == fixed);
     assert!(rt; fixed.frame_fault().is_none() && !fixed.is_out_of_memory());
-    assert!(rt; ParsingError::from(text(rt.alloc(), "not a number")?) == fixed);
+    assert!(rt; ParsingError::from(text(&rt, "not a number")) == fixed);
     assert!(rt;
         ParsingError::from(FrameFault::NotDouble)
             .frame_fault()
             .is_some()
     );
-    Ok(())
 }
 
 #[test]
-fn names(rt: HostRuntime) -> Result<(), Fail> {
+fn names(rt: HostRuntime) {
     for (name, other) in [
         ("invalidate", false),
         ("message", false),
@@ -250,27 +274,25 @@ fn names(rt: HostRuntime) -> Result<(), Fail> {
         ("disconnection", true),
         ("x", true),
     ] {
-        let kind = get_push_kind(text(rt.alloc(), name)?);
+        let kind = get_push_kind(text(&rt, name));
         assert_eq!(rt; matches!(kind, PushKind::Other(_)), other);
-        shows(&rt, &kind, name)?;
-        assert!(rt; kind.try_clone(rt.alloc())? == kind);
+        shows(&rt, &kind, name);
+        assert!(rt; kind.try_clone(rt.alloc()).expect(&rt, "no refusal") == kind);
     }
     for (name, other) in [("mkd", false), ("txt", false), ("xyz", true)] {
-        let format = verbatim_format(text(rt.alloc(), name)?);
+        let format = verbatim_format(text(&rt, name));
         assert_eq!(rt; matches!(format, VerbatimFormat::Unknown(_)), other);
-        shows(&rt, &format, name)?;
-        assert!(rt; format.try_clone(rt.alloc())? == format);
+        shows(&rt, &format, name);
+        assert!(rt; format.try_clone(rt.alloc()).expect(&rt, "no refusal") == format);
     }
-    Ok(())
 }
 
 #[test]
-fn pushes(rt: HostRuntime) -> Result<(), Fail> {
+fn pushes(rt: HostRuntime) {
     assert!(rt; Value::default() == Value::Nil);
     let push = PushInfo {
         kind: PushKind::Message,
-        payload: Items::from(vec![in rt.alloc(); Value::Int(1)]?),
+        payload: Items::from(vec![in rt.alloc(); Value::Int(1)].expect(&rt, "no refusal")),
     };
-    assert!(rt; push.try_clone()? == push);
-    Ok(())
+    assert!(rt; push.try_clone().expect(&rt, "no refusal") == push);
 }

@@ -6,52 +6,47 @@ use resp_core::{
 use std::io;
 use std::io::{Cursor, Read};
 use std::process::Abort;
-use std::test::Fail;
 
 /// Adds what the parser answers next, in its Debug form, and says whether that was a value: else
 /// it was a refusal, or `..` where bytes are awaited. A value equals its copy.
-fn show_next(
-    rt: &(impl Abort + AllocGlobal),
-    parser: &mut Parser,
-    text: &mut String,
-) -> Result<bool, Fail> {
+fn show_next(rt: &(impl Abort + AllocGlobal), parser: &mut Parser, text: &mut String) -> bool {
     match parser.take_value() {
         Ok(Some(value)) => {
-            assert!(rt; value.try_clone(rt.alloc())? == value);
-            write!(text, "{value:?} ")?;
-            Ok(true)
+            assert!(rt; value.try_clone(rt.alloc()).expect(rt, "no refusal") == value);
+            write!(text, "{value:?} ").expect(rt, "no refusal");
+            true
         }
         Ok(None) => {
             if parser.in_progress() {
-                text.push_str("..")?;
+                text.push_str("..").expect(rt, "no refusal");
             }
-            Ok(false)
+            false
         }
         Err(error) => {
             match error.frame_fault() {
-                Some(fault) => write!(text, "{fault:?}")?,
-                None => write!(text, "{error:?}")?,
+                Some(fault) => write!(text, "{fault:?}").expect(rt, "no refusal"),
+                None => write!(text, "{error:?}").expect(rt, "no refusal"),
             }
-            Ok(false)
+            false
         }
     }
 }
 
 /// What the values of the bytes and then the refusal show.
-fn shown(rt: &(impl Abort + AllocGlobal), bytes: &[u8]) -> Result<String, Fail> {
+fn shown(rt: &(impl Abort + AllocGlobal), bytes: &[u8]) -> String {
     let mut parser = Parser::new(rt.alloc());
-    parser.feed(bytes)?;
+    parser.feed(bytes).expect(rt, "no refusal");
     let mut text = String::new(rt.alloc());
     for _ in 0..bytes.len() + 1 {
-        if !show_next(rt, &mut parser, &mut text)? {
+        if !show_next(rt, &mut parser, &mut text) {
             break;
         }
     }
-    Ok(text)
+    text
 }
 
 #[test]
-fn scalars(rt: HostRuntime) -> Result<(), Fail> {
+fn scalars(rt: HostRuntime) {
     for (bytes, want) in [
         (&b":+007\r\n: 7 \r\n:-0\r\n"[..], "int(7) int(7) int(0) "),
         (
@@ -95,13 +90,12 @@ fn scalars(rt: HostRuntime) -> Result<(), Fail> {
         (&b"@"[..], "UnknownType"),
         (&b""[..], ""),
     ] {
-        assert_eq!(rt; shown(&rt, bytes)?.as_str(), want);
+        assert_eq!(rt; shown(&rt, bytes).as_str(), want);
     }
-    Ok(())
 }
 
 #[test]
-fn bodies(rt: HostRuntime) -> Result<(), Fail> {
+fn bodies(rt: HostRuntime) {
     for (bytes, want) in [
         (
             &b"$2\r\nab\r\n$-7\r\n$2\r\nOK\r\n"[..],
@@ -126,9 +120,8 @@ fn bodies(rt: HostRuntime) -> Result<(), Fail> {
         (&b"=3\r\ntxt\r\n"[..], "NoVerbatimFormat"),
         (&b"=-1\r\n"[..], "NegativeLength"),
     ] {
-        assert_eq!(rt; shown(&rt, bytes)?.as_str(), want);
+        assert_eq!(rt; shown(&rt, bytes).as_str(), want);
     }
-    Ok(())
 }
 
 /// Whether the value is an attribute of one pair, a text and 1.
@@ -145,7 +138,7 @@ fn describes_one(value: &Value) -> bool {
 }
 
 #[test]
-fn aggregates(rt: HostRuntime) -> Result<(), Fail> {
+fn aggregates(rt: HostRuntime) {
     for (bytes, want) in [
         (&b"*-1\r\n~-1\r\n*0\r\n"[..], "nil nil array([]) "),
         (
@@ -182,30 +175,27 @@ fn aggregates(rt: HostRuntime) -> Result<(), Fail> {
         (&b"*2\r\n:1\r\n:x\r\n"[..], "NotInteger"),
         (&b"*9223372036854775807\r\n:1\r\n"[..], ".."),
     ] {
-        assert_eq!(rt; shown(&rt, bytes)?.as_str(), want);
+        assert_eq!(rt; shown(&rt, bytes).as_str(), want);
     }
-    let attribute = parse_redis_value(rt.alloc(), b"|1\r\n+k\r\n:1\r\n:2\r\n")?;
+    let attribute = parse_redis_value(rt.alloc(), b"|1\r\n+k\r\n:1\r\n:2\r\n").expect(
+        &rt,
+        "no refusal",
+    );
     assert!(rt; describes_one(&attribute));
-    Ok(())
 }
 
 /// A header or a value again and again, and then the last bytes.
-fn nested(
-    rt: &(impl Abort + AllocGlobal),
-    header: &str,
-    times: usize,
-    last: &str,
-) -> Result<String, Fail> {
+fn nested(rt: &(impl Abort + AllocGlobal), header: &str, times: usize, last: &str) -> String {
     let mut bytes = String::new(rt.alloc());
     for _ in 0..times {
-        bytes.push_str(header)?;
+        bytes.push_str(header).expect(rt, "no refusal");
     }
-    bytes.push_str(last)?;
+    bytes.push_str(last).expect(rt, "no refusal");
     shown(rt, bytes.as_bytes())
 }
 
 #[test]
-fn levels(rt: HostRuntime) -> Result<(), Fail> {
+fn levels(rt: HostRuntime) {
     for (header, last, open) in [
         ("*1\r\n", "*0\r\n", "array(["),
         ("~1\r\n", "~0\r\n", "set(["),
@@ -213,41 +203,49 @@ fn levels(rt: HostRuntime) -> Result<(), Fail> {
         ("|0\r\n", "_\r\n", "attribute("),
         (">2\r\n+a\r\n", ">0\r\n", "push(Other(\"a\"), ["),
     ] {
-        let deepest = nested(&rt, header, 99, last)?;
+        let deepest = nested(&rt, header, 99, last);
         assert!(rt; deepest.as_str().starts_with(open));
-        assert_eq!(rt; nested(&rt, header, 100, last)?.as_str(), "TooDeep");
+        assert_eq!(rt; nested(&rt, header, 100, last).as_str(), "TooDeep");
     }
-    assert_eq!(rt; nested(&rt, "*1\r\n", 100, "")?.as_str(), "..");
-    assert_eq!(rt; nested(&rt, "*1\r\n", 100, "@")?.as_str(), "TooDeep");
-    Ok(())
+    assert_eq!(rt; nested(&rt, "*1\r\n", 100, "").as_str(), "..");
+    assert_eq!(rt; nested(&rt, "*1\r\n", 100, "@").as_str(), "TooDeep");
 }
 
 #[test]
-fn pieces(rt: HostRuntime) -> Result<(), Fail> {
+fn pieces(rt: HostRuntime) {
     let mut parser = Parser::new(rt.alloc());
     assert!(rt; !parser.in_progress());
-    parser.feed(b"+a\r")?;
-    assert!(rt; parser.take_value()?.is_none());
+    parser.feed(b"+a\r").expect(&rt, "no refusal");
+    assert!(rt; parser.take_value().expect(&rt, "no refusal").is_none());
     assert!(rt; parser.in_progress());
-    parser.feed(b"\n:1\r\n")?;
-    let text = Value::SimpleString(Text::from_str(rt.alloc(), "a")?);
-    assert_eq!(rt; parser.take_value()?, Some(text));
-    assert!(rt; matches!(parser.take_value()?, Some(Value::Int(1))));
-    assert!(rt; parser.take_value()?.is_none());
+    parser.feed(b"\n:1\r\n").expect(&rt, "no refusal");
+    let text = Value::SimpleString(Text::from_str(rt.alloc(), "a").expect(&rt, "no refusal"));
+    assert_eq!(rt; parser.take_value().expect(&rt, "no refusal"), Some(text));
+    assert!(rt;
+        matches!(
+            parser.take_value().expect(&rt, "no refusal"),
+            Some(Value::Int(1))
+        )
+    );
+    assert!(rt; parser.take_value().expect(&rt, "no refusal").is_none());
     assert!(rt; !parser.in_progress());
-    Ok(())
 }
 
 #[test]
-fn single_bytes(rt: HostRuntime) -> Result<(), Fail> {
+fn single_bytes(rt: HostRuntime) {
     let mut parser = Parser::new(rt.alloc());
     let bytes = b"*2\r\n$3\r\nabc\r\n:7\r\n";
     for at in 0..bytes.len() {
-        assert!(rt; parser.take_value()?.is_none());
-        parser.feed(&bytes[at..at + 1])?;
+        assert!(rt; parser.take_value().expect(&rt, "no refusal").is_none());
+        parser.feed(&bytes[at..at + 1]).expect(&rt, "no refusal");
     }
-    assert!(rt; matches!(parser.take_value()?, Some(Value::Array(_))));
-    parser.feed(b"@")?;
+    assert!(rt;
+        matches!(
+            parser.take_value().expect(&rt, "no refusal"),
+            Some(Value::Array(_))
+        )
+    );
+    parser.feed(b"@").expect(&rt, "no refusal");
     assert!(rt; parser.take_value().is_err());
     assert!(rt; parser.is_failed() && parser.in_progress());
     assert_eq!(rt;
@@ -258,7 +256,6 @@ fn single_bytes(rt: HostRuntime) -> Result<(), Fail> {
             .and_then(|e| e.detail()),
         Some("parser has failed")
     );
-    Ok(())
 }
 
 /// A reader that fails once, in the middle.
@@ -300,11 +297,21 @@ impl Read for Noting {
 }
 
 #[test]
-fn sources(rt: HostRuntime) -> Result<(), Fail> {
+fn sources(rt: HostRuntime) {
     let mut parser = Parser::new(rt.alloc());
-    assert_eq!(rt; parser.parse_value(&b":7\r\n+x\r\n"[..])?, Value::Int(7));
+    assert_eq!(rt;
+        parser
+            .parse_value(&b":7\r\n+x\r\n"[..])
+            .expect(&rt, "no refusal"),
+        Value::Int(7)
+    );
     let mut source = Reading::new(Cursor::new(&b"*1\r\n"[..]));
-    assert!(rt; matches!(parser.parse_from(&mut source)?, Value::SimpleString(_)));
+    assert!(rt;
+        matches!(
+            parser.parse_from(&mut source).expect(&rt, "no refusal"),
+            Value::SimpleString(_)
+        )
+    );
     let early = parser.parse_from(&mut source);
     assert_eq!(rt;
         early.err().and_then(|e| e.io_kind()),
@@ -320,17 +327,22 @@ fn sources(rt: HostRuntime) -> Result<(), Fail> {
     );
     assert!(rt; !parser.is_failed() && parser.in_progress());
     assert!(rt; source.into_inner().reads == 2);
-    parser.feed(b"2\r\n")?;
-    assert_eq!(rt; parser.take_value()?, Some(Value::Int(12)));
+    parser.feed(b"2\r\n").expect(&rt, "no refusal");
+    assert_eq!(rt;
+        parser.take_value().expect(&rt, "no refusal"),
+        Some(Value::Int(12))
+    );
     let mut source = Reading::new(Noting { most: 0 });
     assert!(rt; parser.parse_from(&mut source).is_err());
     assert_eq!(rt; source.into_inner().most, 4096);
-    Ok(())
 }
 
 #[test]
-fn whole_bytes(rt: HostRuntime) -> Result<(), Fail> {
-    assert_eq!(rt; parse_redis_value(rt.alloc(), b":7\r\n@")?, Value::Int(7));
+fn whole_bytes(rt: HostRuntime) {
+    assert_eq!(rt;
+        parse_redis_value(rt.alloc(), b":7\r\n@").expect(&rt, "no refusal"),
+        Value::Int(7)
+    );
     let unfinished = parse_redis_value(rt.alloc(), b"*9223372036854775807\r\n:1\r\n");
     assert_eq!(rt;
         unfinished.err().and_then(|e| e.io_kind()),
@@ -342,5 +354,4 @@ fn whole_bytes(rt: HostRuntime) -> Result<(), Fail> {
         Some(FrameFault::BodyEnd)
     );
     law_of_prefixes();
-    Ok(())
 }

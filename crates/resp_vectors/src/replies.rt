@@ -6,27 +6,25 @@ use resp_core::{
 use std::alloc::Global;
 use std::io::Cursor;
 use std::process::Abort;
-use std::test::Fail;
 
 /// The bytes end exactly where this fault shows: without the last one they are unfinished.
-fn faults(rt: &(impl Abort + AllocGlobal), bytes: &[u8], wanted: FrameFault) -> Result<(), Fail> {
+fn faults(rt: &(impl Abort + AllocGlobal), bytes: &[u8], wanted: FrameFault) {
     let mut parser = Parser::new(rt.alloc());
     let Some((last, front)) = bytes.split_last() else {
-        return Ok(());
+        return;
     };
-    parser.feed(front)?;
-    assert!(rt; parser.take_value()?.is_none());
-    parser.feed(&[*last])?;
+    parser.feed(front).expect(rt, "no refusal");
+    assert!(rt; parser.take_value().expect(rt, "no refusal").is_none());
+    parser.feed(&[*last]).expect(rt, "no refusal");
     match parser.take_value() {
         Ok(_value) => assert!(rt; false),
         Err(error) => assert_eq!(rt; error.frame_fault(), Some(wanted)),
     }
     assert!(rt; parser.is_failed());
-    Ok(())
 }
 
 #[test]
-fn faults_show_at_their_byte(rt: HostRuntime) -> Result<(), Fail> {
+fn faults_show_at_their_byte(rt: HostRuntime) {
     for (bytes, fault) in [
         (":9223372036854775808\r\n", FrameFault::NotInteger),
         (":\r\n", FrameFault::NotInteger),
@@ -39,20 +37,22 @@ fn faults_show_at_their_byte(rt: HostRuntime) -> Result<(), Fail> {
         (">2\r\n+OK\r\n:1\r\n", FrameFault::BadPushKind),
         ("@", FrameFault::UnknownType),
     ] {
-        faults(&rt, bytes.as_bytes(), fault)?;
+        faults(&rt, bytes.as_bytes(), fault);
     }
-    Ok(())
 }
 
 #[test]
-fn early_end(rt: HostRuntime) -> Result<(), Fail> {
+fn early_end(rt: HostRuntime) {
     for bytes in [
         "",
         "$2\r\nab",
         "$2\r\nab\r",
         "*9223372036854775807\r\n:1\r\n",
     ] {
-        let mut source = Reading::new(Cursor::new(Vec::from_slice(rt.alloc(), bytes.as_bytes())?));
+        let mut source = Reading::new(Cursor::new(Vec::from_slice(
+            rt.alloc(),
+            bytes.as_bytes(),
+        ).expect(&rt, "no refusal")));
         let mut parser = Parser::new(rt.alloc());
         match parser.parse_from(&mut source) {
             Ok(_value) => assert!(rt; false),
@@ -64,7 +64,6 @@ fn early_end(rt: HostRuntime) -> Result<(), Fail> {
             Err(error) => assert_eq!(rt; error.io_kind(), Some(IoKind::UnexpectedEof)),
         }
     }
-    Ok(())
 }
 
 /// The first error in the reply has this kind, code and detail.
@@ -74,8 +73,11 @@ fn holds_error(
     kind: ErrorKind,
     code: &str,
     detail: &str,
-) -> Result<(), Fail> {
-    match parse_redis_value(rt.alloc(), bytes)?.extract_error() {
+) {
+    match parse_redis_value(rt.alloc(), bytes)
+        .expect(rt, "no refusal")
+        .extract_error()
+    {
         Ok(_value) => assert!(rt; false),
         Err(error) => {
             assert_eq!(rt; error.kind(), kind);
@@ -83,11 +85,10 @@ fn holds_error(
             assert_eq!(rt; error.detail(), Some(detail));
         }
     }
-    Ok(())
 }
 
 #[test]
-fn errors_inside(rt: HostRuntime) -> Result<(), Fail> {
+fn errors_inside(rt: HostRuntime) {
     for (bytes, kind, code, detail) in [
         (
             "|1\r\n-A x\r\n:1\r\n-B y\r\n",
@@ -114,70 +115,68 @@ fn errors_inside(rt: HostRuntime) -> Result<(), Fail> {
             "z",
         ),
     ] {
-        holds_error(&rt, bytes.as_bytes(), kind, code, detail)?;
+        holds_error(&rt, bytes.as_bytes(), kind, code, detail);
     }
-    Ok(())
 }
 
-fn reply(rt: &(impl Abort + AllocGlobal), bytes: &[u8]) -> Result<Value, Fail> {
-    Ok(parse_redis_value(rt.alloc(), bytes)?)
+fn reply(rt: &(impl Abort + AllocGlobal), bytes: &[u8]) -> Value {
+    parse_redis_value(rt.alloc(), bytes).expect(rt, "no refusal")
 }
 
 #[test]
-fn without_errors_a_reply_stays(rt: HostRuntime) -> Result<(), Fail> {
+fn without_errors_a_reply_stays(rt: HostRuntime) {
     let good = b"%1\r\n+a\r\n*1\r\n+OK\r\n";
-    assert!(rt; reply(&rt, good)?.extract_error()? == reply(&rt, good)?);
-    Ok(())
+    assert!(rt; reply(&rt, good).extract_error().expect(&rt, "no refusal") == reply(&rt, good));
 }
 
 /// How many values the reply is a sequence of, borrowed and by move.
-fn length(rt: &(impl Abort + AllocGlobal), bytes: &[u8]) -> Result<Option<usize>, Fail> {
-    let value = reply(rt, bytes)?;
+fn length(rt: &(impl Abort + AllocGlobal), bytes: &[u8]) -> Option<usize> {
+    let value = reply(rt, bytes);
     let borrowed = value.as_sequence().map(|parts| parts.len());
     let moved = value
         .into_sequence(rt.alloc())
         .ok()
         .map(|parts| parts.len());
     assert_eq!(rt; borrowed, moved);
-    Ok(borrowed)
+    borrowed
 }
 
 #[test]
-fn sequences(rt: HostRuntime) -> Result<(), Fail> {
+fn sequences(rt: HostRuntime) {
     let set = b"~5\r\n+orange\r\n+apple\r\n#t\r\n:100\r\n:999\r\n";
-    assert_eq!(rt; length(&rt, set)?, Some(5));
-    assert_eq!(rt; length(&rt, b"*1\r\n:1\r\n")?, Some(1));
-    assert_eq!(rt; length(&rt, b"_\r\n")?, Some(0));
-    assert_eq!(rt; length(&rt, b"%0\r\n")?, None);
-    Ok(())
+    assert_eq!(rt; length(&rt, set), Some(5));
+    assert_eq!(rt; length(&rt, b"*1\r\n:1\r\n"), Some(1));
+    assert_eq!(rt; length(&rt, b"_\r\n"), Some(0));
+    assert_eq!(rt; length(&rt, b"%0\r\n"), None);
 }
 
 #[test]
-fn cursors(rt: HostRuntime) -> Result<(), Fail> {
-    let scan = reply(&rt, b"*2\r\n$1\r\n0\r\n*0\r\n")?;
+fn cursors(rt: HostRuntime) {
+    let scan = reply(&rt, b"*2\r\n$1\r\n0\r\n*0\r\n");
     assert!(rt; scan.looks_like_cursor());
-    let pair = reply(&rt, b"*2\r\n:0\r\n*0\r\n")?;
+    let pair = reply(&rt, b"*2\r\n:0\r\n*0\r\n");
     assert!(rt; !pair.looks_like_cursor());
-    Ok(())
 }
 
 #[test]
-fn borrowed_pairs(rt: HostRuntime) -> Result<(), Fail> {
-    let map = reply(&rt, b"%2\r\n+first\r\n:1\r\n+second\r\n:2\r\n")?;
-    let mut pairs = map.as_map_iter().ok_or("none")?;
+fn borrowed_pairs(rt: HostRuntime) {
+    let map = reply(&rt, b"%2\r\n+first\r\n:1\r\n+second\r\n:2\r\n");
+    let mut pairs = map.as_map_iter().expect(&rt, "some");
     assert_eq!(rt; pairs.size_hint(), (2, Some(2)));
-    let (_key, first) = pairs.next().ok_or("none")?;
+    let (_key, first) = pairs.next().expect(&rt, "some");
     assert!(rt; *first == Value::Int(1));
-    let (_key, second) = pairs.next().ok_or("none")?;
+    let (_key, second) = pairs.next().expect(&rt, "some");
     assert!(rt; *second == Value::Int(2));
     assert!(rt; pairs.next().is_none());
-    Ok(())
 }
 
 #[test]
-fn pairs_of_an_array(rt: HostRuntime) -> Result<(), Fail> {
-    let four = reply(&rt, b"*4\r\n:1\r\n:2\r\n:3\r\n:4\r\n")?;
-    assert_eq!(rt; four.as_map_iter().ok_or("none")?.size_hint(), (2, Some(2)));
+fn pairs_of_an_array(rt: HostRuntime) {
+    let four = reply(&rt, b"*4\r\n:1\r\n:2\r\n:3\r\n:4\r\n");
+    assert_eq!(rt;
+        four.as_map_iter().expect(&rt, "some").size_hint(),
+        (2, Some(2))
+    );
     match four.into_map_iter() {
         Ok(mut pairs) => {
             assert_eq!(rt; pairs.size_hint(), (2, Some(2)));
@@ -185,16 +184,14 @@ fn pairs_of_an_array(rt: HostRuntime) -> Result<(), Fail> {
         }
         Err(_other) => assert!(rt; false),
     }
-    Ok(())
 }
 
 #[test]
-fn no_pairs_of_three(rt: HostRuntime) -> Result<(), Fail> {
-    let three = reply(&rt, b"*3\r\n:1\r\n:2\r\n:3\r\n")?;
+fn no_pairs_of_three(rt: HostRuntime) {
+    let three = reply(&rt, b"*3\r\n:1\r\n:2\r\n:3\r\n");
     assert!(rt; three.as_map_iter().is_none());
     match three.into_map_iter() {
         Ok(_pairs) => assert!(rt; false),
         Err(back) => assert_eq!(rt; back.as_sequence().map(|parts| parts.len()), Some(3)),
     }
-    Ok(())
 }
