@@ -1,16 +1,11 @@
-//! Worked examples as tests over the public names of `resp_core`, and fakes of its devices.
+//! Worked examples of replies, commands and links as tests, over the public names of `resp_core`,
+//! and fakes of its devices.
 #![tactic(auto)]
 
 #[cfg(test)]
-mod arguments;
-#[cfg(test)]
 mod commands;
 #[cfg(test)]
-mod conversions;
-#[cfg(test)]
 mod devices;
-#[cfg(test)]
-mod errors;
 #[cfg(test)]
 mod links;
 #[cfg(test)]

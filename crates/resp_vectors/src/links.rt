@@ -35,14 +35,14 @@ fn later_reply_is_kept(rt: HostRuntime) {
 #[test]
 fn server_error_leaves_it_usable(rt: HostRuntime) {
     let mut link = link_over(&rt, b"*2\r\n:1\r\n-LOADING\r\n+x\r\n:7\r\n");
-    match get(&rt).query::<Value>(&mut link) {
-        Ok(_value) => assert!(rt; false),
-        Err(error) => assert_eq!(rt; error.category(), "busy loading"),
-    }
-    match get(&rt).query::<i64>(&mut link) {
-        Ok(_value) => assert!(rt; false),
-        Err(error) => assert_eq!(rt; error.kind(), ErrorKind::Parse),
-    }
+    let error = get(&rt)
+        .query::<Value>(&mut link)
+        .expect_err(&rt, "a refusal");
+    assert_eq!(rt; error.category(), "busy loading");
+    let error = get(&rt)
+        .query::<i64>(&mut link)
+        .expect_err(&rt, "a refusal");
+    assert_eq!(rt; error.kind(), ErrorKind::Parse);
     assert!(rt; !link.is_broken());
     let last: i64 = get(&rt).query(&mut link).expect(&rt, "no refusal");
     assert_eq!(rt; last, 7);
@@ -51,24 +51,24 @@ fn server_error_leaves_it_usable(rt: HostRuntime) {
 #[test]
 fn faulty_front_breaks_it(rt: HostRuntime) {
     let mut link = link_over(&rt, b":x\r\n:7\r\n");
-    match get(&rt).query::<i64>(&mut link) {
-        Ok(_value) => assert!(rt; false),
-        Err(error) => assert_eq!(rt; error.frame_fault(), Some(FrameFault::NotInteger)),
-    }
+    let error = get(&rt)
+        .query::<i64>(&mut link)
+        .expect_err(&rt, "a refusal");
+    assert_eq!(rt; error.frame_fault(), Some(FrameFault::NotInteger));
     assert!(rt; link.is_broken());
-    match get(&rt).query::<i64>(&mut link) {
-        Ok(_value) => assert!(rt; false),
-        Err(error) => assert_eq!(rt; error.kind(), ErrorKind::Io),
-    }
+    let error = get(&rt)
+        .query::<i64>(&mut link)
+        .expect_err(&rt, "a refusal");
+    assert_eq!(rt; error.kind(), ErrorKind::Io);
 }
 
 #[test]
 fn empty_command_is_refused(rt: HostRuntime) {
     let mut link = link_over(&rt, b":7\r\n");
-    match Cmd::new(rt.alloc()).query::<i64>(&mut link) {
-        Ok(_value) => assert!(rt; false),
-        Err(error) => assert_eq!(rt; error.kind(), ErrorKind::Client),
-    }
+    let error = Cmd::new(rt.alloc())
+        .query::<i64>(&mut link)
+        .expect_err(&rt, "a refusal");
+    assert_eq!(rt; error.kind(), ErrorKind::Client);
     assert!(rt; !link.is_broken());
     let (_source, sink) = link.into_ends();
     assert!(rt; sink.into_inner().is_empty());
@@ -88,16 +88,16 @@ fn no_response_reads_nothing(rt: HostRuntime) {
 fn devices_that_fail(rt: HostRuntime) {
     let reader = Dropping::new(b"$1\r\n", 1);
     let mut link = ByteLink::new(rt.alloc(), reader, Vec::new(rt.alloc()));
-    match get(&rt).query::<i64>(&mut link) {
-        Ok(_value) => assert!(rt; false),
-        Err(error) => assert_eq!(rt; error.io_kind(), Some(IoKind::TimedOut)),
-    }
+    let error = get(&rt)
+        .query::<i64>(&mut link)
+        .expect_err(&rt, "a refusal");
+    assert_eq!(rt; error.io_kind(), Some(IoKind::TimedOut));
     assert!(rt; link.is_broken());
     let mut full = ByteLink::new(rt.alloc(), Dropping::new(b":7\r\n", 0), Full::new(3));
-    match get(&rt).query::<i64>(&mut full) {
-        Ok(_value) => assert!(rt; false),
-        Err(error) => assert_eq!(rt; error.io_kind(), Some(IoKind::BrokenPipe)),
-    }
+    let error = get(&rt)
+        .query::<i64>(&mut full)
+        .expect_err(&rt, "a refusal");
+    assert_eq!(rt; error.io_kind(), Some(IoKind::BrokenPipe));
     assert!(rt; full.is_broken());
 }
 
@@ -132,10 +132,8 @@ impl ReplySource for Asked {
 fn asks_for_at_most_4096(rt: HostRuntime) {
     let sink = Writing::new(Vec::new(rt.alloc()));
     let mut link = ByteLink::over(rt.alloc(), Asked { most: 0 }, sink);
-    match link_ask(&mut link, &get(&rt)) {
-        Ok(_value) => assert!(rt; false),
-        Err(error) => assert_eq!(rt; error.io_kind(), Some(IoKind::UnexpectedEof)),
-    }
+    let error = link_ask(&mut link, &get(&rt)).expect_err(&rt, "a refusal");
+    assert_eq!(rt; error.io_kind(), Some(IoKind::UnexpectedEof));
     let (asked, mut sink) = link.into_ends();
     assert_eq!(rt; asked.most, 4096);
     assert_eq!(rt; sink.send(b"x"), Ok(1));

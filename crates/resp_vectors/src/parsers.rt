@@ -248,14 +248,8 @@ fn single_bytes(rt: HostRuntime) {
     parser.feed(b"@").expect(&rt, "no refusal");
     assert!(rt; parser.take_value().is_err());
     assert!(rt; parser.is_failed() && parser.in_progress());
-    assert_eq!(rt;
-        parser
-            .feed(b":1\r\n")
-            .err()
-            .as_ref()
-            .and_then(|e| e.detail()),
-        Some("parser has failed")
-    );
+    let again = parser.feed(b":1\r\n").expect_err(&rt, "a refusal");
+    assert_eq!(rt; again.detail(), Some("parser has failed"));
 }
 
 /// A reader that fails once, in the middle.
@@ -314,7 +308,7 @@ fn sources(rt: HostRuntime) {
     );
     let early = parser.parse_from(&mut source);
     assert_eq!(rt;
-        early.err().and_then(|e| e.io_kind()),
+        early.expect_err(&rt, "a refusal").io_kind(),
         Some(IoKind::UnexpectedEof)
     );
     assert!(rt; parser.is_failed());
@@ -322,7 +316,7 @@ fn sources(rt: HostRuntime) {
     let mut source = Reading::new(Failing { reads: 0 });
     let broken = parser.parse_from(&mut source);
     assert_eq!(rt;
-        broken.err().and_then(|e| e.io_kind()),
+        broken.expect_err(&rt, "a refusal").io_kind(),
         Some(IoKind::TimedOut)
     );
     assert!(rt; !parser.is_failed() && parser.in_progress());
@@ -345,12 +339,12 @@ fn whole_bytes(rt: HostRuntime) {
     );
     let unfinished = parse_redis_value(rt.alloc(), b"*9223372036854775807\r\n:1\r\n");
     assert_eq!(rt;
-        unfinished.err().and_then(|e| e.io_kind()),
+        unfinished.expect_err(&rt, "a refusal").io_kind(),
         Some(IoKind::UnexpectedEof)
     );
     let faulty = parse_redis_value(rt.alloc(), b"$1\r\nabc");
     assert_eq!(rt;
-        faulty.err().and_then(|e| e.frame_fault()),
+        faulty.expect_err(&rt, "a refusal").frame_fault(),
         Some(FrameFault::BodyEnd)
     );
     law_of_prefixes();

@@ -16,10 +16,8 @@ fn faults(rt: &(impl Abort + AllocGlobal), bytes: &[u8], wanted: FrameFault) {
     parser.feed(front).expect(rt, "no refusal");
     assert!(rt; parser.take_value().expect(rt, "no refusal").is_none());
     parser.feed(&[*last]).expect(rt, "no refusal");
-    match parser.take_value() {
-        Ok(_value) => assert!(rt; false),
-        Err(error) => assert_eq!(rt; error.frame_fault(), Some(wanted)),
-    }
+    let error = parser.take_value().expect_err(rt, "a refusal");
+    assert_eq!(rt; error.frame_fault(), Some(wanted));
     assert!(rt; parser.is_failed());
 }
 
@@ -54,15 +52,11 @@ fn early_end(rt: HostRuntime) {
             bytes.as_bytes(),
         ).expect(&rt, "no refusal")));
         let mut parser = Parser::new(rt.alloc());
-        match parser.parse_from(&mut source) {
-            Ok(_value) => assert!(rt; false),
-            Err(error) => assert_eq!(rt; error.io_kind(), Some(IoKind::UnexpectedEof)),
-        }
+        let error = parser.parse_from(&mut source).expect_err(&rt, "a refusal");
+        assert_eq!(rt; error.io_kind(), Some(IoKind::UnexpectedEof));
         assert!(rt; parser.is_failed());
-        match parse_redis_value(rt.alloc(), bytes.as_bytes()) {
-            Ok(_value) => assert!(rt; false),
-            Err(error) => assert_eq!(rt; error.io_kind(), Some(IoKind::UnexpectedEof)),
-        }
+        let error = parse_redis_value(rt.alloc(), bytes.as_bytes()).expect_err(&rt, "a refusal");
+        assert_eq!(rt; error.io_kind(), Some(IoKind::UnexpectedEof));
     }
 }
 
@@ -74,17 +68,13 @@ fn holds_error(
     code: &str,
     detail: &str,
 ) {
-    match parse_redis_value(rt.alloc(), bytes)
+    let error = parse_redis_value(rt.alloc(), bytes)
         .expect(rt, "no refusal")
         .extract_error()
-    {
-        Ok(_value) => assert!(rt; false),
-        Err(error) => {
-            assert_eq!(rt; error.kind(), kind);
-            assert_eq!(rt; error.code(), Some(code));
-            assert_eq!(rt; error.detail(), Some(detail));
-        }
-    }
+        .expect_err(rt, "a refusal");
+    assert_eq!(rt; error.kind(), kind);
+    assert_eq!(rt; error.code(), Some(code));
+    assert_eq!(rt; error.detail(), Some(detail));
 }
 
 #[test]

@@ -220,8 +220,8 @@ fn hashed_sets_and_maps_are_their_members(rt: HostRuntime) -> Result<(), Fail> {
 fn a_map_refuses_keys_of_two_arguments(rt: HostRuntime) -> Result<(), Fail> {
     let mut pairs = BTreeMap::new(rt.alloc());
     pairs.insert((1i64, 2i64), 3i64)?;
-    let refused = pairs.to_redis_args(rt.alloc()).err();
-    assert_eq!(rt; refused.map(|error| error.kind()), Some(ErrorKind::Client));
+    let refused = pairs.to_redis_args(rt.alloc()).expect_err(&rt, "a refusal");
+    assert_eq!(rt; refused.kind(), ErrorKind::Client);
     Ok(())
 }
 

@@ -209,8 +209,6 @@ fn unit_is_everything_but_an_error(rt: HostRuntime) {
     is(&rt, ":1\r\n", &());
     is(&rt, "*1\r\n-ERR x\r\n", &());
     let error = parse_redis_value(rt.alloc(), b"-ERR x\r\n").expect(&rt, "no refusal");
-    match <()>::from_redis_value(rt.alloc(), error) {
-        Ok(()) => assert!(rt; false),
-        Err(refused) => assert_eq!(rt; refused.description(), "ResponseError: x"),
-    }
+    let refused = <()>::from_redis_value(rt.alloc(), error).expect_err(&rt, "a refusal");
+    assert_eq!(rt; refused.description(), "ResponseError: x");
 }

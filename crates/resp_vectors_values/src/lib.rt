@@ -1,0 +1,10 @@
+//! Worked examples of arguments, of conversions and of errors as tests, over the public names of
+//! `resp_core`.
+#![tactic(auto)]
+
+#[cfg(test)]
+mod arguments;
+#[cfg(test)]
+mod conversions;
+#[cfg(test)]
+mod errors;
