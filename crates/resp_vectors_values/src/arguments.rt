@@ -128,9 +128,9 @@ fn an_argument_list_grows(rt: HostRuntime) {
     list.extend_arg(b"key").expect(&rt, "no refusal");
     write_each_arg(&[1u64, 2], &mut list).expect(&rt, "no refusal");
     assert_eq!(rt; list.len(), 4);
-    assert_eq!(rt; list.get(1), Some(b"key".as_slice()));
-    assert_eq!(rt; list.get(3), Some(b"2".as_slice()));
-    assert_eq!(rt; list.get(4), None);
+    assert_eq!(rt; list.get(1).expect(&rt, "some"), b"key".as_slice());
+    assert_eq!(rt; list.get(3).expect(&rt, "some"), b"2".as_slice());
+    assert!(rt; list.get(4).is_none());
 }
 
 #[test]
