@@ -2,12 +2,11 @@
 
 ghost use Rattle.std.specs.Prelude.{◌≡◌, [], true, false, Ok};
 ghost use Rattle.resp_parse.specs.State.{IsAtRest, IsAtRest-prop};
-ghost use Rattle.resp_core.specs.Linking.{Exchanges};
 ghost use Rattle.resp_parse.specs.Ends.{end_of};
 ghost use Rattle.resp_core.specs.Sinks.{sink_of};
 ghost use Rattle.resp_core.specs.Wire.{Wire};
 ghost use Rattle.resp_core.specs.Call.{CommandCall};
-ghost use Rattle.resp_core.specs.Linking.{wire_of};
+ghost use Rattle.resp_core.specs.Linking.{Exchanges, wire_of};
 
 use crate::command::Cmd;
 use crate::sink::{CommandSink, Writing, send_all};

@@ -1,9 +1,8 @@
 -- Lists and bulk strings as many values of one type (RESP, "Arrays", "Bulk strings"; RESP3, "Maps", "Sets").
-use Rattle.std.specs.Prelude.{◌≡◌, ℕ, ◌*◌, ◌==◌, ◌||◌, pos, Bool, false, cond, List, [], ◌∷◌, length, map, Result}
+use Rattle.std.specs.Prelude.{◌≡◌, ℕ, ◌*◌, ◌==◌, ◌||◌, ◌⊎◌, pos, Bool, false, cond, List, [], ◌∷◌, length, map, Result, Err}
 use Rattle.std.specs.Bool.{MatchBool}
 use Rattle.std.specs.List.{AllZip, AllByRecursion, flat_map, list_all}
 use Rattle.resp_value.specs.declared.errors.parsing_error.ParsingError.{ParsingError}
-use Rattle.std.specs.Prelude.{Err, ◌⊎◌}
 use Rattle.resp_value.specs.declared.value.Value.{Value, Array, BulkString, Int, out-Value}
 use Rattle.resp_value.specs.declared.value.Value.TheOpen.{Value-F}
 use Rattle.resp_from.specs.Conversion.{Decides, IsRefusal}

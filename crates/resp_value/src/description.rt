@@ -75,6 +75,10 @@ impl fmt::Debug for Description {
 }
 
 impl fmt::Display for Description {
+    ghost use Rattle.std.specs.Prelude.{Some};
+
+    ghost output = { λ d. Some d };
+
     fn fmt<W: fmt::Write>(&self, f: &mut fmt::Formatter<W>) -> fmt::Result {
         let text = self.as_str();
         write!(f, "{text}")

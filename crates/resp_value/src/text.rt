@@ -70,6 +70,10 @@ impl fmt::Debug for Text {
 }
 
 impl fmt::Display for Text {
+    ghost use Rattle.std.specs.Prelude.{Some};
+
+    ghost output = { λ t. Some t };
+
     fn fmt<W: fmt::Write>(&self, f: &mut fmt::Formatter<W>) -> fmt::Result {
         let text = self.as_str();
         write!(f, "{text}")

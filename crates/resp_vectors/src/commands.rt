@@ -1,6 +1,6 @@
 //! Commands as bytes.
 
-use resp_core::{Cmd, ErrorKind, RedisWrite, cmd, pack_command};
+use resp_core::{Cmd, ErrorKind, RedisWrite, cmd, law_of_packing, pack_command, parse_redis_value};
 use std::collections::BTreeMap;
 use std::test::Fail;
 
@@ -50,6 +50,21 @@ fn empty_bytes_are_an_argument(rt: HostRuntime) -> Result<(), Fail> {
     assert_eq!(rt;
         packed.as_slice(),
         b"*2\r\n$1\r\nk\r\n$0\r\n\r\n".as_slice()
+    );
+    Ok(())
+}
+
+#[test]
+fn a_packed_command_reads_as_its_array(rt: HostRuntime) -> Result<(), Fail> {
+    law_of_packing();
+    let mut get = cmd(rt.alloc(), "GET")?;
+    get.arg("$1\r\n")?;
+    let packed = get.get_packed_command()?;
+    let read = parse_redis_value(rt.alloc(), packed.as_slice())?;
+    let text = format!(in rt.alloc(); "{read:?}")?;
+    assert_eq!(rt;
+        text.as_str(),
+        "array([bulk-string('\"GET\"'), bulk-string('\"$1\\r\\n\"')])"
     );
     Ok(())
 }

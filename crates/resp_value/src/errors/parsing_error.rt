@@ -1,6 +1,6 @@
 //! Why bytes are no reply, or a reply is no value of a type.
 
-ghost use Rattle.std.specs.Prelude.{◌≡◌, ◌↔◌, IsTrue, IfOk, string_bytes};
+ghost use Rattle.std.specs.Prelude.{◌≡◌, ◌↔◌, IsTrue, IfOk, IfErr, string_bytes};
 ghost use Rattle.resp_value.specs.Errors.{description_of};
 ghost use Rattle.resp_value.specs.Errors as errors;
 ghost use Rattle.resp_value.specs.declared.errors.parsing_error.ParsingError.TheVariants as parsing;
@@ -28,6 +28,7 @@ impl ParsingError {
     /// A refusal with a copy of this text; for want of memory, the refusal that says so.
     pub fn from_text(alloc: Global, text: &str) -> Result<ParsingError, ParsingError>
         ensures text { IfOk result (λ e. e ≡ ParsingError.Described text.now) }
+        ensures memory { IfErr result (λ e. e ≡ ParsingError.OutOfMemory) }
     {
         let text = String::from_str(alloc, text)?;
         Ok(ParsingError::from(text))
@@ -134,6 +135,10 @@ impl<T: Drop> From<AllocFailed<T>> for ParsingError {
 }
 
 impl fmt::Display for ParsingError {
+    ghost use Rattle.std.specs.Prelude.{Some, codes, ◌++◌};
+
+    ghost output = { λ e. Some (codes "Incompatible type - " ++ description_of e) };
+
     fn fmt<W: fmt::Write>(&self, f: &mut fmt::Formatter<W>) -> fmt::Result {
         let description = self.description();
         write!(f, "Incompatible type - {description}")
