@@ -4,10 +4,15 @@
 mod arg_list;
 mod args;
 mod impls;
+mod options;
 mod single;
 mod write;
 
 pub use arg_list::ArgList;
 pub use args::{NumericBehavior, ToRedisArgs, write_each_arg};
+pub use options::{
+    ExistenceCheck, ExpireOption, Expiry, FieldExistenceCheck, ProtocolVersion, SetExpiry,
+    is_valid_16_bytes_hex_digest,
+};
 pub use single::ToSingleRedisArg;
 pub use write::RedisWrite;

@@ -21,7 +21,9 @@ pub use command::Cmd;
 pub use link::{ByteLink, ConnectionLike};
 pub use packing::{law_of_packing, pack_command};
 pub use resp_args::{
-    ArgList, NumericBehavior, RedisWrite, ToRedisArgs, ToSingleRedisArg, write_each_arg,
+    ArgList, ExistenceCheck, ExpireOption, Expiry, FieldExistenceCheck, NumericBehavior,
+    ProtocolVersion, RedisWrite, SetExpiry, ToRedisArgs, ToSingleRedisArg,
+    is_valid_16_bytes_hex_digest, write_each_arg,
 };
 pub use resp_from::{FromRedisValue, from_redis_value, from_redis_value_ref};
 pub use resp_parse::{Parser, Reading, ReplySource, law_of_prefixes, parse_redis_value};

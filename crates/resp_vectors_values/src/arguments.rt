@@ -1,6 +1,10 @@
 //! Rust values as arguments.
 
-use resp_core::{ArgList, ErrorKind, NumericBehavior, RedisWrite, ToRedisArgs, write_each_arg};
+use resp_core::{
+    ArgList, ErrorKind, ExistenceCheck, ExpireOption, Expiry, FieldExistenceCheck, NumericBehavior,
+    ProtocolVersion, RedisWrite, SetExpiry, ToRedisArgs, is_valid_16_bytes_hex_digest,
+    write_each_arg,
+};
 use std::borrow::{CowSlice, CowStr};
 use std::boxed::BoxedSlice;
 use std::collections::{BTreeMap, BTreeSet, HashMap, HashSet};
@@ -117,6 +121,45 @@ fn which_are_numbers(rt: HostRuntime) {
     ] {
         assert_eq!(rt; behaviour == NumericBehavior::NumberIsInteger, wanted);
     }
+}
+
+#[test]
+fn expiries_are_a_word_and_a_number(rt: HostRuntime) {
+    gives(&rt, &SetExpiry::EX(10), "2:EX 2:10 ", 1);
+    gives(&rt, &SetExpiry::PX(0), "2:PX 1:0 ", 1);
+    gives(
+        &rt,
+        &SetExpiry::EXAT(u64::MAX),
+        "4:EXAT 20:18446744073709551615 ",
+        1,
+    );
+    gives(&rt, &SetExpiry::PXAT(1), "4:PXAT 1:1 ", 1);
+    gives(&rt, &SetExpiry::KEEPTTL, "7:KEEPTTL ", 1);
+    let expiries = [SetExpiry::EX(1), SetExpiry::KEEPTTL];
+    gives(&rt, &expiries.as_slice(), "2:EX 1:1 7:KEEPTTL ", 2);
+}
+
+#[test]
+fn checks_are_a_word(rt: HostRuntime) {
+    gives(&rt, &ExistenceCheck::NX, "2:NX ", 1);
+    gives(&rt, &ExistenceCheck::XX, "2:XX ", 1);
+    gives(&rt, &FieldExistenceCheck::FNX, "3:FNX ", 1);
+    gives(&rt, &FieldExistenceCheck::FXX, "3:FXX ", 1);
+    gives(&rt, &ExpireOption::NONE, "", 1);
+    gives(&rt, &ExpireOption::NX, "2:NX ", 1);
+    gives(&rt, &ExpireOption::XX, "2:XX ", 1);
+    gives(&rt, &ExpireOption::GT, "2:GT ", 1);
+    gives(&rt, &ExpireOption::LT, "2:LT ", 1);
+}
+
+#[test]
+fn versions_and_digests(rt: HostRuntime) {
+    assert!(rt; !ProtocolVersion::default().supports_resp3());
+    assert!(rt; ProtocolVersion::RESP3.supports_resp3());
+    assert!(rt; is_valid_16_bytes_hex_digest("0123456789abcDEF"));
+    assert!(rt; !is_valid_16_bytes_hex_digest("0123456789abcde"));
+    assert!(rt; !is_valid_16_bytes_hex_digest("0123456789abcdeg"));
+    assert!(rt; matches!(Expiry::EX(1).clone(), Ok(Expiry::EX(1))));
 }
 
 #[test]
