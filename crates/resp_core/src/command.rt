@@ -3,6 +3,7 @@
 ghost use Rattle.std.specs.Prelude.{◌≡◌, ◌∷◌, [], ◌++◌, ◌↔◌, is_ok, if◌then◌else◌, IfOk, IfErr, OnOk, OnErr, IsTrue, true, false, length, take, ◌<◌};
 ghost use Rattle.resp_value.specs.Memory.{OnlyMemory};
 ghost use Rattle.resp_args.specs.Args.{Appends, IsRefusal, extended};
+ghost use Rattle.resp_core.specs.Command.{new_command};
 ghost use Rattle.resp_core.specs.Packed.{packed, packed_or_none};
 ghost use Rattle.resp_core.specs.Call.{CommandCall, Answers};
 
@@ -11,8 +12,9 @@ use crate::packing::{pack_command, write_packed};
 use resp_args::{ArgList, RedisWrite, ToRedisArgs};
 use resp_from::FromRedisValue;
 use resp_value::{RedisResult, Value};
-use std::alloc::Global;
+use std::alloc::{AllocError, Global};
 use std::marker::Model;
+use std::mem;
 
 /// A command: its name and arguments, in order.
 ///
@@ -37,7 +39,7 @@ impl Model for Cmd {
 impl Cmd {
     /// A command without a name; takes no memory.
     pub fn new(alloc: Global) -> Cmd
-        ensures { result ≡ record { args = []; no_response = false } }
+        ensures { result ≡ new_command }
     {
         Cmd {
             alloc,
@@ -75,6 +77,35 @@ impl Cmd {
             return Err(error);
         }
         Ok(())
+    }
+
+    /// Takes all arguments away, and waits for a reply again, as a new command does. Takes no
+    /// memory, and keeps that of the arguments for others.
+    pub fn clear(&mut self)
+        ensures { self.new ≡ new_command }
+    {
+        self.args.clear();
+        self.no_response = false;
+    }
+
+    /// Hands the command out and leaves a new one in its place. Takes no memory.
+    pub fn take(&mut self) -> Cmd
+        ensures taken { result ≡ self.old }
+        ensures left { self.new ≡ new_command }
+    {
+        let new = Cmd::new(self.alloc);
+        mem::replace(self, new)
+    }
+
+    /// An equal command. Fails only for want of memory.
+    pub fn try_clone(&self) -> Result<Cmd, AllocError>
+        ensures { IfOk result (λ c. c ≡ self.now) }
+    {
+        Ok(Cmd {
+            alloc: self.alloc,
+            args: self.args.try_clone(self.alloc)?,
+            no_response: self.no_response,
+        })
     }
 
     /// Whether there is no argument, not even a name.
@@ -131,6 +162,15 @@ impl Cmd {
     {
         let reply = con.req_command(self)?;
         answer(self.alloc, reply)
+    }
+
+    /// Sends the command, and asks of its reply only that it holds no server error.
+    ///
+    /// Fails as [`Cmd::query`] does.
+    pub fn exec(&self, con: &mut dyn ConnectionLike) -> RedisResult<()>
+        ensures { CommandCall (wire con.old) (wire con.new) self.now result (Answers (⟦<() as FromRedisValue>⟧.of_value) result) }
+    {
+        self.query(con)
     }
 }
 

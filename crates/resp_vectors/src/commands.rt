@@ -92,3 +92,19 @@ fn no_response_flag(rt: HostRuntime) {
     let _ = command.set_no_response(true);
     assert!(rt; command.is_no_response());
 }
+
+#[test]
+fn a_cleared_command_is_new(rt: HostRuntime) {
+    let mut command = cmd(rt.alloc(), "key").expect(&rt, "no refusal");
+    let _ = command.set_no_response(true);
+    let copy = command.try_clone().expect(&rt, "no refusal");
+    let mut taken = command.take();
+    assert!(rt; command.is_empty() && !command.is_no_response());
+    for same in [&copy, &taken] {
+        assert!(rt; same.is_no_response());
+        let packed = same.get_packed_command().expect(&rt, "no refusal");
+        assert_eq!(rt; packed.as_slice(), b"*1\r\n$3\r\nkey\r\n".as_slice());
+    }
+    taken.clear();
+    assert!(rt; taken.is_empty() && !taken.is_no_response());
+}

@@ -2,11 +2,12 @@
 
 use crate::devices::{Dropping, Full};
 use resp_core::{
-    ByteLink, Cmd, CommandSink, ErrorKind, FrameFault, IoKind, Reading, ReplySource, Value,
-    Writing, cmd,
+    ByteLink, Cmd, CommandSink, ErrorKind, FrameFault, IoKind, Reading, ReplySource,
+    ServerErrorKind, Value, Writing, cmd,
 };
 use std::io::Cursor;
 use std::process::Abort;
+use std::test::Fail;
 
 type MemoryLink = ByteLink<Reading<Cursor<Vec<u8>>>, Writing<Vec<u8>>>;
 
@@ -19,6 +20,14 @@ fn get(rt: &(impl Abort + AllocGlobal)) -> Cmd {
     let mut get = cmd(rt.alloc(), "GET").expect(rt, "no refusal");
     get.push_arg("k").expect(rt, "no refusal");
     get
+}
+
+#[test]
+fn a_query_in_one_line(rt: HostRuntime) -> Result<(), Fail> {
+    let mut link = link_over(&rt, b"$1\r\n1\r\n");
+    let value: String = cmd(rt.alloc(), "GET")?.arg("my_key")?.query(&mut link)?;
+    assert_eq!(rt; value.as_str(), "1");
+    Ok(())
 }
 
 #[test]
@@ -82,6 +91,21 @@ fn no_response_reads_nothing(rt: HostRuntime) {
     assert!(rt; publish.query::<Value>(&mut link).expect(&rt, "no refusal") == Value::Nil);
     let reply: i64 = get(&rt).query(&mut link).expect(&rt, "no refusal");
     assert_eq!(rt; reply, 7);
+}
+
+#[test]
+fn exec_wants_no_value(rt: HostRuntime) {
+    let mut link = link_over(&rt, b"$1\r\nx\r\n*1\r\n-ERR y\r\n");
+    get(&rt).exec(&mut link).expect(&rt, "no refusal");
+    let error = get(&rt).exec(&mut link).expect_err(&rt, "a refusal");
+    assert_eq!(rt;
+        error.kind(),
+        ErrorKind::Server(ServerErrorKind::ResponseError)
+    );
+    let mut publish = get(&rt);
+    let _ = publish.set_no_response(true);
+    publish.exec(&mut link).expect(&rt, "no refusal");
+    assert!(rt; !link.is_broken());
 }
 
 #[test]
