@@ -80,7 +80,7 @@ impl Cmd {
     }
 
     /// Takes all arguments away, and waits for a reply again, as a new command does. Takes no
-    /// memory, and keeps that of the arguments for others.
+    /// memory.
     pub fn clear(&mut self)
         ensures { self.new ≡ new_command }
     {
