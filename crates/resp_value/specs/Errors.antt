@@ -88,7 +88,7 @@ fault_of_parsing (parsing.Described text) = None
 fault_of_parsing (parsing.Fault fault) = Some fault
 fault_of_parsing parsing.OutOfMemory = None
 
--- a parsing error as an error of a call: want of memory is the same in both
+-- a parsing error as an error of a call: out of memory is the same in both
 abbrev pub error_of_parsing : ParsingError → RedisError
 error_of_parsing (parsing.Described text) = form.Parse (parsing.Described text)
 error_of_parsing (parsing.Fault fault) = form.Parse (parsing.Fault fault)

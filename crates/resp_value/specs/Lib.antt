@@ -1,6 +1,8 @@
+pub mod Descriptions
+pub mod Equality
 pub mod Errors
 pub mod Names
-pub mod Tree
+pub mod FirstError
 pub mod MapIters
 pub mod Memory
 pub mod ServerErrors

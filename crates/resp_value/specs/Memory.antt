@@ -1,4 +1,4 @@
--- Calls that fail only for want of memory.
+-- Calls that fail only with `OutOfMemory`.
 use Rattle.std.specs.Prelude.{◌≡◌, Result, IfErr}
 use Rattle.resp_value.specs.declared.errors.redis_error.RedisError.{RedisError}
 use Rattle.resp_value.specs.declared.errors.redis_error.RedisError.TheVariants.{OutOfMemory}

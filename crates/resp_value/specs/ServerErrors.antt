@@ -1,5 +1,6 @@
 -- Errors that a server answers (RESP, "Simple errors", "Bulk errors").
 use Rattle.std.specs.Prelude.{ℕ, List, Bool, codes, cond, Option, None, Some, ◌==◌, length, [], ◌∷◌, ◌++◌}
+use Rattle.std.specs.Fmt.{◌++?◌, debug_str}
 use Rattle.std.specs.Str.{bytes_eq}
 use Rattle.std.specs.List.{position_or_len, before_first, after_first}
 use Rattle.resp_value.specs.declared.errors.kinds.ServerErrorKind.{ServerErrorKind}
@@ -74,3 +75,34 @@ after_code (Some detail) = 32 ∷ detail
 -- the text of an error: its code, and where there is a detail a space and the detail
 abbrev pub text_of : ServerError → List ℕ
 text_of error = code_of error ++ after_code (details_of error)
+
+-- the name of each known kind
+abbrev pub name_of_kind : ServerErrorKind → List ℕ
+name_of_kind ResponseError = codes "ResponseError"
+name_of_kind ExecAbort = codes "ExecAbort"
+name_of_kind BusyLoading = codes "BusyLoading"
+name_of_kind NoScript = codes "NoScript"
+name_of_kind Moved = codes "Moved"
+name_of_kind Ask = codes "Ask"
+name_of_kind TryAgain = codes "TryAgain"
+name_of_kind ClusterDown = codes "ClusterDown"
+name_of_kind CrossSlot = codes "CrossSlot"
+name_of_kind MasterDown = codes "MasterDown"
+name_of_kind ReadOnly = codes "ReadOnly"
+name_of_kind NotBusy = codes "NotBusy"
+name_of_kind NoSub = codes "NoSub"
+name_of_kind NoPerm = codes "NoPerm"
+
+-- what stands for the code when an error is shown: a known kind's name, else the code in quotes; known of ASCII codes
+abbrev pub shown_code : ServerError → Option (List ℕ)
+shown_code (Known kind detail) = Some (name_of_kind kind)
+shown_code (Extension code detail) = debug_str code
+
+-- the details, behind a colon and a space
+abbrev pub shown_details : Option (List ℕ) → List ℕ
+shown_details None = []
+shown_details (Some detail) = codes ": " ++ detail
+
+-- the text of an error when it is shown, where it is known
+abbrev pub display_of : ServerError → Option (List ℕ)
+display_of error = shown_code error ++? Some (shown_details (details_of error))

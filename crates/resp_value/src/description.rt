@@ -1,25 +1,36 @@
-ghost use Rattle.std.specs.Prelude.{◌≡◌, List, ℕ, IfOk};
+ghost use Rattle.std.specs.Prelude.{◌≡◌, List, ℕ, IfOk, string_bytes};
 
 use std::alloc::{AllocError, Global};
-use std::borrow::CowStr;
 use std::fmt;
+use std::fmt::InlineText;
 use std::marker::Model;
 
-/// What an error says: a fixed text, which takes no memory, or one that was made for it.
+/// How many bytes of a fixed text an error keeps.
+const ROOM: usize = 64;
+
+/// What an error says: a fixed text, or one that was made for it.
 ///
+/// A fixed text of up to 64 bytes is kept whole, in the value itself, so an error takes no memory
+/// and has no lifetime. Of a longer one the characters are kept that fit before three dots.
 /// Contracts see only the bytes.
 #[derive(Drop)]
 pub struct Description {
-    text: CowStr<'static>,
+    wording: Wording,
+}
+
+#[derive(Drop)]
+enum Wording {
+    Fixed(InlineText<ROOM>),
+    Made(String),
 }
 
 impl Model for Description {
     ghost use Rattle.std.specs.Prelude.{List, ℕ};
-    ghost use Rattle.std.specs.Cow.{cow_str_bytes};
+    ghost use Rattle.resp_value.specs.Descriptions.{bytes_of};
 
     ghost Value = { List ℕ };
 
-    ghost view = { λ d. cow_str_bytes d.text };
+    ghost view = { λ d. bytes_of d.wording };
 }
 
 impl Description {
@@ -27,30 +38,33 @@ impl Description {
     pub fn as_str(&self) -> &str
         ensures { result.now ≡ self.now }
     {
-        self.text.as_str()
+        match &self.wording {
+            Wording::Fixed(text) => text.as_str(),
+            Wording::Made(text) => text.as_str(),
+        }
     }
 
     /// An equal text; a fixed one takes no memory.
     pub fn try_clone(&self, alloc: Global) -> Result<Description, AllocError>
         ensures { IfOk result (λ d. d ≡ self.now) }
     {
-        match &self.text {
-            CowStr::Borrowed(text) => Ok(Description {
-                text: CowStr::Borrowed(*text),
-            }),
-            CowStr::Owned(text) => Ok(Description {
-                text: CowStr::Owned(String::from_str(alloc, text.as_str())?),
-            }),
-        }
+        let wording = match &self.wording {
+            Wording::Fixed(text) => Wording::Fixed(*text),
+            Wording::Made(text) => Wording::Made(String::from_str(alloc, text.as_str())?),
+        };
+        Ok(Description { wording })
     }
 }
 
 impl From<&'static str> for Description {
-    ghost from_gives = { λ s d. d ≡ s.now };
+    ghost use Rattle.std.specs.Prelude.{◌≡◌};
+    ghost use Rattle.resp_value.specs.Descriptions.{fitting};
+
+    ghost from_gives = { λ s d. d ≡ fitting s.now };
 
     fn from(text: &'static str) -> Description {
         Description {
-            text: CowStr::Borrowed(text),
+            wording: Wording::Fixed(InlineText::new().and_str(text, ROOM)),
         }
     }
 }
@@ -62,7 +76,7 @@ impl From<String> for Description {
 
     fn from(text: String) -> Description {
         Description {
-            text: CowStr::Owned(text),
+            wording: Wording::Made(text),
         }
     }
 }

@@ -1,8 +1,12 @@
-ghost use Rattle.std.specs.Prelude.{◌≡◌, [], ◌∷◌, ◌++◌, ◌↔◌, length, IsTrue, IfOk, OnOk, OnErr, MatchOption};
+ghost use Rattle.std.specs.Prelude.{◌≡◌, ◌^◌, ◌<◌, [], ◌∷◌, ◌++◌, ◌↔◌, length, IsTrue, IfOk, OnOk};
+ghost use Rattle.std.specs.Prelude.{OnErr, MatchOption};
+ghost use Rattle.std.specs.Iterator.Runs.{EveryRun, ItemsMapTo};
+ghost use Rattle.std.specs.Slice.Iter.{iter_rest, iter_steps};
 
 use std::alloc::{AllocError, Global};
-use std::fmt;
 use std::marker::Model;
+use std::ops::DerefSlice;
+use std::{fmt, slice};
 
 /// A `Vec` of which contracts see only the list of its elements.
 ///
@@ -72,14 +76,15 @@ impl<T> Items<T> {
 
     /// The last element, taken off.
     pub fn pop(&mut self) -> Option<T>
-        ensures { MatchOption result ((self.old ≡ []) × (self.new ≡ [])) (λ last. self.old ≡ self.new ++ last ∷ []) }
+        ensures { MatchOption result ((self.old ≡ []) × (self.new ≡ [])) (λ last. self.old
+            ≡ self.new ++ last ∷ []) }
     {
         self.items.pop()
     }
 }
 
 impl<T: Drop> Items<T> {
-    /// Adds an element at the end; refused for want of memory, the elements stay as they were.
+    /// Adds an element at the end; on `OutOfMemory` the elements stay as they were.
     pub fn push(&mut self, item: T) -> Result<(), AllocError>
         ensures ok { OnOk result (self.new ≡ self.old ++ item ∷ []) }
         ensures err { OnErr result (self.new ≡ self.old) }
@@ -97,6 +102,32 @@ impl<T: Copy> Items<T> {
         Ok(Items {
             items: Vec::from_slice(alloc, items)?,
         })
+    }
+}
+
+/// The elements as a slice, so that `len`, `get`, `first`, `last`, `iter` and every other method of
+/// a slice can be called, and `items[i]` be read.
+impl<T> DerefSlice for Items<T> {
+    type Elem = T;
+
+    ghost deref_gives = { λ it xs. xs ≡ it };
+
+    fn deref(&self) -> &[T] {
+        self.as_slice()
+    }
+}
+
+/// `for item in &items` goes over the elements, in order.
+impl<'a, T> IntoIterator for &'a Items<T> {
+    type Item = &'a T;
+
+    type IntoIter = slice::Iter<'a, T>;
+
+    ghost into_iter_gives = { λ it r. (iter_rest r ≡ it.now) × (length (iter_rest r) < 2 ^ 64)
+        × EveryRun (iter_steps {A = T}) (λ p. ItemsMapTo p (λ y. y.now) (iter_rest p.from)) };
+
+    fn into_iter(self) -> slice::Iter<'a, T> {
+        self.as_slice().iter()
     }
 }
 

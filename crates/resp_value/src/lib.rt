@@ -5,6 +5,7 @@ mod boxed;
 mod description;
 pub mod errors;
 mod items;
+pub mod laws;
 mod map_iter;
 mod names;
 mod text;

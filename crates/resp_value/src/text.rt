@@ -1,8 +1,9 @@
-ghost use Rattle.std.specs.Prelude.{◌≡◌, List, ℕ, IfOk, string_bytes};
+ghost use Rattle.std.specs.Prelude.{◌≡◌, ◌↔◌, List, [], ℕ, length, IfOk, IsTrue, string_bytes};
 
 use std::alloc::{AllocError, Global};
 use std::fmt;
 use std::marker::Model;
+use std::ops::DerefStr;
 
 /// A `String` of which contracts see only the bytes.
 ///
@@ -27,6 +28,27 @@ impl Text {
         self.text.as_str()
     }
 
+    /// How many bytes it has.
+    pub fn len(&self) -> usize
+        ensures { result ≡ length self.now }
+    {
+        self.as_str().len()
+    }
+
+    /// Whether it has no byte.
+    pub fn is_empty(&self) -> bool
+        ensures { IsTrue result ↔ (self.now ≡ []) }
+    {
+        self.as_str().is_empty()
+    }
+
+    /// Whether it is this text.
+    pub fn eq_str(&self, text: &str) -> bool
+        ensures { IsTrue result ↔ (self.now ≡ text.now) }
+    {
+        self.as_str() == text
+    }
+
     /// The text as a `String`, by move.
     pub fn into_string(self) -> String
         ensures { string_bytes result ≡ self }
@@ -49,6 +71,15 @@ impl Text {
         ensures { IfOk result (λ t. t ≡ self.now) }
     {
         Text::from_str(alloc, self.as_str())
+    }
+}
+
+/// The text as a `str`, so that every method of one can be called.
+impl DerefStr for Text {
+    ghost deref_gives = { λ t bytes. bytes ≡ t };
+
+    fn deref(&self) -> &str {
+        self.as_str()
     }
 }
 

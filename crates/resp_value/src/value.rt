@@ -1,7 +1,7 @@
 //! Replies as trees.
 
 ghost use Rattle.std.specs.Prelude.{◌≡◌, IfOk, map, is_some, MatchOption, Ok, Err};
-ghost use Rattle.resp_value.specs.Tree.{first_error, first_some, first_of_pairs};
+ghost use Rattle.resp_value.specs.FirstError.{first_error, first_some, first_of_pairs};
 ghost use Rattle.resp_value.specs.declared.errors.redis_error.RedisError.TheVariants as form;
 ghost use Rattle.resp_value.specs.declared.value.Value.TheVariants as value;
 
@@ -98,7 +98,7 @@ impl Default for Value {
 }
 
 impl Value {
-    /// An equal value. Fails only for want of memory.
+    /// An equal value. Fails only with `OutOfMemory`.
     #[cycle(clone)]
     pub fn try_clone(&self, alloc: Global) -> Result<Value, AllocError>
         ensures { IfOk result (λ v. v ≡ self.now) }
@@ -143,7 +143,8 @@ impl Value {
     /// The leaves are looked at in order: parts in order, a key before its value, an attribute's
     /// data before its pairs. Takes no memory.
     pub fn extract_error(self) -> RedisResult<Value>
-        ensures { MatchOption (first_error self) (result ≡ Ok self) (λ e. result ≡ Err (form.Server e)) }
+        ensures { MatchOption (first_error self) (result ≡ Ok self) (λ e. result
+            ≡ Err (form.Server e)) }
     {
         if self.has_error() {
             match self.into_first_error() {
@@ -207,7 +208,8 @@ fn any_has_error(parts: &[Value]) -> bool
 
 #[cycle(look)]
 fn any_pair_has_error(pairs: &[(Value, Value)]) -> bool
-    ensures { result ≡ is_some (first_of_pairs (map (λ p. (first_error p.0, first_error p.1)) pairs.now)) }
+    ensures { result ≡ is_some (first_of_pairs
+        (map (λ p. (first_error p.0, first_error p.1)) pairs.now)) }
 {
     for (key, value) in pairs {
         if key.has_error() || value.has_error() {

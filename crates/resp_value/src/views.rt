@@ -37,7 +37,8 @@ impl Value {
     /// The values of an array or a set, or none of `Nil`, by move; any other value comes back as
     /// the `Err`. Takes no memory.
     pub fn into_sequence(self, alloc: Global) -> Result<Vec<Value>, Value>
-        ensures { MatchOption (sequence_of self) (result ≡ Err self) (λ parts. IsOkAnd result (λ v. v.items ≡ parts)) }
+        ensures { MatchOption (sequence_of self) (result
+            ≡ Err self) (λ parts. IsOkAnd result (λ v. v.items ≡ parts)) }
     {
         match self {
             Value::Array(parts) | Value::Set(parts) => Ok(parts.into_vec()),
@@ -66,7 +67,8 @@ impl Value {
     /// The pairs of a map, or of an array of even length, by move; any other value comes back as
     /// the `Err`. Takes no memory.
     pub fn into_map_iter(self) -> Result<OwnedMapIter, Value>
-        ensures { MatchOption (pairs_of self) (result ≡ Err self) (λ entries. IsOkAnd result (λ it. owned_pairs_left it ≡ entries)) }
+        ensures { MatchOption (pairs_of self) (result
+            ≡ Err self) (λ entries. IsOkAnd result (λ it. owned_pairs_left it ≡ entries)) }
     {
         match self {
             Value::Map(entries) => Ok(OwnedMapIter::over(OwnedRest::Entries(

@@ -2,7 +2,8 @@
 
 ghost use Rattle.std.specs.Prelude.{◌≡◌, IfSome};
 ghost use Rattle.resp_value.specs.ServerErrors.{code_of_kind, kind_of_code};
-ghost use Rattle.resp_value.specs.Errors.{category_of_kind, category_of_server_kind, fault_text, io_kind_of_kind};
+ghost use Rattle.resp_value.specs.Errors.{category_of_kind, category_of_server_kind, fault_text};
+ghost use Rattle.resp_value.specs.Errors.{io_kind_of_kind};
 ghost use Rattle.resp_value.specs.declared.errors.kinds.ErrorKind.TheVariants as kind;
 
 use std::io;

@@ -25,7 +25,7 @@ pub enum ParsingError {
 }
 
 impl ParsingError {
-    /// A refusal with a copy of this text; for want of memory, the refusal that says so.
+    /// A refusal with a copy of this text, or `OutOfMemory`.
     pub fn from_text(alloc: Global, text: &str) -> Result<ParsingError, ParsingError>
         ensures text { IfOk result (λ e. e ≡ ParsingError.Described text.now) }
         ensures memory { IfErr result (λ e. e ≡ ParsingError.OutOfMemory) }
@@ -75,7 +75,9 @@ impl ParsingError {
 }
 
 impl From<&'static str> for ParsingError {
-    ghost from_gives = { λ s e. e ≡ parsing.Described s.now };
+    ghost use Rattle.resp_value.specs.Descriptions.{fitting};
+
+    ghost from_gives = { λ s e. e ≡ parsing.Described (fitting s.now) };
 
     fn from(text: &'static str) -> ParsingError {
         ParsingError::Described(Description::from(text))

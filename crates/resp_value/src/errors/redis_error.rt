@@ -2,7 +2,9 @@
 
 ghost use Rattle.std.specs.Prelude.{◌≡◌, ◌↔◌, IsTrue, IfOk, Some, None, string_bytes, option_map};
 ghost use Rattle.std.specs.Option.{option_copied};
-ghost use Rattle.resp_value.specs.Errors.{kind_of, detail_of, code_of, category_of_kind, fault_of, io_kind_of, server_errors_of, error_of_parsing};
+ghost use Rattle.resp_value.specs.Errors.{kind_of, detail_of, code_of, category_of_kind, fault_of};
+ghost use Rattle.resp_value.specs.Errors.{io_kind_of, server_errors_of, error_of_parsing};
+ghost use Rattle.resp_value.specs.Descriptions.{fitting};
 ghost use Rattle.resp_value.specs.Memory.{OnlyMemory};
 ghost use Rattle.resp_value.specs.declared.errors.redis_error.RedisError.TheVariants as form;
 
@@ -12,7 +14,7 @@ use crate::items::Items;
 use crate::text::Text;
 use std::alloc::{AllocError, AllocFailed, Global};
 use std::error::Error;
-use std::fmt;
+use std::{fmt, io};
 
 /// What a call of the library answers.
 pub type RedisResult<T> = Result<T, RedisError>;
@@ -125,9 +127,10 @@ impl RedisError {
     }
 
     /// The server errors inside, each with its position: the list of a pipeline or of an aborted
-    /// transaction, or a lone server error at position 0. Fails only for want of memory.
+    /// transaction, or a lone server error at position 0. Fails only with `OutOfMemory`.
     pub fn into_server_errors(self, alloc: Global) -> RedisResult<Option<Vec<(usize, ServerError)>>>
-        ensures listed { IfOk result (λ errors. option_map (λ v. v.items) errors ≡ server_errors_of self) }
+        ensures listed { IfOk result (λ errors. option_map (λ v. v.items) errors
+            ≡ server_errors_of self) }
         ensures memory { OnlyMemory result }
     {
         match self {
@@ -139,7 +142,7 @@ impl RedisError {
         }
     }
 
-    /// An equal error, its texts included. Fails only for want of memory.
+    /// An equal error, its texts included. Fails only with `OutOfMemory`.
     pub fn try_clone(&self, alloc: Global) -> Result<RedisError, AllocError>
         ensures { IfOk result (λ e. e ≡ self.now) }
     {
@@ -189,7 +192,7 @@ fn kind_of_server_error(error: &ServerError) -> ErrorKind
 }
 
 impl From<(ErrorKind, &'static str)> for RedisError {
-    ghost from_gives = { λ p e. e ≡ form.General p.0 p.1.now None };
+    ghost from_gives = { λ p e. e ≡ form.General p.0 (fitting p.1.now) None };
 
     fn from(parts: (ErrorKind, &'static str)) -> RedisError {
         RedisError::General {
@@ -201,7 +204,7 @@ impl From<(ErrorKind, &'static str)> for RedisError {
 }
 
 impl From<(ErrorKind, &'static str, String)> for RedisError {
-    ghost from_gives = { λ p e. e ≡ form.General p.0 p.1.now (Some (string_bytes p.2)) };
+    ghost from_gives = { λ p e. e ≡ form.General p.0 (fitting p.1.now) (Some (string_bytes p.2)) };
 
     fn from(parts: (ErrorKind, &'static str, String)) -> RedisError {
         let (kind, text, detail) = parts;
@@ -237,6 +240,17 @@ impl From<IoKind> for RedisError {
 
     fn from(kind: IoKind) -> RedisError {
         RedisError::Io(kind)
+    }
+}
+
+impl From<io::Error> for RedisError {
+    ghost use Rattle.resp_value.specs.Errors.{io_kind_of_kind};
+    ghost use Rattle.std.specs.IoError.{error_kind};
+
+    ghost from_gives = { λ x e. e ≡ form.Io (io_kind_of_kind (error_kind x)) };
+
+    fn from(error: io::Error) -> RedisError {
+        RedisError::Io(IoKind::from(error.kind()))
     }
 }
 

@@ -2,7 +2,8 @@
 
 ghost use Rattle.std.specs.Prelude.{◌≡◌, ◌++◌, IfOk};
 ghost use Rattle.std.specs.Option.{option_copied};
-ghost use Rattle.resp_value.specs.ServerErrors.{kind_of, code_of, details_of, text_of, after_code, server_error, error_with};
+ghost use Rattle.resp_value.specs.ServerErrors.{kind_of, code_of, details_of, text_of, after_code};
+ghost use Rattle.resp_value.specs.ServerErrors.{server_error, error_with, name_of_kind, display_of};
 ghost use Rattle.resp_value.specs.Memory.{OnlyMemory};
 
 use crate::errors::{RedisResult, ServerErrorKind};
@@ -127,11 +128,43 @@ fn clone_detail(alloc: Global, detail: &Option<Text>) -> Result<Option<Text>, Al
     }
 }
 
+impl ServerErrorKind {
+    fn name(self) -> &'static str
+        ensures { result.now ≡ name_of_kind self }
+    {
+        match self {
+            ServerErrorKind::ResponseError => "ResponseError",
+            ServerErrorKind::ExecAbort => "ExecAbort",
+            ServerErrorKind::BusyLoading => "BusyLoading",
+            ServerErrorKind::NoScript => "NoScript",
+            ServerErrorKind::Moved => "Moved",
+            ServerErrorKind::Ask => "Ask",
+            ServerErrorKind::TryAgain => "TryAgain",
+            ServerErrorKind::ClusterDown => "ClusterDown",
+            ServerErrorKind::CrossSlot => "CrossSlot",
+            ServerErrorKind::MasterDown => "MasterDown",
+            ServerErrorKind::ReadOnly => "ReadOnly",
+            ServerErrorKind::NotBusy => "NotBusy",
+            ServerErrorKind::NoSub => "NoSub",
+            ServerErrorKind::NoPerm => "NoPerm",
+        }
+    }
+}
+
+/// The name of the kind, or the code in quotes; then, with details, a colon, a space and these.
 impl fmt::Display for ServerError {
+    ghost output = { display_of };
+
     fn fmt<W: fmt::Write>(&self, f: &mut fmt::Formatter<W>) -> fmt::Result {
         match self {
-            ServerError::Known { kind, .. } => write!(f, "{kind:?}")?,
-            ServerError::Extension { code, .. } => write!(f, "{code:?}")?,
+            ServerError::Known { kind, .. } => {
+                let name = kind.name();
+                write!(f, "{name}")?;
+            }
+            ServerError::Extension { code, .. } => {
+                let code = code.as_str();
+                write!(f, "{code:?}")?;
+            }
         }
         match self.details() {
             Some(detail) => write!(f, ": {detail}"),

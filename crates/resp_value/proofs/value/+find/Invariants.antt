@@ -1,6 +1,6 @@
 use Rattle.std.proofs.Common.{◌≡◌, map}
 use Rattle.std.specs.Vec.Iter.{into_iter_items}
-use Rattle.resp_value.specs.Tree.{first_error, first_some, first_of_pairs}
+use Rattle.resp_value.specs.FirstError.{first_error, first_some, first_of_pairs}
 use Rattle.resp_value.proofs.value.+find.Given as goal
 
 abbrev pub invariant-first_error_in-loop-part : goal.invariant-first_error_in-loop-part

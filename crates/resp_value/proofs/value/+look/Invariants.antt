@@ -1,5 +1,5 @@
 use Rattle.std.proofs.Common.{◌≡◌, drop, map}
-use Rattle.resp_value.specs.Tree.{first_error, first_some, first_of_pairs}
+use Rattle.resp_value.specs.FirstError.{first_error, first_some, first_of_pairs}
 use Rattle.resp_value.proofs.value.+look.Given as goal
 
 abbrev pub invariant-any_has_error-loop-part : goal.invariant-any_has_error-loop-part
