@@ -4,45 +4,52 @@ use Rattle.resp_value.specs.declared.errors.kinds.IoKind.{IoKind}
 use Rattle.resp_value.specs.declared.errors.kinds.IoKind.TheVariants.{UnexpectedEof}
 use Rattle.resp_value.specs.declared.errors.redis_error.RedisError.TheVariants as form
 use Rattle.resp_parse.specs.State.{State, StandsAfter}
-use Rattle.resp_parse.specs.Ends.{End, Fills}
+use Rattle.resp_parse.specs.Source.{End, Fills}
 use Rattle.resp_parse.specs.Asks.{Filled, Asks, CannotFill, ended, broken, out_of_memory}
 use Rattle.resp_parse.proofs.Standing.{StandsAfter-works}
-use Rattle.resp_parse.proofs.Plain.{state_of, StandsAfter-plain, FailedAfter-plain, StandsAfter-unseen, StandsAfter-fed}
+use Rattle.resp_parse.proofs.Plain.{state_of, StandsAfter-plain, FailedAfter-plain, StandsAfter-unparsed, StandsAfter-fed}
 
 pub take-some : (n : ℕ) (xs : List ℕ) → (n ≡ 0 → ⊥) → 0 < length xs → 0 < length (take n xs)
 take-some zero xs some l = absurd (some refl)
 take-some (suc n) [] some l = absurd (omega arith)
 take-some (suc n) (x ∷ xs) some l = omega arith
 
+take-most : (n : ℕ) (xs : List ℕ) → length (take n xs) ≤ n
+take-most zero xs = omega arith
+take-most (suc n) [] = omega arith
+take-most (suc n) (x ∷ xs) = let h : length (take n xs) ≤ n = take-most n xs in omega arith
+
 -- the parser held these bytes, and holds them still
-module _ (now : State) (b held held' : List ℕ) (seen : ℕ) (failed : Bool) (e : state_of held seen failed ≡ now) (k : held' ≡ held) (h : StandsAfter now b) where
-  unseen : b ≡ drop seen held'
-  unseen = StandsAfter-unseen now b h ∙ sym (ap (λ (s : State). s.unseen) e) ∙ ap (drop seen) (sym k)
+module _ (now : State) (b buffer buffer' : List ℕ) (consumed : ℕ) (failed : Bool) (e : state_of buffer consumed failed ≡ now) (k : buffer' ≡ buffer) (h : StandsAfter now b) where
+  unparsed : b ≡ drop consumed buffer'
+  unparsed = StandsAfter-unparsed now b h ∙ sym (ap (λ (s : State). s.unparsed) e) ∙ ap (drop consumed) (sym k)
 
   works : failed ≡ false
   works = ap (λ (s : State). s.failed) e ∙ StandsAfter-works now b h
 
-  pub Asks-memory : (s : End) → CannotFill b form.OutOfMemory (state_of held' seen true) s s
-  Asks-memory s = out_of_memory refl refl refl (FailedAfter-plain (state_of held' seen true) b refl unseen)
+  pub Asks-memory : (s : End) → CannotFill b form.OutOfMemory (state_of buffer' consumed true) s s
+  Asks-memory s = out_of_memory refl (λ _. refl) refl (FailedAfter-plain (state_of buffer' consumed true) b refl unparsed)
 
-  pub Asks-ended : (s t : End) (before after : List ℕ) (n : ℕ) → n ≡ 0 → 0 < length before → Fills s t before after (Ok n) → s.tells ≡ true → CannotFill b (form.Io UnexpectedEof) (state_of held' seen true) s t
-  Asks-ended s t before after n z l f tells =
-      let w = f.bytes tells in
-      let none : t.bytes ≡ [] = w.1 z l in
-      ended refl (w.0 ∙ ap (λ m. take m after ++ t.bytes) z ∙ none) none f.failures (FailedAfter-plain (state_of held' seen true) b refl unseen)
+  pub Asks-ended : (s t : End) (before after : List ℕ) (n : ℕ) → n ≡ 0 → 0 < length before → Fills s t before after (Ok n) → CannotFill b (form.Io UnexpectedEof) (state_of buffer' consumed true) s t
+  Asks-ended s t before after n z l f =
+      ended refl (λ told. (f.bytes told).0 ∙ ap (λ m. take m after ++ t.bytes) z) (λ told. (f.bytes told).1 z l) f.failures
+      (FailedAfter-plain (state_of buffer' consumed true) b refl unparsed)
 
-  pub Asks-broken : (s t : End) (before after : List ℕ) (kind : IoKind) → Fills s t before after (Err kind) → s.tells ≡ true → CannotFill b (form.Io kind) (state_of held' seen failed) s t
-  Asks-broken s t before after kind f tells =
-      broken kind refl (f.bytes tells) f.failures (StandsAfter-plain (state_of held' seen failed) b works unseen)
+  pub Asks-broken : (s t : End) (before after : List ℕ) (kind : IoKind) → Fills s t before after (Err kind) → CannotFill b (form.Io kind) (state_of buffer' consumed failed) s t
+  Asks-broken s t before after kind f =
+      broken kind refl (λ told. sym (f.bytes told)) f.failures (StandsAfter-plain (state_of buffer' consumed failed) b works unparsed)
 
-  filled : (s t : End) (before after more : List ℕ) (n : ℕ) → seen ≤ length held → more ≡ held' ++ take n after → Fills s t before after (Ok n) → s.tells ≡ true → Filled b (state_of more seen failed) s t
-  filled s t before after more n l m f tells = record {
+  filled : (s t : End) (before after more : List ℕ) (n : ℕ) → consumed ≤ length buffer → more ≡ buffer' ++ take n after → Fills s t before after (Ok n) → Filled b (state_of more consumed failed) s t
+  filled s t before after more n l m f = record {
     filled = take n after;
-    came = (f.bytes tells).0;
-    stands = StandsAfter-fed now b (take n after) held more seen failed e l (m ∙ ap (λ x. x ++ take n after) k) h (StandsAfter-works now b h);
+    came = λ told. (f.bytes told).0;
+    stands = StandsAfter-fed now b (take n after) buffer more consumed failed e l (m ∙ ap (λ x. x ++ take n after) k) h (StandsAfter-works now b h);
     failures = f.failures;
   }
 
-  pub Asks-filled : (s t : End) (before after more : List ℕ) (n : ℕ) → seen ≤ length held → more ≡ held' ++ take n after → Fills s t before after (Ok n) → s.tells ≡ true → 0 < length (take n after) → Asks b (state_of more seen failed) s t (Ok tt)
+  pub Asks-filled : (s t : End) (before after more : List ℕ) (n : ℕ) → consumed ≤ length buffer → more ≡ buffer' ++ take n after → Fills s t before after (Ok n) → length before ≤ 4096 → 0 < length (take n after) → Asks b (state_of more consumed failed) s t (Ok tt)
   unfolding filled
-  Asks-filled s t before after more n l m f tells some = (filled s t before after more n l m f tells, some)
+  Asks-filled s t before after more n l m f size some =
+      let most : length (take n after) ≤ n = take-most n after in
+      let bound : n ≤ length before = f.bound in
+      (filled s t before after more n l m f, some, omega (arith, most, bound, size))

@@ -1,70 +1,104 @@
 -- A parser that asked a source again and again: what its calls' clauses say together. No body of `StandsAfter` is used.
-use Rattle.std.proofs.Common.{◌≡◌, ℕ, List, [], ◌++◌, refl, sym, ap, ◌∙◌, append_assoc, subst, Ok, Err, Some, None}
+use Rattle.std.proofs.Common.{◌≡◌, ℕ, List, [], ◌++◌, refl, sym, ap, ◌∙◌, append_assoc, subst, arith, true, Option, Result, Ok, Err, Some, None}
 use Rattle.std.proofs.lemmas.List.{append-nil}
 use Rattle.resp_value.specs.declared.value.Value.{Value}
 use Rattle.resp_value.specs.declared.errors.kinds.FrameFault.{FrameFault}
 use Rattle.resp_value.specs.declared.errors.redis_error.RedisError.{RedisError}
 use Rattle.resp_value.specs.declared.errors.redis_error.RedisError.TheVariants as form
-use Rattle.resp_parse.specs.Fronts.{HasGood, HasFaulty, IsUnfinished}
+use Rattle.resp_parse.specs.Prefixes.{HasGoodPrefix, HasFaultyPrefix, IsUnfinished}
 use Rattle.resp_parse.specs.State.{State, StandsAfter, FailedAfter}
 use Rattle.resp_parse.specs.Takes.{Takes, CannotTake}
 use Rattle.resp_parse.specs.Takes as takes
-use Rattle.resp_parse.specs.Ends.{End}
+use Rattle.resp_parse.specs.Source.{End, Came, end_of}
 use Rattle.resp_parse.specs.Asks.{Filled, Asks, CannotFill}
 use Rattle.resp_parse.specs.Asks as asks
-use Rattle.resp_parse.specs.Parses.{Parsed, Failed, CannotParse, faulty, early, interrupted, out_of_memory}
+use Rattle.resp_parse.specs.Parses.{AsNeeded, Parses, ParsesReader, Parsed, Failed, CannotParse, faulty, early, interrupted, out_of_memory}
 
-pub Filled-none : (b : List ℕ) (p : State) (s : End) → StandsAfter p b → Filled b p s s
-Filled-none b p s h = record { filled = []; came = refl; stands = subst (StandsAfter p) (sym (append-nil b)) h; failures = refl }
+-- what was filled since the parser stood after b
+pub record FilledAsNeeded (b : List ℕ) (p : State) (s t : End) : Type 0 where
+  pub more : Filled b p s t
+  pub needed : AsNeeded b more.filled
 
-HasGood-longer : (b more rest after : List ℕ) (v : Value) → HasGood 100 b v rest → b ++ more ≡ after → HasGood 100 after v (rest ++ more)
-unfolding HasGood
-HasGood-longer b more rest after v (x, e, g) w = (x, sym w ∙ ap (λ z. z ++ more) e ∙ append_assoc x rest more, g)
+pub FilledAsNeeded-none : (b : List ℕ) (p : State) (s : End) → StandsAfter p b → FilledAsNeeded b p s s
+FilledAsNeeded-none b p s h = record {
+  more = record { filled = []; came = λ _. refl; stands = subst (StandsAfter p) (sym (append-nil b)) h; failures = refl };
+  needed = record { before = []; last = []; whole = refl; size = omega arith; unfinished = λ some. absurd (some refl) };
+}
 
-HasFaulty-longer : (b more after : List ℕ) (f : FrameFault) → HasFaulty 100 b f → b ++ more ≡ after → HasFaulty 100 after f
-unfolding HasFaulty
-HasFaulty-longer b more after f (x, rest, e, g) w = (x, rest ++ more, sym w ∙ ap (λ z. z ++ more) e ∙ append_assoc x rest more, g)
+-- a longer list keeps its good prefix, and its faulty one
+pub HasGoodPrefix-longer : (b more rest : List ℕ) (v : Value) → HasGoodPrefix 100 b v rest → HasGoodPrefix 100 (b ++ more) v (rest ++ more)
+unfolding HasGoodPrefix
+HasGoodPrefix-longer b more rest v (x, e, g) = (x, ap (λ z. z ++ more) e ∙ append_assoc x rest more, g)
+
+pub HasFaultyPrefix-longer : (b more : List ℕ) (f : FrameFault) → HasFaultyPrefix 100 b f → HasFaultyPrefix 100 (b ++ more) f
+unfolding HasFaultyPrefix
+HasFaultyPrefix-longer b more f (x, rest, e, g) = (x, rest ++ more, ap (λ z. z ++ more) e ∙ append_assoc x rest more, g)
 
 -- after b, the source has filled some bytes, and the parser stands after them
-module _ (b : List ℕ) (p : State) (s t : End) (k : Filled b p s t) where
-  all : (b ++ k.filled) ++ t.bytes ≡ b ++ s.bytes
-  all = append_assoc b k.filled t.bytes ∙ ap (λ z. b ++ z) (sym k.came)
+module _ (b : List ℕ) (p : State) (s t : End) (k : FilledAsNeeded b p s t) where
+  pub Parsed-taken : (new : State) (v : Value) → Takes (b ++ k.more.filled) new (Ok (Some v)) → Parsed b v new s t
+  Parsed-taken new v w = record { filled = k.more.filled; came = k.more.came; needed = k.needed; value = w.0; rest = w.1; failures = k.more.failures }
 
-  pub Parsed-taken : (new : State) (v : Value) → Takes (b ++ k.filled) new (Ok (Some v)) → Parsed b v new s t
-  Parsed-taken new v w = record { value = HasGood-longer (b ++ k.filled) t.bytes new.unseen (b ++ s.bytes) v w.0 all; rest = w.1; failures = k.failures }
+  Failed-taken : (new : State) → FailedAfter new (b ++ k.more.filled) → Failed b k.more.filled new s t
+  Failed-taken new h = record { came = k.more.came; needed = k.needed; failed = h; failures = k.more.failures }
 
-  Failed-taken : (new : State) → FailedAfter new (b ++ k.filled) → Failed b new s t
-  Failed-taken new h = record { filled = k.filled; came = k.came; failed = h; failures = k.failures }
-
-  pub CannotParse-taken : (new : State) (e : RedisError) → Takes (b ++ k.filled) new (Err e) → CannotParse b e new s t
-  CannotParse-taken new e (takes.faulty f i w, h) = faulty f i (HasFaulty-longer (b ++ k.filled) t.bytes (b ++ s.bytes) f w all) (Failed-taken new h)
-  CannotParse-taken new e (takes.out_of_memory i, h) = out_of_memory i (Failed-taken new h)
+  pub CannotParse-taken : (new : State) (e : RedisError) → Takes (b ++ k.more.filled) new (Err e) → CannotParse b e new s t
+  CannotParse-taken new e (takes.faulty f i w, h) = faulty f k.more.filled i w (Failed-taken new h)
+  CannotParse-taken new e (takes.out_of_memory i, h) = out_of_memory k.more.filled i (Failed-taken new h)
 
   -- what was filled is unfinished, and the source was asked once more
-  module _ (mid : State) (w : Takes (b ++ k.filled) mid (Ok None)) (u : End) where
-    pub Filled-asked : (new : State) → Filled (b ++ k.filled) new t u → Filled b new s u
-    Filled-asked new a = record {
-      filled = k.filled ++ a.filled;
-      came = k.came ∙ ap (λ z. k.filled ++ z) a.came ∙ sym (append_assoc k.filled a.filled u.bytes);
-      stands = subst (StandsAfter new) (append_assoc b k.filled a.filled) a.stands;
-      failures = a.failures ∙ k.failures;
+  module _ (mid : State) (w : Takes (b ++ k.more.filled) mid (Ok None)) (u : End) (observable : s.observable ≡ true → t.observable ≡ true) where
+    Came-asked : (more : List ℕ) → Came t more u → Came s (k.more.filled ++ more) u
+    Came-asked more c = λ told. k.more.came told ∙ ap (λ z. k.more.filled ++ z) (c (observable told)) ∙ sym (append_assoc k.more.filled more u.bytes)
+
+    Came-none : Came t [] u → Came s k.more.filled u
+    Came-none c = λ told. k.more.came told ∙ ap (λ z. k.more.filled ++ z) (c (observable told))
+
+    pub FilledAsNeeded-asked : (new : State) → Asks (b ++ k.more.filled) new t u (Ok tt) → FilledAsNeeded b new s u
+    FilledAsNeeded-asked new (a, some, size) = record {
+      more = record {
+        filled = k.more.filled ++ a.filled;
+        came = Came-asked a.filled a.came;
+        stands = subst (StandsAfter new) (append_assoc b k.more.filled a.filled) a.stands;
+        failures = a.failures ∙ k.more.failures;
+      };
+      needed = record { before = k.more.filled; last = a.filled; whole = refl; size = size; unfinished = λ _. w.0 };
     }
 
-    Failed-asked : (new : State) → u.bytes ≡ t.bytes → u.failures ≡ t.failures → FailedAfter new (b ++ k.filled) → Failed b new s u
-    Failed-asked new e f h = record { filled = k.filled; came = k.came ∙ ap (λ z. k.filled ++ z) (sym e); failed = h; failures = f ∙ k.failures }
+    Failed-asked : (new : State) → Came t [] u → u.failures ≡ t.failures → FailedAfter new (b ++ k.more.filled) → Failed b k.more.filled new s u
+    Failed-asked new c f h = record { came = Came-none c; needed = k.needed; failed = h; failures = f ∙ k.more.failures }
 
-    pub CannotParse-asked : (new : State) (e : RedisError) → CannotFill (b ++ k.filled) e new t u → CannotParse b e new s u
-    CannotParse-asked new e (asks.ended i none end f h) =
-        let whole : b ++ k.filled ≡ b ++ s.bytes = sym (append-nil (b ++ k.filled)) ∙ ap (λ z. (b ++ k.filled) ++ z) (sym none) ∙ all in
-        early i (subst (λ z. IsUnfinished 100 z) whole w.0) end (Failed-asked new (end ∙ sym none) f h)
-    CannotParse-asked new e (asks.broken kind i same f h) = interrupted kind i (record {
-      filled = k.filled;
-      came = k.came ∙ ap (λ z. k.filled ++ z) (sym same);
+    pub CannotParse-asked : (new : State) (e : RedisError) → CannotFill (b ++ k.more.filled) e new t u → CannotParse b e new s u
+    CannotParse-asked new e (asks.ended i c end f h) = early k.more.filled i w.0 (λ told. end (observable told)) (Failed-asked new c f h)
+    CannotParse-asked new e (asks.broken kind i c f h) = interrupted kind i (record {
+      filled = k.more.filled;
+      came = Came-none c;
       unfinished = w.0;
       stands = h;
-      failures = rw (← k.failures) f;
+      failures = rw (← k.more.failures) f;
     })
-    CannotParse-asked new e (asks.out_of_memory i same f h) = out_of_memory i (Failed-asked new same f h)
+    CannotParse-asked new e (asks.out_of_memory i c f h) = out_of_memory k.more.filled i (Failed-asked new c f h)
 
-  pub CannotParse-failed : (new : State) (e : RedisError) → e ≡ form.OutOfMemory → FailedAfter new (b ++ k.filled) → CannotParse b e new s t
-  CannotParse-failed new e i h = out_of_memory i (Failed-taken new h)
+  pub CannotParse-failed : (new : State) (e : RedisError) → e ≡ form.OutOfMemory → FailedAfter new (b ++ k.more.filled) → CannotParse b e new s t
+  CannotParse-failed new e i h = out_of_memory k.more.filled i (Failed-taken new h)
+
+-- the bytes held and those that the source had still to give, once it went from s to t and n were filled
+module _ (b filled : List ℕ) (s t : End) (come : s.bytes ≡ filled ++ t.bytes) where
+  whole : (b ++ filled) ++ t.bytes ≡ b ++ s.bytes
+  whole = append_assoc b filled t.bytes ∙ ap (λ z. b ++ z) (sym come)
+
+  pub HasGoodPrefix-whole : (v : Value) (rest : List ℕ) → HasGoodPrefix 100 (b ++ filled) v rest → HasGoodPrefix 100 (b ++ s.bytes) v (rest ++ t.bytes)
+  HasGoodPrefix-whole v rest h = subst (λ z. HasGoodPrefix 100 z v (rest ++ t.bytes)) whole (HasGoodPrefix-longer (b ++ filled) t.bytes rest v h)
+
+  pub HasFaultyPrefix-whole : (f : FrameFault) → HasFaultyPrefix 100 (b ++ filled) f → HasFaultyPrefix 100 (b ++ s.bytes) f
+  HasFaultyPrefix-whole f h = subst (λ z. HasFaultyPrefix 100 z f) whole (HasFaultyPrefix-longer (b ++ filled) t.bytes f h)
+
+  pub IsUnfinished-whole : t.bytes ≡ [] → IsUnfinished 100 (b ++ filled) → IsUnfinished 100 (b ++ s.bytes)
+  IsUnfinished-whole none h =
+      let all : b ++ filled ≡ b ++ s.bytes = sym (append-nil (b ++ filled)) ∙ ap (λ z. (b ++ filled) ++ z) (sym none) ∙ whole in
+      subst (λ z. IsUnfinished 100 z) all h
+
+-- a reader that was used up, seen as the source that counted its failures
+pub ParsesReader-source : {R : Type 0} (remaining : R → Option (List ℕ)) (b : List ℕ) (new : State) (reader left : R) (n : ℕ) (s : End) (r : Result Value RedisError) → s ≡ end_of (remaining reader) 0 →
+    Parses b new s (end_of (remaining left) n) r → ParsesReader remaining b new reader r
+ParsesReader-source remaining b new reader left n s r e h = record { left = left; failures = n; parses = subst (λ (x : End). Parses b new x (end_of (remaining left) n) r) e h }

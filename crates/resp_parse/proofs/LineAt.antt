@@ -10,7 +10,7 @@ use Rattle.resp_parse.proofs.Bits.{not_true, eq_true}
 abbrev pub NoneBefore : List ℕ → ℕ → Type 0
 NoneBefore bs m = (k : ℕ) → suc k < m → get_or bs k 0 ≡ 13 → get_or bs (suc k) 0 ≡ 10 → ⊥
 
--- no CR LF stands at the front
+-- no CR LF stands at the start
 not_here : (b c : ℕ) (bs : List ℕ) (m : ℕ) → NoneBefore (b ∷ c ∷ bs) m → 1 < m → ((b == 13) && (c == 10)) ≡ false
 not_here b c bs m none l = not_true _ (λ t. let p = and_parts _ _ t in none 0 l ((Decides-eqb b 13).0 p.0) ((Decides-eqb c 10).0 p.1))
 

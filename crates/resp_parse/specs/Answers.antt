@@ -1,4 +1,4 @@
--- What is read from the front of bytes that are all there.
+-- What is read from the start of bytes that are all there.
 use Rattle.std.specs.Prelude.{◌≡◌, ◌≤◌, ℕ, List, length, drop, Result, Ok, Err}
 use Rattle.resp_value.specs.declared.value.Value.{Value}
 use Rattle.resp_value.specs.declared.errors.kinds.FrameFault.{FrameFault}
@@ -8,22 +8,22 @@ use Rattle.resp_value.specs.declared.errors.redis_error.RedisError.{RedisError}
 use Rattle.resp_value.specs.declared.errors.redis_error.RedisError.TheVariants as form
 use Rattle.resp_parse.specs.declared.stop.Stop.{Stop}
 use Rattle.resp_parse.specs.declared.stop.Stop.TheVariants.{Memory, Unfinished, Fault}
-use Rattle.resp_parse.specs.Fronts.{HasGood, HasFaulty, IsUnfinished}
+use Rattle.resp_parse.specs.Prefixes.{HasGoodPrefix, HasFaultyPrefix, IsUnfinished}
 
 -- why no value is read from all of the bytes
 pub data Refuses (b : List ℕ) (e : RedisError) : Type 0 where
-  faulty : (f : FrameFault) → e ≡ form.Parse (parsing.Fault f) → HasFaulty 100 b f → Refuses b e
+  faulty : (f : FrameFault) → e ≡ form.Parse (parsing.Fault f) → HasFaultyPrefix 100 b f → Refuses b e
   unfinished : e ≡ form.Io UnexpectedEof → IsUnfinished 100 b → Refuses b e
   out_of_memory : e ≡ form.OutOfMemory → Refuses b e
 
--- the value at the front of the bytes, or why there is none
+-- the value at the start of the bytes, or why there is none
 abbrev pub Answers : List ℕ → Result Value RedisError → Type 0
-Answers b (Ok v) = (rest : List ℕ) × HasGood 100 b v rest
+Answers b (Ok v) = (rest : List ℕ) × HasGoodPrefix 100 b v rest
 Answers b (Err e) = Refuses b e
 
 -- the same inside the parser, with the number of bytes that spell the value
 abbrev pub Finds : List ℕ → Result (Value × ℕ) Stop → Type 0
-Finds b (Ok x) = (x.1 ≤ length b) × HasGood 100 b x.0 (drop x.1 b)
+Finds b (Ok x) = (x.1 ≤ length b) × HasGoodPrefix 100 b x.0 (drop x.1 b)
 Finds b (Err Memory) = Unit {0}
 Finds b (Err Unfinished) = IsUnfinished 100 b
-Finds b (Err (Fault f)) = HasFaulty 100 b f
+Finds b (Err (Fault f)) = HasFaultyPrefix 100 b f

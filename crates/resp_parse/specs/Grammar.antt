@@ -14,11 +14,11 @@ use Rattle.resp_parse.specs.Lines.{crlf, NoBreak}
 use Rattle.resp_parse.specs.Number.{number}
 use Rattle.resp_parse.specs.Double.{double}
 
--- what the line of a header announces: no more bytes; a body of so many bytes; so many parts; or it is at fault
+-- what the line of a header announces: no more bytes; a body of n bytes; n elements; or it is at fault
 pub data Next : Type 0 where
   done : Value → Next
   body : ℕ → (List ℕ → Result Value FrameFault) → Next
-  parts : ℕ → (List Value → Result Value FrameFault) → Next
+  elements : ℕ → (List Value → Result Value FrameFault) → Next
   wrong : FrameFault → Next
 
 -- an integer line
@@ -79,14 +79,14 @@ abbrev pub verbatim : List ℕ → Result Value FrameFault
 verbatim bytes = verbatim_text (lossy bytes)
 
 -- the last of a list that isn't empty
-abbrev pub last_part : List Value → Value
-last_part [] = Nil
-last_part (value ∷ []) = value
-last_part (value ∷ next ∷ rest) = last_part (next ∷ rest)
+abbrev pub last_element : List Value → Value
+last_element [] = Nil
+last_element (value ∷ []) = value
+last_element (value ∷ next ∷ rest) = last_element (next ∷ rest)
 
 -- | an attribute: pairs, and then the data
 abbrev pub attribute : List Value → Value
-attribute values = Attribute (last_part values) (pairs (take (length values - 1) values))
+attribute values = Attribute (last_element values) (pairs (take (length values - 1) values))
 
 -- the kind that the first value of a push names, if it names one
 abbrev pub push_kind : Value → Option PushKind
@@ -110,17 +110,17 @@ next c text =
     (cond (c == 45) (done (ServerError (server_error text)))
     (cond (c == 58) (with_number text (λ n. done (Int n)))
     (cond (c == 36) (with_number text (or_nil (λ n. body n (λ bytes. Ok (BulkString bytes)))))
-    (cond (c == 42) (with_number text (or_nil (λ n. parts n (λ values. Ok (Array values)))))
+    (cond (c == 42) (with_number text (or_nil (λ n. elements n (λ values. Ok (Array values)))))
     (cond (c == 95) (done Nil)
     (cond (c == 35) (boolean text)
     (cond (c == 44) (double_line text)
     (cond (c == 40) (done (BigNumber text))
     (cond (c == 33) (with_number text (or_fault (λ n. body n (λ bytes. Ok (bulk_error bytes)))))
     (cond (c == 61) (with_number text (or_fault (λ n. body n verbatim)))
-    (cond (c == 37) (with_number text (or_fault (λ n. parts (2 * n) (λ values. Ok (Map (pairs values))))))
-    (cond (c == 126) (with_number text (or_nil (λ n. parts n (λ values. Ok (Set values)))))
-    (cond (c == 124) (with_number text (or_fault (λ n. parts (2 * n + 1) (λ values. Ok (attribute values)))))
-    (with_number text (or_empty_push (λ n. parts n push))))))))))))))))
+    (cond (c == 37) (with_number text (or_fault (λ n. elements (2 * n) (λ values. Ok (Map (pairs values))))))
+    (cond (c == 126) (with_number text (or_nil (λ n. elements n (λ values. Ok (Set values)))))
+    (cond (c == 124) (with_number text (or_fault (λ n. elements (2 * n + 1) (λ values. Ok (attribute values)))))
+    (with_number text (or_empty_push (λ n. elements n push))))))))))))))))
 
 -- the bytes begin with a type byte and a line of this text, and the rest follows
 pub record Header (b : List ℕ) (c : ℕ) (text rest : List ℕ) : Type 0 where
@@ -133,14 +133,14 @@ abbrev pub Joined : (List ℕ → Value → Type 0) → List ℕ → List Value 
 Joined P b [] = b ≡ []
 Joined P b (v ∷ vs) = (x : List ℕ) × (y : List ℕ) × (b ≡ x ++ y) × P x v × Joined P y vs
 
--- the bytes after a header are all that it announces, of parts as P says, and make the value
+-- the bytes after a header are all that it announces, of elements as P says, and make the value
 abbrev pub Follows : (List ℕ → Value → Type 0) → Next → List ℕ → Value → Type 0
 Follows P (done w) rest v = (rest ≡ []) × (v ≡ w)
 Follows P (body n make) rest v = (x : List ℕ) × (length x ≡ n) × (rest ≡ x ++ crlf) × (make x ≡ Ok v)
-Follows P (parts n make) rest v = (vs : List Value) × (length vs ≡ n) × Joined P rest vs × (make vs ≡ Ok v)
+Follows P (elements n make) rest v = (vs : List Value) × (length vs ≡ n) × Joined P rest vs × (make vs ≡ Ok v)
 Follows P (wrong f) rest v = ⊥
 
--- the bytes spell the value, where so many levels are left
+-- the bytes spell the value, where d levels are left
 abbrev pub Good : ℕ → List ℕ → Value → Type 0
 Good zero b v = ⊥
 Good (suc d) b v = (c : ℕ) × (text : List ℕ) × (rest : List ℕ) × Header b c text rest × IsUtf8 text × Follows (Good d) (next c text) rest v
@@ -150,20 +150,20 @@ pub data EndsWrong (n : ℕ) (rest : List ℕ) : Type 0 where
   no_cr : (x : List ℕ) (c : ℕ) → length x ≡ n → c ≢ 13 → rest ≡ x ++ (c ∷ []) → EndsWrong n rest
   no_lf : (x : List ℕ) (c : ℕ) → length x ≡ n → c ≢ 10 → rest ≡ x ++ (13 ∷ c ∷ []) → EndsWrong n rest
 
--- fewer than n parts as P says, and then a part at fault as Q says
-abbrev pub PartWrong : (List ℕ → Value → Type 0) → (List ℕ → FrameFault → Type 0) → ℕ → List ℕ → FrameFault → Type 0
-PartWrong P Q n rest f = (vs : List Value) × (x : List ℕ) × (y : List ℕ) × (length vs < n) × (rest ≡ x ++ y) × Joined P x vs × Q y f
+-- fewer than n elements as P says, and then an element at fault as Q says
+abbrev pub ElementWrong : (List ℕ → Value → Type 0) → (List ℕ → FrameFault → Type 0) → ℕ → List ℕ → FrameFault → Type 0
+ElementWrong P Q n rest f = (vs : List Value) × (x : List ℕ) × (y : List ℕ) × (length vs < n) × (rest ≡ x ++ y) × Joined P x vs × Q y f
 
 -- the bytes after a header end exactly where the fault shows
 abbrev pub FaultFollows : (List ℕ → Value → Type 0) → (List ℕ → FrameFault → Type 0) → Next → List ℕ → FrameFault → Type 0
 FaultFollows P Q (done w) rest f = ⊥
 FaultFollows P Q (body n make) rest f = ((f ≡ BodyEnd) × EndsWrong n rest)
     ⊎ ((x : List ℕ) × (length x ≡ n) × (rest ≡ x ++ crlf) × (make x ≡ Err f))
-FaultFollows P Q (parts n make) rest f = PartWrong P Q n rest f
+FaultFollows P Q (elements n make) rest f = ElementWrong P Q n rest f
     ⊎ ((vs : List Value) × (length vs ≡ n) × Joined P rest vs × (make vs ≡ Err f))
 FaultFollows P Q (wrong g) rest f = (rest ≡ []) × (f ≡ g)
 
--- the bytes are a value's beginning that ends exactly where the fault shows, where so many levels are left
+-- the bytes are a value's beginning that ends exactly where the fault shows, where d levels are left
 abbrev pub Faulty : ℕ → List ℕ → FrameFault → Type 0
 Faulty zero b f = (c : ℕ) × (b ≡ c ∷ []) × (f ≡ TooDeep)
 Faulty (suc d) b f = ((c : ℕ) × (b ≡ c ∷ []) × (is_type c ≡ false) × (f ≡ UnknownType))

@@ -3,7 +3,7 @@ pub mod Number
 pub mod Double
 pub mod Grammar
 pub mod Reads
-pub mod Fronts
+pub mod Prefixes
 pub mod Laws
 pub mod Reading
 pub mod Shapes
@@ -11,6 +11,6 @@ pub mod Shows
 pub mod Answers
 pub mod State
 pub mod Takes
-pub mod Ends
+pub mod Source
 pub mod Asks
 pub mod Parses

@@ -1,11 +1,11 @@
--- Reading a value from the front of bytes, as a function. The relations of `Grammar` say what it has to give; the proofs
+-- Reading a value from the start of bytes, as a function. The relations of `Grammar` say what it has to give; the proofs
 -- show that it does, and that the parser gives the same.
 use Rattle.std.specs.Prelude.{ℕ, zero, suc, cond, ◌&&◌, ◌==◌, List, [], ◌∷◌, Result, Ok, Err}
 use Rattle.std.specs.Str.{is_utf8}
 use Rattle.resp_value.specs.declared.value.Value.{Value}
 use Rattle.resp_value.specs.declared.errors.kinds.FrameFault.{FrameFault}
 use Rattle.resp_value.specs.declared.errors.kinds.FrameFault.TheVariants.{TooDeep, UnknownType, LineNotUtf8, BodyEnd}
-use Rattle.resp_parse.specs.Grammar.{Next, done, body, parts, wrong, next, is_type}
+use Rattle.resp_parse.specs.Grammar.{Next, done, body, elements, wrong, next, is_type}
 
 -- what was read and what follows it; a fault and what follows the place where it shows; or neither yet
 pub data Outcome (A : Type 0) : Type 0 where
@@ -31,16 +31,16 @@ end_of_body [] = unfinished
 end_of_body (b ∷ []) = cond (b == 13) unfinished (fault BodyEnd [])
 end_of_body (b ∷ c ∷ bs) = cond (b == 13) (cond (c == 10) (got [] bs) (fault BodyEnd bs)) (fault BodyEnd (c ∷ bs))
 
--- a body of so many bytes, its CR LF included
+-- a body of n bytes, its CR LF included
 abbrev pub read_body : ℕ → List ℕ → Outcome (List ℕ)
 read_body zero bs = end_of_body bs
 read_body (suc n) [] = unfinished
 read_body (suc n) (b ∷ bs) = then (read_body n bs) (λ x rest. got (b ∷ x) rest)
 
--- so many parts
-abbrev pub read_parts : (List ℕ → Outcome Value) → ℕ → List ℕ → Outcome (List Value)
-read_parts P zero bs = got [] bs
-read_parts P (suc n) bs = then (P bs) (λ v rest. then (read_parts P n rest) (λ vs after. got (v ∷ vs) after))
+-- n elements
+abbrev pub read_elements : (List ℕ → Outcome Value) → ℕ → List ℕ → Outcome (List Value)
+read_elements P zero bs = got [] bs
+read_elements P (suc n) bs = then (P bs) (λ v rest. then (read_elements P n rest) (λ vs after. got (v ∷ vs) after))
 
 -- the value or the fault that was made
 abbrev pub made : Result Value FrameFault → List ℕ → Outcome Value
@@ -51,10 +51,10 @@ made (Err f) rest = fault f rest
 abbrev pub read_next : (List ℕ → Outcome Value) → Next → List ℕ → Outcome Value
 read_next P (done v) bs = got v bs
 read_next P (body n make) bs = then (read_body n bs) (λ x rest. made (make x) rest)
-read_next P (parts n make) bs = then (read_parts P n bs) (λ vs rest. made (make vs) rest)
+read_next P (elements n make) bs = then (read_elements P n bs) (λ vs rest. made (make vs) rest)
 read_next P (wrong f) bs = fault f bs
 
--- a value, where so many levels are left
+-- a value, where d levels are left
 abbrev pub read : ℕ → List ℕ → Outcome Value
 read d [] = unfinished
 read zero (c ∷ bs) = fault TooDeep bs

@@ -3,6 +3,6 @@ use Rattle.std.specs.Prelude.{ℕ, List}
 use Rattle.resp_value.specs.declared.value.Value.{Value}
 use Rattle.resp_parse.specs.Grammar.{Good, Joined}
 
--- the bytes spell the values, joined in order, where so many levels are left
+-- the bytes spell the values, joined in order, where d levels are left
 unfoldable pub Reads : ℕ → List ℕ → List Value → Type 0
 Reads d b vs = Joined (Good d) b vs

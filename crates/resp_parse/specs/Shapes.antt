@@ -4,13 +4,13 @@ use Rattle.resp_value.specs.declared.value.Value.{Value, BulkString, Array, Map,
 use Rattle.resp_value.specs.declared.errors.kinds.FrameFault.{FrameFault}
 use Rattle.resp_parse.specs.declared.shape.BodyKind.{BodyKind}
 use Rattle.resp_parse.specs.declared.shape.BodyKind.TheVariants as body_kind
-use Rattle.resp_parse.specs.declared.shape.PartsKind.{PartsKind}
-use Rattle.resp_parse.specs.declared.shape.PartsKind.TheVariants as parts_kind
+use Rattle.resp_parse.specs.declared.shape.ElementsKind.{ElementsKind}
+use Rattle.resp_parse.specs.declared.shape.ElementsKind.TheVariants as elements_kind
 use Rattle.resp_parse.specs.declared.shape.Shape.{Shape}
-use Rattle.resp_parse.specs.declared.shape.Shape.TheVariants.{Whole, Body, Parts}
+use Rattle.resp_parse.specs.declared.shape.Shape.TheVariants.{Whole, Body, Elements}
 use Rattle.resp_parse.specs.declared.stop.Stop.{Stop}
 use Rattle.resp_parse.specs.declared.stop.Stop.TheVariants.{Memory, Unfinished, Fault}
-use Rattle.resp_parse.specs.Grammar.{Next, done, body, parts, wrong, bulk_error, verbatim, attribute, push}
+use Rattle.resp_parse.specs.Grammar.{Next, done, body, elements, wrong, bulk_error, verbatim, attribute, push}
 use Rattle.resp_value.specs.Views.{pairs}
 
 -- what a body makes
@@ -19,20 +19,20 @@ body_value body_kind.Bulk = λ bytes. Ok (BulkString bytes)
 body_value body_kind.Error = λ bytes. Ok (bulk_error bytes)
 body_value body_kind.Verbatim = verbatim
 
--- what parts make
-abbrev pub parts_value : PartsKind → List Value → Result Value FrameFault
-parts_value parts_kind.Array = λ values. Ok (Array values)
-parts_value parts_kind.Set = λ values. Ok (Set values)
-parts_value parts_kind.Map = λ values. Ok (Map (pairs values))
-parts_value parts_kind.Attribute = λ values. Ok (attribute values)
-parts_value parts_kind.Push = push
+-- what elements make
+abbrev pub elements_value : ElementsKind → List Value → Result Value FrameFault
+elements_value elements_kind.Array = λ values. Ok (Array values)
+elements_value elements_kind.Set = λ values. Ok (Set values)
+elements_value elements_kind.Map = λ values. Ok (Map (pairs values))
+elements_value elements_kind.Attribute = λ values. Ok (attribute values)
+elements_value elements_kind.Push = push
 
 abbrev pub announced : Shape → Next
 announced (Whole v) = done v
 announced (Body kind n) = body n (body_value kind)
-announced (Parts kind n) = parts n (parts_value kind)
+announced (Elements kind n) = elements n (elements_value kind)
 
--- the shape is what the line announces, or the fault is; want of memory aside
+-- the shape is what the line announces, or the fault is; memory aside
 abbrev pub Announces : Result Shape Stop → Next → Type 0
 Announces (Ok shape) n = n ≡ announced shape
 Announces (Err Memory) n = Unit {0}

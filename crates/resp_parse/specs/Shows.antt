@@ -1,4 +1,4 @@
--- What a function of the parser answers, beside what reading gives. A stop for want of memory says nothing of the bytes.
+-- What a function of the parser answers, beside what reading gives. A stop on `OutOfMemory` says nothing of the bytes.
 use Rattle.std.specs.Prelude.{◌≡◌, ◌<◌, ◌^◌, ℕ, List, Result, Ok, Err, Option, Some, None, ℤ, pos, negsuc}
 use Rattle.resp_value.specs.declared.value.Value.{Value, Double}
 use Rattle.resp_value.specs.declared.errors.kinds.FrameFault.{FrameFault}
@@ -23,12 +23,12 @@ abbrev pub Shows : {X A : Type 0} → (X → A × List ℕ) → Result X Stop �
 Shows view (Ok x) o = o ≡ got (view x).0 (view x).1
 Shows view (Err e) o = Stops e o
 
--- the value, or want of memory
+-- the value, or out of memory
 abbrev pub IsOrMemory : {X : Type 0} → Result X Stop → X → Type 0
 IsOrMemory (Ok x) y = x ≡ y
 IsOrMemory (Err e) y = e ≡ Memory
 
--- the value or the fault that is made, or want of memory
+-- the value or the fault that is made, or out of memory
 abbrev pub Makes : {X : Type 0} → Result X Stop → Result X FrameFault → Type 0
 Makes (Ok x) r = r ≡ Ok x
 Makes (Err Memory) r = Unit {0}

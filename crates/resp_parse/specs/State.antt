@@ -7,31 +7,27 @@ use Rattle.resp_value.specs.declared.errors.redis_error.RedisError.TheVariants a
 
 -- the bytes that are held and not yet looked at, and whether the parser has failed
 pub record State : Type 0 where
-  pub unseen : List ℕ
+  pub unparsed : List ℕ
   pub failed : Bool
 
 -- the parser works, and b are the bytes since the last value that it handed out
 unfoldable pub StandsAfter : State → List ℕ → Type 0
-StandsAfter s b = (s.failed ≡ false) × (b ≡ s.unseen)
-
--- the parser stands after some bytes
-abbrev pub IsUsable : State → Type 0
-IsUsable s = (b : List ℕ) × StandsAfter s b
+StandsAfter s b = (s.failed ≡ false) × (b ≡ s.unparsed)
 
 -- the parser has failed, and b are the bytes from the last value that it handed out up to the failure
 unfoldable pub FailedAfter : State → List ℕ → Type 0
-FailedAfter s b = (s.failed ≡ true) × (b ≡ s.unseen)
+FailedAfter s b = (s.failed ≡ true) × (b ≡ s.unparsed)
 
 -- the parser has looked at no byte after the last value: it stands after the bytes that it holds, and after no others
-pub record IsAtRest (s : State) : Type 0 where
-  pub stands : StandsAfter s s.unseen
-  pub only : (b : List ℕ) → StandsAfter s b → b ≡ s.unseen
+pub record IsBetweenValues (s : State) : Type 0 where
+  pub stands : StandsAfter s s.unparsed
+  pub only : (b : List ℕ) → StandsAfter s b → b ≡ s.unparsed
 
 -- what a parser that has failed answers
 abbrev pub has_failed : RedisError
 has_failed = form.Parse (parsing.Described (codes "parser has failed"))
 
 -- there is at most one proof that a parser is at rest
-pub IsAtRest-prop : (s : State) → IsProp (IsAtRest s)
+pub IsBetweenValues-prop : (s : State) → IsProp (IsBetweenValues s)
 unfolding StandsAfter
-IsAtRest-prop s = hlevel props
+IsBetweenValues-prop s = hlevel props

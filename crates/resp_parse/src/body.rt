@@ -1,4 +1,4 @@
-//! Lines and bodies at the front of bytes.
+//! Lines and bodies at the start of bytes.
 
 ghost use Rattle.std.specs.Prelude.{[]};
 ghost use Rattle.resp_parse.specs.Reading.{line, end_of_body, read_body};
@@ -19,7 +19,7 @@ pub(crate) fn line_of(bytes: &[u8]) -> Result<(&[u8], &[u8]), Stop>
     Err(Stop::Unfinished)
 }
 
-/// A body of so many bytes, and what follows its CR LF.
+/// A body of n bytes, and what follows its CR LF.
 pub(crate) fn body_of(bytes: &[u8], len: usize) -> Result<(&[u8], &[u8]), Stop>
     ensures body { Shows (λ x. (x.0.now, x.1.now)) result (read_body len bytes.now) }
 {
@@ -32,7 +32,7 @@ pub(crate) fn body_of(bytes: &[u8], len: usize) -> Result<(&[u8], &[u8]), Stop>
 }
 
 /// What follows the CR LF at the end of a body.
-#[tactic(auto, using(crate::proofs::Ends::ends))]
+#[tactic(auto, using(crate::proofs::BodyEnds::ends))]
 fn after_end(bytes: &[u8]) -> Result<&[u8], Stop>
     ensures end { Shows (λ x. ([], x.now)) result (end_of_body bytes.now) }
 {

@@ -5,9 +5,10 @@ ghost use Rattle.std.specs.Char.{is_ascii_digit};
 ghost use Rattle.std.specs.List.{list_all};
 ghost use Rattle.std.specs.Str.Parse.{without_leading_sign};
 ghost use Rattle.resp_parse.specs.Number.{is_digits, is_decimal};
-ghost use Rattle.resp_parse.specs.Double.{is_point, is_e, is_word, is_mantissa, is_scientific, is_double};
+ghost use Rattle.resp_parse.specs.Double.{is_point, is_e, is_word, is_mantissa, is_scientific};
+ghost use Rattle.resp_parse.specs.Double.{is_double};
 
-/// The text without a sign at its front.
+/// The text without a sign at its start.
 fn unsigned(text: &[u8]) -> &[u8]
     ensures rest { result.now ≡ without_leading_sign text.now }
 {

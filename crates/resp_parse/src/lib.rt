@@ -3,9 +3,9 @@
 
 mod body;
 mod double;
-mod front;
 mod number;
 mod parser;
+mod prefix;
 mod reading;
 mod shape;
 mod source;
@@ -15,15 +15,15 @@ mod value_of;
 ghost use Rattle.std.specs.Prelude.{ℕ, List};
 ghost use Rattle.resp_parse.specs.Laws.{LawOfPrefixes};
 
-pub use front::parse_redis_value;
 pub use parser::Parser;
+pub use prefix::parse_redis_value;
 pub use reading::Reading;
 pub use source::ReplySource;
 
 /// Bytes have at most one reading, however they go on.
 ///
-/// At each number of levels, of two fronts of the same bytes that spell a value or end in a fault,
-/// both are one front, and have the same value or the same fault.
+/// At each number of levels, of two prefixes of the same bytes that spell a value or end in a
+/// fault, both are one prefix, and have the same value or the same fault.
 pub fn law_of_prefixes()
     ensures law { (d : ℕ) (a x b y : List ℕ) → LawOfPrefixes d a x b y }
 {}

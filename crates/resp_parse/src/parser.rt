@@ -1,13 +1,12 @@
 //! A parser of bytes that come in pieces.
 
 ghost use Rattle.std.specs.Prelude.{◌≡◌, ◌≢◌, ◌↔◌, ◌++◌, ◌⊎◌, [], true, Err, List, ℕ, IsTrue, OnOk};
-ghost use Rattle.resp_parse.specs.State.{StandsAfter, FailedAfter, IsAtRest, IsUsable, has_failed};
+ghost use Rattle.resp_parse.specs.State.{StandsAfter, FailedAfter, IsBetweenValues, has_failed};
 ghost use Rattle.resp_parse.specs.Takes.{Feeds, Takes};
 ghost use Rattle.resp_parse.specs.Asks.{Asks};
-ghost use Rattle.resp_parse.specs.Ends.{end_of};
 ghost use Rattle.resp_parse.specs.Parses.{Parses, ParsesReader};
 
-use crate::front::first_value;
+use crate::prefix::first_value;
 use crate::reading::Reading;
 use crate::source::ReplySource;
 use crate::stop::Stop;
@@ -25,13 +24,13 @@ const CHUNK: usize = 4096;
 /// [`Parser::parse_from`] asks a source for the bytes that the next value needs. It does not matter
 /// how the bytes are cut: the values are those of the pieces joined.
 ///
-/// After bytes that can't begin a value, after an early end of a source, and after want of memory in
-/// any call but `feed`, the parser has failed for good: each later call that feeds or takes answers
-/// `parser has failed`, a [`ParsingError`].
+/// After bytes that can't begin a value, after an early end of a source, and after `OutOfMemory` in
+/// any call but `feed`, the parser has failed permanently: each later call that feeds or takes
+/// answers `parser has failed`, a [`ParsingError`].
 #[derive(Drop)]
 pub struct Parser {
-    held: Vec<u8>,
-    seen: usize,
+    buffer: Vec<u8>,
+    consumed: usize,
     failed: bool,
 }
 
@@ -41,36 +40,38 @@ impl Model for Parser {
 
     ghost Value = { State };
 
-    ghost view = { λ p. record { unseen = drop p.seen p.held.items; failed = p.failed } };
+    ghost view = { λ p. record { unparsed = drop p.consumed p.buffer.items; failed = p.failed } };
 
-    ghost invariant = { λ p. p.seen ≤ length p.held.items };
+    ghost invariant = { λ p. p.consumed ≤ length p.buffer.items };
 }
 
 impl Parser {
     /// A parser that holds no bytes. Takes no memory.
     pub fn new(alloc: Global) -> Parser
-        ensures rest { IsAtRest result }
-        ensures empty { result.unseen ≡ [] }
+        ensures rest { IsBetweenValues result }
+        ensures empty { result.unparsed ≡ [] }
     {
         Parser {
-            held: Vec::new(alloc),
-            seen: 0,
+            buffer: Vec::new(alloc),
+            consumed: 0,
             failed: false,
         }
     }
 
-    /// Adds bytes after those that were fed before. Refused for want of memory, the parser stays as
+    /// Adds bytes after those that were fed before. On `OutOfMemory` the parser stays as
     /// it was.
     pub fn feed(&mut self, bytes: &[u8]) -> RedisResult<()>
-        ensures failed { self.old.failed ≡ true → (result ≡ Err has_failed) × (self.new ≡ self.old) }
-        ensures feeds { (b : List ℕ) → StandsAfter self.old b → Feeds b bytes.now self.old self.new result }
-        ensures rest { OnOk result (IsAtRest self.old → IsAtRest self.new) }
+        ensures failed { self.old.failed ≡ true → (result ≡ Err has_failed)
+            × (self.new ≡ self.old) }
+        ensures feeds { (b : List ℕ) → StandsAfter self.old b →
+            Feeds b bytes.now self.old self.new result }
+        ensures rest { OnOk result (IsBetweenValues self.old → IsBetweenValues self.new) }
     {
         if self.failed {
             return Err(failed_before());
         }
         self.compact();
-        self.held.extend_from_slice(bytes)?;
+        self.buffer.extend_from_slice(bytes)?;
         Ok(())
     }
 
@@ -80,16 +81,17 @@ impl Parser {
     /// [`FrameFault`](resp_value::FrameFault); values before them are still handed out. Values are
     /// read down to 100 levels, the outermost being the first.
     pub fn take_value(&mut self) -> RedisResult<Option<Value>>
-        ensures failed { self.old.failed ≡ true → (result ≡ Err has_failed) × (self.new ≡ self.old) }
+        ensures failed { self.old.failed ≡ true → (result ≡ Err has_failed)
+            × (self.new ≡ self.old) }
         ensures takes { (b : List ℕ) → StandsAfter self.old b → Takes b self.new result }
     {
         if self.failed {
             return Err(failed_before());
         }
-        let alloc = *self.held.allocator();
-        match first_value(alloc, &self.held[self.seen..]) {
+        let alloc = *self.buffer.allocator();
+        match first_value(alloc, &self.buffer[self.consumed..]) {
             Ok((value, len)) => {
-                self.seen += len;
+                self.consumed += len;
                 Ok(Some(value))
             }
             Err(Stop::Unfinished) => Ok(None),
@@ -109,14 +111,16 @@ impl Parser {
     ///
     /// Refusals are those of [`Parser::take_value`]. An end of the source before that of the value
     /// is refused as [`IoKind::UnexpectedEof`], and the parser has failed. A failure of the source
-    /// is refused as [`RedisError::Io`] with its kind; the parser then holds what came before it, and
-    /// the call may be repeated. The source is asked for at most 4,096 bytes at a time, and only while
-    /// the bytes that are held are unfinished.
+    /// is refused as [`RedisError::Io`] with its kind; the parser then holds what came before it,
+    /// and the call may be repeated. The source is asked for at most 4,096 bytes at a time, and
+    /// only while the bytes that are held are unfinished.
     pub fn parse_from<S: ReplySource>(&mut self, source: &mut S) -> RedisResult<Value>
-        ensures failed { self.old.failed ≡ true → (result ≡ Err has_failed) × (self.new ≡ self.old) × (S.source source.new ≡ S.source source.old) }
-        ensures parses { (b : List ℕ) → StandsAfter self.old b → (S.source source.old).tells ≡ true → Parses b self.new (S.source source.old) (S.source source.new) result }
-        ensures rest { IsUsable self.old → OnOk result (IsAtRest self.new) }
-        ensures tells { (S.source source.old).tells ≡ true → (S.source source.new).tells ≡ true }
+        ensures failed { self.old.failed ≡ true → (result ≡ Err has_failed) × (self.new ≡ self.old)
+            × (S.source source.new ≡ S.source source.old) }
+        ensures parses { (b : List ℕ) → StandsAfter self.old b →
+            Parses b self.new (S.source source.old) (S.source source.new) result }
+        ensures observable { (S.source source.old).observable ≡ true →
+            (S.source source.new).observable ≡ true }
     {
         if self.failed {
             return Err(failed_before());
@@ -136,14 +140,16 @@ impl Parser {
     ///
     /// Refusals are those of [`Parser::parse_from`]; the reader is asked in the same way.
     pub fn parse_value<R: Read + Drop>(&mut self, reader: R) -> RedisResult<Value>
-        ensures failed { self.old.failed ≡ true → (result ≡ Err has_failed) × (self.new ≡ self.old) }
-        ensures parses { (b : List ℕ) → StandsAfter self.old b → (end_of (R.remaining reader) 0).tells ≡ true → ParsesReader b self.new (end_of (R.remaining reader) 0) result }
+        ensures failed { self.old.failed ≡ true → (result ≡ Err has_failed)
+            × (self.new ≡ self.old) }
+        ensures parses { (b : List ℕ) → StandsAfter self.old b →
+            ParsesReader R.remaining b self.new reader result }
     {
         let mut source = Reading::new(reader);
         self.parse_from(&mut source)
     }
 
-    /// Whether the parser has failed for good.
+    /// Whether the parser has failed permanently.
     pub fn is_failed(&self) -> bool
         ensures failed { IsTrue result ↔ (self.now.failed ≡ true) }
     {
@@ -153,19 +159,21 @@ impl Parser {
     /// Whether bytes stand after the last value that was handed out. A parser that has failed
     /// answers as it would have at its failure, the bytes that it was filled with included.
     pub fn in_progress(&self) -> bool
-        ensures progress { (b : List ℕ) → StandsAfter self.now b ⊎ FailedAfter self.now b → (IsTrue result ↔ (b ≢ [])) }
+        ensures progress { (b : List ℕ) → StandsAfter self.now b ⊎ FailedAfter self.now b →
+            (IsTrue result ↔ (b ≢ [])) }
     {
-        self.seen < self.held.len()
+        self.consumed < self.buffer.len()
     }
 
     /// Asks the source once, for at most 4,096 bytes, and holds what it gives.
     fn ask<S: ReplySource>(&mut self, source: &mut S) -> RedisResult<()>
-        ensures asks { (b : List ℕ) → StandsAfter self.old b → (S.source source.old).tells ≡ true → Asks b self.new (S.source source.old) (S.source source.new) result }
-        ensures usable { IsUsable self.old → OnOk result (IsUsable self.new) }
-        ensures tells { (S.source source.old).tells ≡ true → (S.source source.new).tells ≡ true }
+        ensures asks { (b : List ℕ) → StandsAfter self.old b →
+            Asks b self.new (S.source source.old) (S.source source.new) result }
+        ensures observable { (S.source source.old).observable ≡ true →
+            (S.source source.new).observable ≡ true }
     {
         self.compact();
-        if self.held.reserve(CHUNK).is_err() {
+        if self.buffer.reserve(CHUNK).is_err() {
             self.failed = true;
             return Err(RedisError::OutOfMemory);
         }
@@ -176,7 +184,7 @@ impl Parser {
                 Err(RedisError::Io(IoKind::UnexpectedEof))
             }
             Ok(n) => {
-                self.held.extend_from_slice(&chunk[..n])?;
+                self.buffer.extend_from_slice(&chunk[..n])?;
                 Ok(())
             }
             Err(kind) => Err(RedisError::Io(kind)),
@@ -190,15 +198,15 @@ impl Parser {
         self.failed = true;
     }
 
-    /// Moves the held bytes to the front of the buffer once those before them are as many.
+    /// Moves the held bytes to the start of the buffer once as many bytes come before them.
     fn compact(&mut self)
         ensures same { self.new ≡ self.old }
     {
-        let unseen = self.held.len() - self.seen;
-        if self.seen > 0 && self.seen >= unseen {
-            self.held.copy_within(self.seen.., 0);
-            self.held.truncate(unseen);
-            self.seen = 0;
+        let unparsed = self.buffer.len() - self.consumed;
+        if self.consumed > 0 && self.consumed >= unparsed {
+            self.buffer.copy_within(self.consumed.., 0);
+            self.buffer.truncate(unparsed);
+            self.consumed = 0;
         }
     }
 }

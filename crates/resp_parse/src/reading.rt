@@ -1,7 +1,7 @@
 //! A reader as a source of replies.
 
 ghost use Rattle.std.specs.Prelude.{◌≡◌, ◌+◌, ◌-◌, ◌^◌, min};
-ghost use Rattle.resp_parse.specs.Ends.{end_of, FailureCounted};
+ghost use Rattle.resp_parse.specs.Source.{end_of, FailureCounted};
 
 use crate::source::ReplySource;
 use resp_value::IoKind;
@@ -19,7 +19,8 @@ pub struct Reading<R> {
 impl<R: Read> Reading<R> {
     /// A source over this reader, which has not failed yet.
     pub fn new(reader: R) -> Reading<R>
-        ensures source { ⟦<Reading<R> as ReplySource>⟧.source result ≡ end_of (R.remaining reader) 0 }
+        ensures source { ⟦<Reading<R> as ReplySource>⟧.source result
+            ≡ end_of (R.remaining reader) 0 }
     {
         Reading {
             reader,
@@ -29,7 +30,8 @@ impl<R: Read> Reading<R> {
 
     /// The reader, with what it has left.
     pub fn into_inner(self) -> R
-        ensures source { let source = ⟦<Reading<R> as ReplySource>⟧.source self in source ≡ end_of (R.remaining result) source.failures }
+        ensures source { let source = ⟦<Reading<R> as ReplySource>⟧.source self in source
+            ≡ end_of (R.remaining result) source.failures }
     {
         let Reading {
             reader,

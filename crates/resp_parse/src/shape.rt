@@ -1,8 +1,10 @@
 //! What the line of a header announces.
 
 ghost use Rattle.std.specs.Prelude.{◌≡◌, IsTrue};
-ghost use Rattle.resp_parse.specs.Grammar.{next, is_type, boolean, double_line, with_number, or_nil, or_empty_push, body as a_body, parts as some_parts, push};
-ghost use Rattle.resp_parse.specs.Shapes.{Announces, body_value, parts_value};
+ghost use Rattle.resp_parse.specs.Grammar.{next, is_type, boolean, double_line, with_number};
+ghost use Rattle.resp_parse.specs.Grammar.{or_nil, or_empty_push, body as a_body};
+ghost use Rattle.resp_parse.specs.Grammar.{elements as some_elements, push};
+ghost use Rattle.resp_parse.specs.Shapes.{Announces, body_value, elements_value};
 ghost use Rattle.resp_parse.specs.Shows.{Makes};
 
 use crate::number::{integer_of, length_of};
@@ -35,9 +37,9 @@ impl BodyKind {
     }
 }
 
-/// What parts spell.
+/// What elements spell.
 #[derive(Clone, Copy, Debug)]
-pub(crate) enum PartsKind {
+pub(crate) enum ElementsKind {
     Array,
     Set,
     Map,
@@ -45,17 +47,17 @@ pub(crate) enum PartsKind {
     Push,
 }
 
-impl PartsKind {
-    /// The value of the parts.
-    pub(crate) fn value(self, alloc: Global, parts: Vec<Value>) -> Result<Value, Stop>
-        ensures value { Makes result (parts_value self parts.items) }
+impl ElementsKind {
+    /// The value of the elements.
+    pub(crate) fn value(self, alloc: Global, elements: Vec<Value>) -> Result<Value, Stop>
+        ensures value { Makes result (elements_value self elements.items) }
     {
         match self {
-            PartsKind::Array => Ok(Value::Array(parts.into())),
-            PartsKind::Set => Ok(Value::Set(parts.into())),
-            PartsKind::Map => Ok(Value::Map(pairs_from(alloc, parts)?)),
-            PartsKind::Attribute => Ok(attribute_of(alloc, parts)?),
-            PartsKind::Push => push_of(parts),
+            ElementsKind::Array => Ok(Value::Array(elements.into())),
+            ElementsKind::Set => Ok(Value::Set(elements.into())),
+            ElementsKind::Map => Ok(Value::Map(pairs_from(alloc, elements)?)),
+            ElementsKind::Attribute => Ok(attribute_of(alloc, elements)?),
+            ElementsKind::Push => push_of(elements),
         }
     }
 }
@@ -65,10 +67,10 @@ impl PartsKind {
 pub(crate) enum Shape {
     /// The value is whole; no more bytes belong to it.
     Whole(Value),
-    /// A body of so many bytes follows.
+    /// A body of n bytes follows.
     Body(BodyKind, usize),
-    /// So many parts follow.
-    Parts(PartsKind, usize),
+    /// n elements follow.
+    Elements(ElementsKind, usize),
 }
 
 /// Whether a value begins with this byte.
@@ -105,16 +107,16 @@ pub(crate) fn shape_of(alloc: Global, kind: u8, text: &str) -> Result<Shape, Sto
         b'-' => Ok(Shape::Whole(error_of(alloc, text)?)),
         b':' => Ok(Shape::Whole(Value::Int(integer_of(text)?))),
         b'$' => body_or_nil(text, BodyKind::Bulk),
-        b'*' => parts_or_nil(text, PartsKind::Array),
+        b'*' => elements_or_nil(text, ElementsKind::Array),
         b'_' => Ok(Shape::Whole(Value::Nil)),
         b'#' => boolean_shape(text),
         b',' => Ok(Shape::Whole(double_of(alloc, text)?)),
         b'(' => Ok(Shape::Whole(Value::BigNumber(Items::from_slice(alloc, text.as_bytes())?))),
         b'!' => Ok(Shape::Body(BodyKind::Error, length_of(text)?)),
         b'=' => Ok(Shape::Body(BodyKind::Verbatim, length_of(text)?)),
-        b'%' => Ok(Shape::Parts(PartsKind::Map, 2 * length_of(text)?)),
-        b'~' => parts_or_nil(text, PartsKind::Set),
-        b'|' => Ok(Shape::Parts(PartsKind::Attribute, 2 * length_of(text)? + 1)),
+        b'%' => Ok(Shape::Elements(ElementsKind::Map, 2 * length_of(text)?)),
+        b'~' => elements_or_nil(text, ElementsKind::Set),
+        b'|' => Ok(Shape::Elements(ElementsKind::Attribute, 2 * length_of(text)? + 1)),
         _ => push_shape(alloc, text),
     }
 }
@@ -130,7 +132,8 @@ fn boolean_shape(text: &str) -> Result<Shape, Stop>
 }
 
 fn body_or_nil(text: &str, kind: BodyKind) -> Result<Shape, Stop>
-    ensures announced { Announces result (with_number text.now (or_nil (λ n. a_body n (body_value kind)))) }
+    ensures announced { Announces result (with_number text.now
+        (or_nil (λ n. a_body n (body_value kind)))) }
 {
     let len = integer_of(text)?;
     if len < 0 {
@@ -139,22 +142,24 @@ fn body_or_nil(text: &str, kind: BodyKind) -> Result<Shape, Stop>
     Ok(Shape::Body(kind, len as usize))
 }
 
-fn parts_or_nil(text: &str, kind: PartsKind) -> Result<Shape, Stop>
-    ensures announced { Announces result (with_number text.now (or_nil (λ n. some_parts n (parts_value kind)))) }
+fn elements_or_nil(text: &str, kind: ElementsKind) -> Result<Shape, Stop>
+    ensures announced { Announces result (with_number text.now
+        (or_nil (λ n. some_elements n (elements_value kind)))) }
 {
     let count = integer_of(text)?;
     if count < 0 {
         return Ok(Shape::Whole(Value::Nil));
     }
-    Ok(Shape::Parts(kind, count as usize))
+    Ok(Shape::Elements(kind, count as usize))
 }
 
 fn push_shape(alloc: Global, text: &str) -> Result<Shape, Stop>
-    ensures announced { Announces result (with_number text.now (or_empty_push (λ n. some_parts n push))) }
+    ensures announced { Announces result (with_number text.now
+        (or_empty_push (λ n. some_elements n push))) }
 {
     let count = integer_of(text)?;
     if count <= 0 {
         return Ok(Shape::Whole(no_push(alloc)));
     }
-    Ok(Shape::Parts(PartsKind::Push, count as usize))
+    Ok(Shape::Elements(ElementsKind::Push, count as usize))
 }

@@ -1,6 +1,6 @@
 //! Where replies come from.
 
-ghost use Rattle.resp_parse.specs.Ends.{End, Fills};
+ghost use Rattle.resp_parse.specs.Source.{End, Fills};
 
 use resp_value::IoKind;
 
@@ -11,7 +11,7 @@ use resp_value::IoKind;
 pub trait ReplySource {
     ghost source: { Self → End };
 
-    /// Puts bytes at the front of the buffer and answers how many; 0 of a buffer that isn't empty
+    /// Puts bytes at the start of the buffer and answers how many; 0 of a buffer that isn't empty
     /// is the end.
     ///
     /// An `Err` takes no byte from the source and counts one failure more, up to the greatest

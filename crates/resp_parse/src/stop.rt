@@ -6,7 +6,7 @@ ghost use Rattle.resp_parse.specs.declared.stop.Stop.TheVariants.{Memory};
 use resp_value::FrameFault;
 use std::alloc::{AllocError, AllocFailed};
 
-/// Why no value was read from the front of bytes.
+/// Why no value was read from the start of bytes.
 #[derive(Debug, Drop)]
 pub(crate) enum Stop {
     /// Memory ran out.

@@ -1,10 +1,11 @@
-//! Values from the texts, bodies and parts that spell them.
+//! Values from the texts, bodies and elements that spell them.
 
 ghost use Rattle.std.specs.Prelude.{◌≡◌, [], string_bytes};
 ghost use Rattle.resp_value.specs.declared.value.Value.TheVariants as value;
 ghost use Rattle.resp_value.specs.ServerErrors.{server_error};
 ghost use Rattle.resp_value.specs.Views.{pairs as pairs_of};
-ghost use Rattle.resp_parse.specs.Grammar.{simple, bulk_error, lossy, verbatim, attribute, push_kind, push, empty_push};
+ghost use Rattle.resp_parse.specs.Grammar.{simple, bulk_error, lossy, verbatim, attribute};
+ghost use Rattle.resp_parse.specs.Grammar.{push_kind, push, empty_push};
 ghost use Rattle.resp_parse.specs.Double.{double};
 ghost use Rattle.resp_parse.specs.Shows.{IsOrMemory, Makes, DoubleOf};
 
@@ -79,12 +80,12 @@ pub(crate) fn verbatim_of(alloc: Global, body: &[u8]) -> Result<Value, Stop>
     }
 }
 
-/// The parts two by two.
-pub(crate) fn pairs_from(alloc: Global, parts: Vec<Value>) -> Result<Items<(Value, Value)>, Stop>
-    ensures pairs { IsOrMemory result (pairs_of parts.items) }
+/// The elements two by two.
+pub(crate) fn pairs_from(alloc: Global, elements: Vec<Value>) -> Result<Items<(Value, Value)>, Stop>
+    ensures pairs { IsOrMemory result (pairs_of elements.items) }
 {
     let mut pairs = Items::new(alloc);
-    let mut rest = parts.into_iter();
+    let mut rest = elements.into_iter();
     while let Some(key) = rest.next() {
         let Some(value) = rest.next() else {
             break;
@@ -94,17 +95,17 @@ pub(crate) fn pairs_from(alloc: Global, parts: Vec<Value>) -> Result<Items<(Valu
     Ok(pairs)
 }
 
-/// The attribute of these parts: pairs, and then the data (RESP3, "Attributes").
-pub(crate) fn attribute_of(alloc: Global, mut parts: Vec<Value>) -> Result<Value, Stop>
-    ensures value { IsOrMemory result (attribute parts.items) }
+/// The attribute of these elements: pairs, and then the data (RESP3, "Attributes").
+pub(crate) fn attribute_of(alloc: Global, mut elements: Vec<Value>) -> Result<Value, Stop>
+    ensures value { IsOrMemory result (attribute elements.items) }
 {
-    let payload = match parts.pop() {
+    let payload = match elements.pop() {
         Some(value) => value,
         None => Value::Nil,
     };
     Ok(Value::Attribute {
         payload: Boxed::new(alloc, payload)?,
-        attributes: pairs_from(alloc, parts)?,
+        attributes: pairs_from(alloc, elements)?,
     })
 }
 
@@ -122,17 +123,17 @@ fn kind_from(first: Value) -> Option<PushKind>
     }
 }
 
-/// The push of these parts: its kind, and then its data (RESP3, "Pushes").
-pub(crate) fn push_of(mut parts: Vec<Value>) -> Result<Value, Stop>
-    ensures value { Makes result (push parts.items) }
+/// The push of these elements: its kind, and then its data (RESP3, "Pushes").
+pub(crate) fn push_of(mut elements: Vec<Value>) -> Result<Value, Stop>
+    ensures value { Makes result (push elements.items) }
 {
-    if parts.is_empty() {
+    if elements.is_empty() {
         return Err(Stop::Fault(FrameFault::BadPushKind));
     }
-    match kind_from(parts.remove(0)) {
+    match kind_from(elements.remove(0)) {
         Some(kind) => Ok(Value::Push {
             kind,
-            payload: parts.into(),
+            payload: elements.into(),
         }),
         None => Err(Stop::Fault(FrameFault::BadPushKind)),
     }

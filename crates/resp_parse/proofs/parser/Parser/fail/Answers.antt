@@ -1,11 +1,11 @@
 use Rattle.std.proofs.Common.{true, ap, sym, ◌∙◌, refl}
 use Rattle.resp_parse.specs.State.{State}
-use Rattle.resp_parse.proofs.Plain.{state_of, FailedAfter-plain, StandsAfter-unseen}
+use Rattle.resp_parse.proofs.Plain.{state_of, FailedAfter-plain, StandsAfter-unparsed}
 use Rattle.resp_parse.proofs.parser.Parser.fail.Goals as goal
 
 pub returns : goal.returns
 returns c = record {
   fails = λ b h.
-      FailedAfter-plain (state_of c.self.inside.held.items c.self.inside.seen true) b refl
-      (StandsAfter-unseen c.args.self.now b h ∙ sym (ap (λ (s : State). s.unseen) c.self.view_is));
+      FailedAfter-plain (state_of c.self.inside.buffer.items c.self.inside.consumed true) b refl
+      (StandsAfter-unparsed c.args.self.now b h ∙ sym (ap (λ (s : State). s.unparsed) c.self.view_is));
 }

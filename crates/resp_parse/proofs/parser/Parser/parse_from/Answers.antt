@@ -3,37 +3,55 @@ use Rattle.std.proofs.lemmas.Result.{err_from_is_err_and}
 use Rattle.resp_parse.specs.State.{State}
 use Rattle.resp_parse.specs.Takes.{Takes}
 use Rattle.resp_parse.proofs.Standing.{StandsAfter-not_failed}
-use Rattle.resp_parse.proofs.Come.{Parsed-taken, CannotParse-taken, CannotParse-asked, CannotParse-failed}
+use Rattle.resp_parse.proofs.Come.{FilledAsNeeded-none, FilledAsNeeded-asked, Parsed-taken, CannotParse-taken, CannotParse-asked, CannotParse-failed}
 use Rattle.resp_parse.proofs.parser.Parser.parse_from.Goals as goal
 
+pub loop-init : goal.loop-init
+loop-init g c = record {
+  observable = λ told. told;
+  filled = λ b h. FilledAsNeeded-none b c.args.self.now (g.S.ReplySource.source c.args.source.now) h;
+}
+
+pub loop-preserved : goal.loop-preserved
+loop-preserved g c =
+    let source = g.S.ReplySource.source in
+    record {
+      observable = λ told. c.ask.ensures.observable (c.loop.invariant.observable told);
+      filled = λ b h.
+          let k = c.loop.invariant.filled b h in
+          let w : Takes (b ++ k.more.filled) c.take_value.new.self (Ok None) = rw c.in_default.is at (c.in_ok-value.ensures.takes (b ++ k.more.filled) k.more.stands) in
+          FilledAsNeeded-asked b c.loop.self (source c.args.source.now) (source c.loop.source) k c.take_value.new.self w (source c.ask.new.source) c.loop.invariant.observable c.ask.new.self
+          (c.in_ok-ask.ensures.asks (b ++ k.more.filled) w.1);
+    }
+
 pub returns-then-self-clause-parses : goal.returns-then-self-clause-parses
-returns-then-self-clause-parses g c = λ b h tells. absurd (StandsAfter-not_failed c.args.self.now b h (sym (ap (λ (s : State). s.failed) c.self.view_is) ∙ c.if-self.true))
+returns-then-self-clause-parses g c = λ b h. absurd (StandsAfter-not_failed c.args.self.now b h (sym (ap (λ (s : State). s.failed) c.self.view_is) ∙ c.if-self.true))
 
 pub returns-in_err-value-clause-parses : goal.returns-in_err-value-clause-parses
-returns-in_err-value-clause-parses g c = λ b h tells.
+returns-in_err-value-clause-parses g c = λ b h.
     let source = g.S.ReplySource.source in
     let p = err_from_is_err_and c.from_residual.result c.from_residual.ensures.1 in
-    let k = c.loop.invariant.filled b h tells in
-    rw (p.1, p.2) (CannotParse-taken b c.loop.self (source c.args.source.now) (source c.loop.source) k c.take_value.new.self c.in_err-value.field-0.0 (c.in_err-value.ensures.takes (b ++ k.filled) k.stands))
+    let k = c.loop.invariant.filled b h in
+    rw (p.1, p.2) (CannotParse-taken b c.loop.self (source c.args.source.now) (source c.loop.source) k c.take_value.new.self c.in_err-value.field-0.0 (c.in_err-value.ensures.takes (b ++ k.more.filled) k.more.stands))
 
 pub returns-in-Some-clause-parses : goal.returns-in-Some-clause-parses
-returns-in-Some-clause-parses g c = λ b h tells.
+returns-in-Some-clause-parses g c = λ b h.
     let source = g.S.ReplySource.source in
-    let k = c.loop.invariant.filled b h tells in
-    let w : Takes (b ++ k.filled) c.take_value.new.self (Ok (Some c.in-Some.value)) = rw c.in-Some.is at (c.in_ok-value.ensures.takes (b ++ k.filled) k.stands) in
+    let k = c.loop.invariant.filled b h in
+    let w : Takes (b ++ k.more.filled) c.take_value.new.self (Ok (Some c.in-Some.value)) = rw c.in-Some.is at (c.in_ok-value.ensures.takes (b ++ k.more.filled) k.more.stands) in
     Parsed-taken b c.loop.self (source c.args.source.now) (source c.loop.source) k c.take_value.new.self c.in-Some.value w
 
 pub returns-in_err-ask-clause-parses : goal.returns-in_err-ask-clause-parses
-returns-in_err-ask-clause-parses g c = λ b h tells.
+returns-in_err-ask-clause-parses g c = λ b h.
     let source = g.S.ReplySource.source in
     let p = err_from_is_err_and c.from_residual-in_err-ask.result c.from_residual-in_err-ask.ensures.1 in
-    let k = c.loop.invariant.filled b h tells in
-    let w : Takes (b ++ k.filled) c.take_value.new.self (Ok None) = rw c.in_default.is at (c.in_ok-value.ensures.takes (b ++ k.filled) k.stands) in
-    rw (p.1, p.2) (CannotParse-asked b c.loop.self (source c.args.source.now) (source c.loop.source) k c.take_value.new.self w (source c.ask.new.source) c.ask.new.self c.in_err-ask.field-0.0
-    (c.in_err-ask.ensures.asks (b ++ k.filled) w.1 (c.loop.invariant.tells tells)))
+    let k = c.loop.invariant.filled b h in
+    let w : Takes (b ++ k.more.filled) c.take_value.new.self (Ok None) = rw c.in_default.is at (c.in_ok-value.ensures.takes (b ++ k.more.filled) k.more.stands) in
+    rw (p.1, p.2) (CannotParse-asked b c.loop.self (source c.args.source.now) (source c.loop.source) k c.take_value.new.self w (source c.ask.new.source) c.loop.invariant.observable c.ask.new.self c.in_err-ask.field-0.0
+    (c.in_err-ask.ensures.asks (b ++ k.more.filled) w.1))
 
 pub returns-clause-parses : goal.returns-clause-parses
-returns-clause-parses g c = λ b h tells.
+returns-clause-parses g c = λ b h.
     let source = g.S.ReplySource.source in
-    let k = c.loop.invariant.filled b h tells in
-    CannotParse-failed b c.loop.self (source c.args.source.now) (source c.loop.source) k c.fail.new.self _ refl (c.fail.ensures.fails (b ++ k.filled) k.stands)
+    let k = c.loop.invariant.filled b h in
+    CannotParse-failed b c.loop.self (source c.args.source.now) (source c.loop.source) k c.fail.new.self _ refl (c.fail.ensures.fails (b ++ k.more.filled) k.more.stands)

@@ -10,24 +10,24 @@ returns-then-self-clause-takes c = λ b h. absurd (StandsAfter-not_failed c.args
 
 pub returns-in-Ok-clause-takes : goal.returns-in-Ok-clause-takes
 returns-in-Ok-clause-takes c = λ b h.
-    let front = take (length c.deref.result.now - c.self.inside.seen) (drop c.self.inside.seen c.deref.result.now) in
-    let f : front ≡ drop c.self.inside.seen c.self.inside.held.items = grind (arith, common_steps, c.deref.ensures.value) in
-    Takes-value c.args.self.now b c.self.inside.held.items c.self.inside.seen c.self.inside.failed c.self.view_is h front c.in-Ok.value c.in-Ok.len c.if-self.false f c.in-Ok.ensures.finds
+    let prefix = take (length c.deref.result.now - c.self.inside.consumed) (drop c.self.inside.consumed c.deref.result.now) in
+    let f : prefix ≡ drop c.self.inside.consumed c.self.inside.buffer.items = grind (arith, common_steps, c.deref.ensures.value) in
+    Takes-value c.args.self.now b c.self.inside.buffer.items c.self.inside.consumed c.self.inside.failed c.self.view_is h prefix c.in-Ok.value c.in-Ok.len c.if-self.false f c.in-Ok.ensures.finds
 
 pub returns-in-Err-Unfinished-clause-takes : goal.returns-in-Err-Unfinished-clause-takes
 returns-in-Err-Unfinished-clause-takes c = λ b h.
-    let front = take (length c.deref.result.now - c.self.inside.seen) (drop c.self.inside.seen c.deref.result.now) in
-    let f : front ≡ drop c.self.inside.seen c.self.inside.held.items = grind (arith, common_steps, c.deref.ensures.value) in
+    let prefix = take (length c.deref.result.now - c.self.inside.consumed) (drop c.self.inside.consumed c.deref.result.now) in
+    let f : prefix ≡ drop c.self.inside.consumed c.self.inside.buffer.items = grind (arith, common_steps, c.deref.ensures.value) in
     let found = rw c.in-Err-Unfinished.field-0-is at c.in-Err-Unfinished.ensures.finds in
-    Takes-none c.args.self.now b c.self.inside.held.items c.self.inside.seen c.self.inside.failed c.self.view_is h front f found
+    Takes-none c.args.self.now b c.self.inside.buffer.items c.self.inside.consumed c.self.inside.failed c.self.view_is h prefix f found
 
 pub returns-in-Err-Fault-clause-takes : goal.returns-in-Err-Fault-clause-takes
 returns-in-Err-Fault-clause-takes c = λ b h.
-    let front = take (length c.deref.result.now - c.self.inside.seen) (drop c.self.inside.seen c.deref.result.now) in
-    let f : front ≡ drop c.self.inside.seen c.self.inside.held.items = grind (arith, common_steps, c.deref.ensures.value) in
+    let prefix = take (length c.deref.result.now - c.self.inside.consumed) (drop c.self.inside.consumed c.deref.result.now) in
+    let f : prefix ≡ drop c.self.inside.consumed c.self.inside.buffer.items = grind (arith, common_steps, c.deref.ensures.value) in
     let found = rw c.in-Err-Fault.field-0-is at c.in-Err-Fault.ensures.finds in
-    Takes-fault c.args.self.now b c.self.inside.held.items c.self.inside.seen c.self.inside.failed c.self.view_is h front c.in-Err-Fault.fault f found
+    Takes-fault c.args.self.now b c.self.inside.buffer.items c.self.inside.consumed c.self.inside.failed c.self.view_is h prefix c.in-Err-Fault.fault f found
 
 pub returns-in-Err-Memory-clause-takes : goal.returns-in-Err-Memory-clause-takes
 returns-in-Err-Memory-clause-takes c = λ b h.
-    Takes-memory c.args.self.now b c.self.inside.held.items c.self.inside.seen c.self.inside.failed c.self.view_is h
+    Takes-memory c.args.self.now b c.self.inside.buffer.items c.self.inside.consumed c.self.inside.failed c.self.view_is h

@@ -4,22 +4,26 @@ use Rattle.resp_value.specs.declared.errors.kinds.IoKind.{IoKind}
 
 -- whether the bytes are known; the bytes to come of a source, or those that a sink was sent; the failures so far
 pub record End : Type 0 where
-  pub tells : Bool
+  pub observable : Bool
   pub bytes : List ℕ
   pub failures : ℕ
 
--- an end whose bytes are known where these are, with so many failures
+-- an end whose bytes are known where these are, with this count of failures
 abbrev pub end_of : Option (List ℕ) → ℕ → End
-end_of known count = record { tells = is_some known; bytes = unwrap_or known []; failures = count }
+end_of known count = record { observable = is_some known; bytes = unwrap_or known []; failures = count }
+
+-- these are the source's next bytes, and the others are still to come, where it tells its bytes
+abbrev pub Came : End → List ℕ → End → Type 0
+Came s taken t = s.observable ≡ true → s.bytes ≡ taken ++ t.bytes
 
 -- one more failure, up to the greatest number of 64 bits
 abbrev pub FailureCounted : ℕ → ℕ → Type 0
 FailureCounted old new = new ≡ min (old + 1) (2 ^ 64 - 1)
 
--- n bytes were taken from the source and stand at the front of the buffer, none only at the end; or nothing was taken and
+-- n bytes were taken from the source and stand at the start of the buffer, none only at the end; or nothing was taken and
 -- a failure counted
 pub record Fills (old new : End) (before after : List ℕ) (r : Result ℕ IoKind) : Type 0 where
   pub bound : IfOk r (λ n. n ≤ length before)
-  pub tells : old.tells ≡ true → new.tells ≡ true
+  pub observable : old.observable ≡ true → new.observable ≡ true
   pub failures : MatchResult r (λ _. new.failures ≡ old.failures) (λ _. FailureCounted old.failures new.failures)
-  pub bytes : old.tells ≡ true → MatchResult r (λ n. (old.bytes ≡ take n after ++ new.bytes) × (n ≡ 0 → 0 < length before → new.bytes ≡ [])) (λ _. new.bytes ≡ old.bytes)
+  pub bytes : old.observable ≡ true → MatchResult r (λ n. (old.bytes ≡ take n after ++ new.bytes) × (n ≡ 0 → 0 < length before → new.bytes ≡ [])) (λ _. new.bytes ≡ old.bytes)

@@ -1,8 +1,8 @@
-//! The value at the front of bytes.
+//! The value at the start of bytes.
 
 ghost use Rattle.std.specs.Prelude.{IsTrue};
 ghost use Rattle.resp_parse.specs.Grammar.{next, is_type};
-ghost use Rattle.resp_parse.specs.Reading.{read, read_next, read_parts};
+ghost use Rattle.resp_parse.specs.Reading.{read, read_next, read_elements};
 ghost use Rattle.resp_parse.specs.Shows.{Shows};
 ghost use Rattle.resp_parse.specs.Answers.{Answers, Finds};
 
@@ -15,7 +15,7 @@ use std::alloc::Global;
 /// How many levels of values inside values are read.
 const LEVELS: usize = 100;
 
-/// The value at the front of the bytes, where so many levels are left, and what follows it.
+/// The value at the start of the bytes, where d levels are left, and what follows it.
 #[cycle(parser)]
 fn value_at(alloc: Global, bytes: &[u8], levels: usize) -> Result<(Value, &[u8]), Stop>
     ensures value { Shows (λ x. (x.0, x.1.now)) result (read levels bytes.now) }
@@ -46,7 +46,8 @@ fn announced_at<'a>(
     levels: usize,
 ) -> Result<(Value, &'a [u8]), Stop>
     requires { IsTrue (is_type kind) }
-    ensures value { Shows (λ x. (x.0, x.1.now)) result (read_next (read levels) (next kind text.now) bytes.now) }
+    ensures value { Shows (λ x. (x.0, x.1.now)) result
+        (read_next (read levels) (next kind text.now) bytes.now) }
 {
     match shape_of(alloc, kind, text)? {
         Shape::Whole(value) => Ok((value, bytes)),
@@ -54,34 +55,35 @@ fn announced_at<'a>(
             let (body, rest) = body_of(bytes, len)?;
             Ok((kind.value(alloc, body)?, rest))
         }
-        Shape::Parts(kind, count) => {
-            let (parts, rest) = parts_at(alloc, bytes, count, levels)?;
-            Ok((kind.value(alloc, parts)?, rest))
+        Shape::Elements(kind, count) => {
+            let (elements, rest) = elements_at(alloc, bytes, count, levels)?;
+            Ok((kind.value(alloc, elements)?, rest))
         }
     }
 }
 
-/// So many values at the front of the bytes, and what follows them.
+/// n values at the start of the bytes, and what follows them.
 #[cycle(parser)]
-fn parts_at(
+fn elements_at(
     alloc: Global,
     bytes: &[u8],
     count: usize,
     levels: usize,
 ) -> Result<(Vec<Value>, &[u8]), Stop>
-    ensures parts { Shows (λ x. (x.0.items, x.1.now)) result (read_parts (read levels) count bytes.now) }
+    ensures elements { Shows (λ x. (x.0.items, x.1.now)) result
+        (read_elements (read levels) count bytes.now) }
 {
-    let mut parts = Vec::new(alloc);
+    let mut elements = Vec::new(alloc);
     let mut rest = bytes;
     for _ in 0..count {
-        let (part, after) = value_at(alloc, rest, levels)?;
-        parts.push(part)?;
+        let (element, after) = value_at(alloc, rest, levels)?;
+        elements.push(element)?;
         rest = after;
     }
-    Ok((parts, rest))
+    Ok((elements, rest))
 }
 
-/// The value at the front of the bytes, and how many bytes spell it.
+/// The value at the start of the bytes, and how many bytes spell it.
 pub(crate) fn first_value(alloc: Global, bytes: &[u8]) -> Result<(Value, usize), Stop>
     ensures finds { Finds bytes.now result }
 {

@@ -35,10 +35,10 @@ then-nothing (got x rest) = refl
 then-nothing (fault f rest) = refl
 then-nothing unfinished = refl
 
-then-front : (b : ℕ) (front : List ℕ) (o : Outcome (List ℕ)) → then (then o (λ x rest. got (front ++ x) rest)) (λ x rest. got (b ∷ x) rest) ≡ then o (λ x rest. got (b ∷ (front ++ x)) rest)
-then-front b front (got x rest) = refl
-then-front b front (fault f rest) = refl
-then-front b front unfinished = refl
+then-prefix : (b : ℕ) (prefix : List ℕ) (o : Outcome (List ℕ)) → then (then o (λ x rest. got (prefix ++ x) rest)) (λ x rest. got (b ∷ x) rest) ≡ then o (λ x rest. got (b ∷ (prefix ++ x)) rest)
+then-prefix b prefix (got x rest) = refl
+then-prefix b prefix (fault f rest) = refl
+then-prefix b prefix unfinished = refl
 
 -- all bytes of the body are there: its end decides
 pub read_body-there : (n : ℕ) (bs : List ℕ) → n ≤ length bs → read_body n bs ≡ then (end_of_body (drop n bs)) (λ x rest. got (take n bs ++ x) rest)
@@ -46,7 +46,7 @@ read_body-there zero bs l = then-nothing (end_of_body bs)
 read_body-there (suc n) [] l = absurd (omega arith)
 read_body-there (suc n) (b ∷ bs) l =
     let later : read_body n bs ≡ then (end_of_body (drop n bs)) (λ x rest. got (take n bs ++ x) rest) = read_body-there n bs (omega arith) in
-    ap (λ o. then o (λ x rest. got (b ∷ x) rest)) later ∙ then-front b (take n bs) (end_of_body (drop n bs))
+    ap (λ o. then o (λ x rest. got (b ∷ x) rest)) later ∙ then-prefix b (take n bs) (end_of_body (drop n bs))
 
 pub read_body-short : (n : ℕ) (bs : List ℕ) → length bs < n → read_body n bs ≡ unfinished
 read_body-short zero bs l = absurd (omega arith)

@@ -1,4 +1,4 @@
--- What reading gives is what stands at the front.
+-- What reading gives is what stands at the start.
 use Rattle.std.proofs.Common.{◌≡◌, ℕ, ◌-◌, ◌≤◌, List, ◌++◌, length, drop, Ok, Err, Some, refl, ap, sym, ◌∙◌, subst, arith}
 use Rattle.std.proofs.lemmas.Grind.{common_steps}
 use Rattle.resp_value.specs.declared.value.Value.{Value}
@@ -6,33 +6,33 @@ use Rattle.resp_value.specs.declared.errors.kinds.FrameFault.{FrameFault}
 use Rattle.resp_parse.specs.declared.stop.Stop.{Stop}
 use Rattle.resp_parse.specs.declared.stop.Stop.TheVariants.{Memory, Unfinished, Fault}
 use Rattle.resp_parse.specs.Reading.{Outcome, got, fault, unfinished, read}
-use Rattle.resp_parse.specs.Fronts.{HasGood, HasFaulty, IsUnfinished}
+use Rattle.resp_parse.specs.Prefixes.{HasGoodPrefix, HasFaultyPrefix, IsUnfinished}
 use Rattle.resp_parse.specs.Shows.{Stops, fault_of}
 use Rattle.resp_parse.specs.Answers.{Finds}
 use Rattle.resp_parse.proofs.Agreement.{read-good, read-faulty, good-reads, faulty-reads}
 
-pub HasGood-from_read : (d : ℕ) (b rest : List ℕ) (v : Value) → read d b ≡ got v rest → HasGood d b v rest
-unfolding HasGood
-HasGood-from_read d b rest v e = read-good d b rest v e
+pub HasGoodPrefix-from_read : (d : ℕ) (b rest : List ℕ) (v : Value) → read d b ≡ got v rest → HasGoodPrefix d b v rest
+unfolding HasGoodPrefix
+HasGoodPrefix-from_read d b rest v e = read-good d b rest v e
 
-pub read-from_HasGood : (d : ℕ) (b rest : List ℕ) (v : Value) → HasGood d b v rest → read d b ≡ got v rest
-unfolding HasGood
+pub read-from_HasGood : (d : ℕ) (b rest : List ℕ) (v : Value) → HasGoodPrefix d b v rest → read d b ≡ got v rest
+unfolding HasGoodPrefix
 read-from_HasGood d b rest v (x, e, g) = ap (read d) e ∙ good-reads d x rest v g
 
-HasFaulty-from_read : (d : ℕ) (b rest : List ℕ) (f : FrameFault) → read d b ≡ fault f rest → HasFaulty d b f
-unfolding HasFaulty
-HasFaulty-from_read d b rest f e = let h = read-faulty d b rest f e in (h.0, rest, h.1, h.2)
+HasFaultyPrefix-from_read : (d : ℕ) (b rest : List ℕ) (f : FrameFault) → read d b ≡ fault f rest → HasFaultyPrefix d b f
+unfolding HasFaultyPrefix
+HasFaultyPrefix-from_read d b rest f e = let h = read-faulty d b rest f e in (h.0, rest, h.1, h.2)
 
-pub HasFaulty-from_fault_of : (d : ℕ) (b : List ℕ) (f : FrameFault) (o : Outcome Value) → read d b ≡ o → fault_of o ≡ Some f → HasFaulty d b f
-HasFaulty-from_fault_of d b f (got v r) e k = absurd (cc)
-HasFaulty-from_fault_of d b f (fault g r) e k = let i : g ≡ f = cc in HasFaulty-from_read d b r f (e ∙ ap (λ z. fault z r) i)
-HasFaulty-from_fault_of d b f unfinished e k = absurd (cc)
+pub HasFaultyPrefix-from_fault_of : (d : ℕ) (b : List ℕ) (f : FrameFault) (o : Outcome Value) → read d b ≡ o → fault_of o ≡ Some f → HasFaultyPrefix d b f
+HasFaultyPrefix-from_fault_of d b f (got v r) e k = absurd (cc)
+HasFaultyPrefix-from_fault_of d b f (fault g r) e k = let i : g ≡ f = cc in HasFaultyPrefix-from_read d b r f (e ∙ ap (λ z. fault z r) i)
+HasFaultyPrefix-from_fault_of d b f unfinished e k = absurd (cc)
 
-no_value : (d : ℕ) (b : List ℕ) → read d b ≡ unfinished → (v : Value) (rest : List ℕ) → HasGood d b v rest → ⊥
+no_value : (d : ℕ) (b : List ℕ) → read d b ≡ unfinished → (v : Value) (rest : List ℕ) → HasGoodPrefix d b v rest → ⊥
 no_value d b e v rest h = let k : unfinished ≡ got v rest = sym e ∙ read-from_HasGood d b rest v h in cc
 
-no_fault : (d : ℕ) (b : List ℕ) → read d b ≡ unfinished → (f : FrameFault) → HasFaulty d b f → ⊥
-unfolding HasFaulty
+no_fault : (d : ℕ) (b : List ℕ) → read d b ≡ unfinished → (f : FrameFault) → HasFaultyPrefix d b f → ⊥
+unfolding HasFaultyPrefix
 no_fault d b e f (x, rest, eb, g) = let k : unfinished ≡ fault f rest = sym e ∙ ap (read d) eb ∙ faulty-reads d x rest f g in cc
 
 pub IsUnfinished-from_read : (d : ℕ) (b : List ℕ) → read d b ≡ unfinished → IsUnfinished d b
@@ -41,7 +41,7 @@ IsUnfinished-from_read d b e = record { no_value = no_value d b e; no_fault = no
 pub Finds-from_stops : (b : List ℕ) (e : Stop) → Stops e (read 100 b) → Finds b (Err e)
 Finds-from_stops b Memory h = tt
 Finds-from_stops b Unfinished h = IsUnfinished-from_read 100 b h
-Finds-from_stops b (Fault f) h = HasFaulty-from_fault_of 100 b f (read 100 b) refl h
+Finds-from_stops b (Fault f) h = HasFaultyPrefix-from_fault_of 100 b f (read 100 b) refl h
 
 drop-rest : (b x rest : List ℕ) → b ≡ x ++ rest → drop (length b - length rest) b ≡ rest
 drop-rest b x rest e = rw e (grind (arith, common_steps))
@@ -56,4 +56,4 @@ pub Finds-from_got : (b rest : List ℕ) (v : Value) → read 100 b ≡ got v re
 Finds-from_got b rest v e =
     let h = read-good 100 b rest v e in
     let k : drop (length b - length rest) b ≡ rest = drop-rest b h.0 rest h.1 in
-    (omega arith, subst (λ r. HasGood 100 b v r) (sym k) (HasGood-from_read 100 b rest v e))
+    (omega arith, subst (λ r. HasGoodPrefix 100 b v r) (sym k) (HasGoodPrefix-from_read 100 b rest v e))

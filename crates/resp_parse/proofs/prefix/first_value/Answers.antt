@@ -1,6 +1,6 @@
 use Rattle.std.proofs.lemmas.Result.{err_from_is_err_and}
-use Rattle.resp_parse.proofs.FrontReads.{Finds-from_stops, Finds-from_got, rest-fits}
-use Rattle.resp_parse.proofs.front.first_value.Goals as goal
+use Rattle.resp_parse.proofs.PrefixReads.{Finds-from_stops, Finds-from_got, rest-fits}
+use Rattle.resp_parse.proofs.prefix.first_value.Goals as goal
 
 pub returns-in_err-value : goal.returns-in_err-value
 returns-in_err-value c =

@@ -1,6 +1,6 @@
 use Rattle.std.proofs.Common.{refl}
 use Rattle.resp_parse.specs.Answers.{faulty}
-use Rattle.resp_parse.proofs.front.parse_redis_value.Goals as goal
+use Rattle.resp_parse.proofs.prefix.parse_redis_value.Goals as goal
 
 pub returns-in-Err-Fault : goal.returns-in-Err-Fault
 returns-in-Err-Fault c =
