@@ -7,7 +7,8 @@ use Rattle.std.proofs.lemmas.List.{flat_map_more, get_or_append_left}
 use Rattle.std.proofs.Math.Seq.{get_or-append_seam}
 use Rattle.std.specs.List.{AllZip, Any}
 use Rattle.resp_value.specs.declared.errors.redis_error.RedisError.{RedisError}
-use Rattle.resp_args.specs.Args.{Args, args_of, extended, Appends, GivesEach, IsFront, IsRefusal, Writes, GivesInSomeOrder}
+use Rattle.resp_value.specs.declared.errors.redis_error.RedisError.TheVariants.{OutOfMemory}
+use Rattle.resp_args.specs.Args.{Args, args_of, extended, Appends, GivesEach, IsPrefix, IsRefusal, Writes, GivesBoth, InSomeOrder, GivesInSomeOrder, IfRefused, RefusedPair, RefusedAt, RefusedInSomeOrder}
 
 AllZip-append : {A B : Type 0} (R : A → B → Type 0) (xs : List A) (ys : List B) (x : A) (y : B) → AllZip R xs ys → R x y → AllZip R (xs ++ x ∷ []) (ys ++ y ∷ [])
 AllZip-append R [] [] x y h r = (r, tt)
@@ -72,16 +73,42 @@ progress_end Gives Refuses all old new p =
     let e : all ≡ p.done = p.split ∙ append-nil p.done in
     (subst (λ items. Appends (GivesEach Gives items) old new) (sym e) p.appended, λ any. p.taken (subst (Any Refuses) e any))
 
-pub progress_fails : {X : Type 0} (Gives : X → Args → Type 0) (Refuses : X → Type 0) (all : List X) (x : X) (rest : List X) (old mid new : Args) (r : Result (Unit {0}) RedisError) (e : RedisError) → Progress Gives Refuses all (x ∷ rest) old mid → IsFront mid new × IsRefusal (Refuses x) e → IsErr r × IsErrAnd r (λ d. d ≡ e) → Writes (GivesEach Gives all) (Any Refuses all) old new r
+pub progress_fails : {X : Type 0} (Gives : X → Args → Type 0) (Refuses : X → Type 0) (all : List X) (x : X) (rest : List X) (old mid new : Args) (r : Result (Unit {0}) RedisError) (e : RedisError) → Progress Gives Refuses all (x ∷ rest) old mid → IsPrefix mid new × IsRefusal (Refuses x) e → IsErr r × IsErrAnd r (λ d. d ≡ e) → Writes (GivesEach Gives all) (Any Refuses all) old new r
 progress_fails Gives Refuses all x rest old mid new (Ok y) e p fails is = absurd (cc (is.0))
 progress_fails Gives Refuses all x rest old mid new (Err d) e p fails is =
-    let front = fails.0 in (
-      (p.appended.0 ++ front.0, front.1 ∙ (ap (λ c. c ++ front.0) p.appended.1 ∙ append_assoc old p.appended.0 front.0)),
+    let prefix = fails.0 in (
+      (p.appended.0 ++ prefix.0, prefix.1 ∙ (ap (λ c. c ++ prefix.0) p.appended.1 ∙ append_assoc old p.appended.0 prefix.0)),
       subst (IsRefusal (Any Refuses all)) (sym is.1) (⊎_elim (λ memory. inl memory) (λ refused. inr (refused.0, subst (Any Refuses) (sym p.split) (Any-amid Refuses p.done x rest refused.1))) fails.1),
     )
 
+pub progress_refused : {X : Type 0} (Gives : X → Args → Type 0) (Wide Refuses : X → Type 0) (all : List X) (x : X) (rest : List X) (old mid new : Args) (r : Result (Unit {0}) RedisError) (e : RedisError) → Progress Gives (λ p. Wide p ⊎ Refuses p) all (x ∷ rest) old mid → (e ≡ OutOfMemory) ⊎ RefusedPair (Wide x) (Refuses x) mid new e → IsErr r × IsErrAnd r (λ d. d ≡ e) → IfRefused r (RefusedAt Gives Wide Refuses all old new)
+progress_refused Gives Wide Refuses all x rest old mid new (Ok y) e p refused is = tt
+progress_refused Gives Wide Refuses all x rest old mid new (Err d) e p refused is =
+    subst (λ d. (d ≡ OutOfMemory) ⊎ RefusedAt Gives Wide Refuses all old new d) (sym is.1) (⊎_elim (λ memory. inl memory) (λ at. inr (record { before = p.done; pair = x; after = rest; in_order = p.split; taken = p.taken; reached = mid; whole = p.appended; refused = at })) refused)
+
 -- the order in which the items stand is one of them
+standing : {X : Type 0} (items : List X) (P : List X → Type 0) → P items → InSomeOrder items P
+standing items P holds = (items, IsPermutation-refl items, holds)
+
 pub in_some_order : {X : Type 0} (Gives : X → Args → Type 0) (items : List X) (Refused : Type 0) (old new : Args) (r : Result (Unit {0}) RedisError) → Writes (GivesEach Gives items) Refused old new r → Writes (GivesInSomeOrder Gives items) Refused old new r
 in_some_order Gives items Refused old new (Ok x) written =
-    ((written.0.0, written.0.1, (items, IsPermutation-refl items, written.0.2)), written.1)
+    ((written.0.0, written.0.1, standing items (λ order. GivesEach Gives order written.0.0) written.0.2), written.1)
 in_some_order Gives items Refused old new (Err e) written = written
+
+-- one part was written, and then another
+pub writes_both : (P Q : Args → Type 0) (R S : Type 0) (old mid new : Args) (r : Result (Unit {0}) RedisError) → Appends P old mid × (R → ⊥) → Writes Q S mid new r → Writes (GivesBoth P Q) (R ⊎ S) old new r
+writes_both P Q R S old mid new (Ok x) first second =
+    (Appends-trans P Q (GivesBoth P Q) old mid new first.0 second.0 (λ a b p q. (a, b, p, q, refl)), λ refused. ⊎_elim first.1 second.1 refused)
+writes_both P Q R S old mid new (Err e) first second =
+    let more = first.0.0 in
+    let prefix = second.0 in (
+      (more ++ prefix.0, prefix.1 ∙ (ap (λ c. c ++ prefix.0) first.0.1 ∙ append_assoc old more prefix.0)),
+      ⊎_elim (λ memory. inl memory) (λ refused. inr (refused.0, inr refused.1)) second.1,
+    )
+
+pub refused_in_some_order : {X : Type 0} (Gives : X → Args → Type 0) (Wide Refuses : X → Type 0) (items : List X) (old new : Args) (r : Result (Unit {0}) RedisError) → IfRefused r (RefusedAt Gives Wide Refuses items old new) → IfRefused r (RefusedInSomeOrder Gives Wide Refuses items old new)
+refused_in_some_order Gives Wide Refuses items old new (Ok x) refused = tt
+refused_in_some_order Gives Wide Refuses items old new (Err e) refused =
+    ⊎_elim (λ memory. inl memory) (λ at. inr (standing items (λ order. RefusedAt Gives Wide Refuses order old new e) at)) refused
+
+pub ruleset some_order = (in_some_order, refused_in_some_order)

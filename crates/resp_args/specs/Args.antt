@@ -1,11 +1,11 @@
 -- Arguments of a command (RESP, "Sending commands to a Redis server"): a client sends a command as an array
 -- of bulk strings, so every argument is a list of bytes.
-use Rattle.std.specs.Prelude.{◌<◌, ◌≡◌, ℕ, Bool, true, false, List, [], ◌∷◌, ◌++◌, map, Result, Ok, Err, Vec, nat_le, ◌⊎◌, Option, None, Some, ◌+◌, if◌then◌else◌, codes, length}
+use Rattle.std.specs.Prelude.{◌<◌, ◌≡◌, ℕ, Bool, true, false, List, [], ◌∷◌, ◌++◌, map, Result, Ok, Err, IfErr, Vec, nat_le, ◌⊎◌, Option, None, Some, ◌+◌, if◌then◌else◌, codes, length}
 use Rattle.std.specs.Global.{Global}
 use Rattle.std.specs.List.{Any, AllZip, flat_map}
 use Rattle.std.specs.List.Sorted.{IsPermutation}
 use Rattle.resp_value.specs.declared.errors.redis_error.RedisError.{RedisError}
-use Rattle.resp_value.specs.declared.errors.redis_error.RedisError.TheVariants.{OutOfMemory}
+use Rattle.resp_value.specs.declared.errors.redis_error.RedisError.TheVariants.{General, OutOfMemory}
 use Rattle.resp_value.specs.declared.errors.kinds.ErrorKind.TheVariants.{Client}
 use Rattle.resp_value.specs.Errors.{kind_of}
 use Rattle.resp_args.specs.declared.args.NumericBehavior.{NumericBehavior}
@@ -25,9 +25,9 @@ extended [] bytes = []
 extended (arg ∷ []) bytes = (arg ++ bytes) ∷ []
 extended (arg ∷ next ∷ args) bytes = arg ∷ extended (next ∷ args) bytes
 
--- old is in front of new
-abbrev pub IsFront : Args → Args → Type 0
-IsFront old new = (more : Args) × (new ≡ old ++ more)
+-- old begins new
+abbrev pub IsPrefix : Args → Args → Type 0
+IsPrefix old new = (more : Args) × (new ≡ old ++ more)
 
 -- new is old and then some arguments that a value gives
 abbrev pub Appends : (Args → Type 0) → Args → Args → Type 0
@@ -38,10 +38,10 @@ abbrev pub IsRefusal : Type 0 → RedisError → Type 0
 IsRefusal Refused e = (e ≡ OutOfMemory) ⊎ ((kind_of e ≡ Client) × Refused)
 
 -- what writing a value leaves and answers: at Ok, arguments that it gives were appended, and it is none that is
--- refused; at Err, the old arguments stand in front
+-- refused; at Err, the old arguments come first
 abbrev pub Writes : (Args → Type 0) → Type 0 → Args → Args → Result (Unit {0}) RedisError → Type 0
 Writes Gives Refused old new (Ok _) = Appends Gives old new × (Refused → ⊥)
-Writes Gives Refused old new (Err e) = IsFront old new × IsRefusal Refused e
+Writes Gives Refused old new (Err e) = IsPrefix old new × IsRefusal Refused e
 
 -- just this argument
 abbrev pub IsOnly : List ℕ → Args → Type 0
@@ -65,24 +65,33 @@ is_single count [] = false
 is_single count (item ∷ []) = nat_le (count item) 1
 is_single count (item ∷ next ∷ items) = false
 
--- how slices of a type are written: which arguments one gives, whether it is refused, and whether it counts as a
--- single argument
+-- a rule for slices of a type: which arguments one gives, whether it is refused, and whether it counts as a single
+-- argument
 pub record SliceRule (X : Type 0) : Type 1 where
   pub Gives : List X → Args → Type 0
   pub Refuses : List X → Type 0
   pub is_single : List X → Bool
 
--- a slice is written item by item
-abbrev pub item_by_item : {X : Type 0} → (X → Args → Type 0) → (X → Type 0) → (X → ℕ) → SliceRule X
-item_by_item Gives Refuses count = record { Gives = GivesEach Gives; Refuses = Any Refuses; is_single = is_single count }
-
--- a slice is written item by item, and each item gives one argument, of these bytes
-abbrev pub one_each : {X : Type 0} → (X → List ℕ) → SliceRule X
-one_each bytes = item_by_item (GivesOne bytes) Never (λ _. 1)
-
 -- a slice of bytes is one argument, even an empty one
 abbrev pub bytes_as_one : SliceRule ℕ
 bytes_as_one = record { Gives = IsOnly; Refuses = Never; is_single = λ _. true }
+
+-- how slices of a type are written: item by item, or by a rule of their own
+pub data Slices (X : Type 0) : Type 1 where
+  by_item : Slices X
+  by_rule : SliceRule X → Slices X
+
+abbrev pub GivesSlice : {X : Type 0} → Slices X → (X → Args → Type 0) → List X → Args → Type 0
+GivesSlice by_item Gives items = GivesEach Gives items
+GivesSlice (by_rule rule) Gives items = rule.Gives items
+
+abbrev pub RefusesSlice : {X : Type 0} → Slices X → (X → Type 0) → List X → Type 0
+RefusesSlice by_item Refuses items = Any Refuses items
+RefusesSlice (by_rule rule) Refuses items = rule.Refuses items
+
+abbrev pub is_single_slice : {X : Type 0} → Slices X → (X → ℕ) → List X → Bool
+is_single_slice by_item count items = is_single count items
+is_single_slice (by_rule rule) count items = rule.is_single items
 
 -- how many arguments a slice counts for: one where it counts as a single argument, as many as its item where it has
 -- one, and else its length
@@ -91,8 +100,8 @@ count_of_items count [] = 0
 count_of_items count (item ∷ []) = count item
 count_of_items count (item ∷ next ∷ items) = length items + 2
 
-abbrev pub count_of_slice : {X : Type 0} → SliceRule X → (X → ℕ) → List X → ℕ
-count_of_slice rule count items = if rule.is_single items then 1 else count_of_items count items
+abbrev pub count_of_slice : {X : Type 0} → Slices X → (X → ℕ) → List X → ℕ
+count_of_slice slices count items = if is_single_slice slices count items then 1 else count_of_items count items
 
 -- an optional value gives nothing, or what its item gives
 abbrev pub GivesOption : {X : Type 0} → (X → Args → Type 0) → Option X → Args → Type 0
@@ -124,11 +133,61 @@ GivesBoth First Second args = (a b : Args) × First a × Second b × (args ≡ a
 abbrev pub GivesPair : {K V : Type 0} → (K → Args → Type 0) → (V → Args → Type 0) → K × V → Args → Type 0
 GivesPair GivesKey GivesValue pair = GivesBoth (GivesKey pair.0) (GivesValue pair.1)
 
--- a pair of a map can't be written: its key or its value counts for more than one argument, or is itself refused
+-- a pair's key or value counts for more than one argument
+abbrev pub IsWide : {K V : Type 0} → (K → ℕ) → (V → ℕ) → K × V → Type 0
+IsWide count_key count_value pair = (1 < count_key pair.0) ⊎ (1 < count_value pair.1)
+
+-- a pair's key or value is itself refused
+abbrev pub RefusesPart : {K V : Type 0} → (K → Type 0) → (V → Type 0) → K × V → Type 0
+RefusesPart RefusesKey RefusesValue pair = RefusesKey pair.0 ⊎ RefusesValue pair.1
+
+-- a pair of a map can't be written
 abbrev pub RefusesPair : {K V : Type 0} → (K → ℕ) → (V → ℕ) → (K → Type 0) → (V → Type 0) → K × V → Type 0
 RefusesPair count_key count_value RefusesKey RefusesValue pair =
-    (1 < count_key pair.0) ⊎ ((1 < count_value pair.1) ⊎ (RefusesKey pair.0 ⊎ RefusesValue pair.1))
+    IsWide count_key count_value pair ⊎ RefusesPart RefusesKey RefusesValue pair
+
+-- it holds of the items in some order
+abbrev pub InSomeOrder : {X : Type 0} → List X → (List X → Type 0) → Type 0
+InSomeOrder {X = X} items P = (order : List X) × IsPermutation items order × P order
 
 -- what the items give, in some order
 abbrev pub GivesInSomeOrder : {X : Type 0} → (X → Args → Type 0) → List X → Args → Type 0
-GivesInSomeOrder {X = X} Gives items args = (order : List X) × IsPermutation items order × GivesEach Gives order args
+GivesInSomeOrder Gives items args = InSomeOrder items (λ order. GivesEach Gives order args)
+
+-- an error is `OutOfMemory`, or is such a refusal
+abbrev pub IfRefused : Result (Unit {0}) RedisError → (RedisError → Type 0) → Type 0
+IfRefused result P = IfErr result (λ e. (e ≡ OutOfMemory) ⊎ P e)
+
+-- a wide pair is refused, and nothing of it is written
+pub record RefusedAsWide (Wide : Type 0) (old new : Args) (e : RedisError) : Type 0 where
+  pub wide : Wide
+  pub error : e ≡ General Client (codes "map key or value is more than one argument") None
+  pub unchanged : new ≡ old
+
+-- a pair that is not wide is refused since its key or value is, and the old arguments come first
+pub record RefusedWithin (Wide Refuses : Type 0) (old new : Args) (e : RedisError) : Type 0 where
+  pub narrow : Wide → ⊥
+  pub refuses : Refuses
+  pub client : kind_of e ≡ Client
+  pub prefix : IsPrefix old new
+
+-- how a pair of a map is refused
+abbrev pub RefusedPair : Type 0 → Type 0 → Args → Args → RedisError → Type 0
+RefusedPair Wide Refuses old new e = RefusedAsWide Wide old new e ⊎ RefusedWithin Wide Refuses old new e
+
+-- pairs are refused at one of them: those before it are none that is refused and were written whole
+pub record RefusedAt {X : Type 0} (Gives : X → Args → Type 0) (Wide Refuses : X → Type 0) (pairs : List X)
+    (old new : Args) (e : RedisError) : Type 0 where
+  pub before : List X
+  pub pair : X
+  pub after : List X
+  pub in_order : pairs ≡ before ++ pair ∷ after
+  pub taken : Any (λ p. Wide p ⊎ Refuses p) before → ⊥
+  pub reached : Args
+  pub whole : Appends (GivesEach Gives before) old reached
+  pub refused : RefusedPair (Wide pair) (Refuses pair) reached new e
+
+-- pairs are refused at one of them, in some order
+abbrev pub RefusedInSomeOrder : {X : Type 0} → (X → Args → Type 0) → (X → Type 0) → (X → Type 0) → List X
+    → Args → Args → RedisError → Type 0
+RefusedInSomeOrder Gives Wide Refuses pairs old new e = InSomeOrder pairs (λ order. RefusedAt Gives Wide Refuses order old new e)

@@ -3,7 +3,7 @@ use Rattle.std.specs.Prelude.{◌≡◌, ℕ, ◌==◌, ◌&&◌, Bool, List, []
 use Rattle.std.specs.Char.{is_ascii_hexdigit}
 use Rattle.std.specs.Fmt.{decimal}
 use Rattle.std.specs.List.{list_all}
-use Rattle.resp_args.specs.Args.{Args, SliceRule, item_by_item, Never}
+use Rattle.resp_args.specs.Args.{Args}
 use Rattle.resp_args.specs.declared.options.SetExpiry.{SetExpiry}
 use Rattle.resp_args.specs.declared.options.SetExpiry.TheVariants as set
 use Rattle.resp_args.specs.declared.options.ExistenceCheck.{ExistenceCheck}
@@ -42,10 +42,6 @@ args_of_expire_option expire.LT = codes "LT" ∷ []
 -- an option gives these arguments
 abbrev pub GivesOf : {X : Type 0} → (X → Args) → X → Args → Type 0
 GivesOf args_of x args = args ≡ args_of x
-
--- a slice of options is written option by option, and each counts for one
-abbrev pub options : {X : Type 0} → (X → Args) → SliceRule X
-options args_of = item_by_item (GivesOf args_of) Never (λ _. 1)
 
 -- sixteen hexadecimal digits
 abbrev pub is_digest : List ℕ → Bool

@@ -52,7 +52,7 @@ impl ArgList {
         self.args.as_slice()
     }
 
-    /// The bytes of the argument at this index, if there are so many.
+    /// The bytes of the argument at this index, if there is one.
     pub fn get(&self, index: usize) -> Option<&[u8]>
         ensures { option_copied result ≡ slice_get self.now index }
     {

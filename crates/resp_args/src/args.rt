@@ -2,7 +2,9 @@
 
 ghost use Rattle.std.specs.Prelude.{◌≡◌, ℕ, Bool, List, IfOk, IfErr};
 ghost use Rattle.std.specs.List.{Any};
-ghost use Rattle.resp_args.specs.Args.{Args, args_of, Writes, IsRefusal, Never, GivesEach, SliceRule};
+ghost use Rattle.resp_args.specs.Args.{Args, args_of, Writes, IsRefusal, Never, GivesEach};
+ghost use Rattle.resp_args.specs.Args.{GivesSlice, RefusesSlice, is_single_slice, Slices};
+ghost use Rattle.resp_args.specs.Args.Slices.{by_item};
 ghost use Rattle.resp_args.specs.declared.args.NumericBehavior.{NumericBehavior};
 ghost use Rattle.resp_args.specs.declared.args.NumericBehavior.TheVariants.{NonNumeric};
 
@@ -22,6 +24,48 @@ pub enum NumericBehavior {
 }
 
 /// A value that can be written as arguments of a command.
+///
+/// An own type says in a line which arguments a value gives, and has five short functions. The
+/// other ghost members have defaults: no value is refused, each counts for one argument and is no
+/// number, and a slice is written item by item.
+///
+/// ```text
+/// impl ToRedisArgs for Point {
+///     ghost gives = { λ p args. args ≡ signed_decimal p.x ∷ signed_decimal p.y ∷ [] };
+///
+///     ghost count = { λ _. 2 };
+///
+///     fn write_redis_args<W: RedisWrite>(&self, out: &mut W) -> RedisResult<()> {
+///         (&self.x, &self.y).write_redis_args(out)
+///     }
+///
+///     fn write_args_from_slice<W: RedisWrite>(items: &[Self], out: &mut W) -> RedisResult<()> {
+///         Self::write_each_arg(items, out)
+///     }
+///
+///     fn num_of_args(&self) -> usize {
+///         2
+///     }
+///
+///     fn describe_numeric_behavior(&self) -> NumericBehavior {
+///         NumericBehavior::NonNumeric
+///     }
+///
+///     fn is_single_vec_arg(_items: &[Self]) -> bool {
+///         false
+///     }
+/// }
+/// ```
+///
+/// Fields may also be written one after another, or as a slice; a tuple of them takes references. A
+/// type that is written as another one says so by that one's members, and where that one can be
+/// refused, it says this too:
+///
+/// ```text
+/// ghost gives = { λ f. ⟦<BTreeMap<String, i64> as ToRedisArgs>⟧.gives f.pairs };
+///
+/// ghost refuses = { λ f. ⟦<BTreeMap<String, i64> as ToRedisArgs>⟧.refuses f.pairs };
+/// ```
 pub trait ToRedisArgs: Sized {
     /// Which arguments a value gives.
     ghost gives: { Self → Args → Type 0 };
@@ -35,19 +79,21 @@ pub trait ToRedisArgs: Sized {
     /// What `describe_numeric_behavior` answers.
     ghost behaviour: { Self → NumericBehavior } = { λ _. NonNumeric };
 
-    /// How slices of values are written.
-    ghost slices: { SliceRule Self };
+    /// How slices of values are written: item by item, unless the type has a rule of its own.
+    ghost slices: { Slices Self } = { by_item };
 
     /// Appends the value's arguments. Fails with kind `Client` for a value that can't be written,
-    /// and else only for want of memory; the old arguments then stand in front.
+    /// and else only with `OutOfMemory`; the old arguments then come first.
     fn write_redis_args<W: RedisWrite>(&self, out: &mut W) -> RedisResult<()>
-        ensures written { Writes (gives self.now) (refuses self.now) (W.args out.old) (W.args out.new) result };
+        ensures written { Writes (gives self.now) (refuses self.now) (W.args out.old)
+            (W.args out.new) result };
 
     /// Appends the arguments of a slice of values: item by item, by `write_each_arg`, unless the
     /// type has a rule of its own, as `u8`, whose slices are one argument. Fails as
     /// `write_redis_args` does.
     fn write_args_from_slice<W: RedisWrite>(items: &[Self], out: &mut W) -> RedisResult<()>
-        ensures written { Writes (slices.Gives items.now) (slices.Refuses items.now) (W.args out.old) (W.args out.new) result };
+        ensures written { Writes (GivesSlice slices gives items.now)
+            (RefusesSlice slices refuses items.now) (W.args out.old) (W.args out.new) result };
 
     /// How many arguments the value counts for, which need not be as many as it writes.
     fn num_of_args(&self) -> usize
@@ -59,12 +105,13 @@ pub trait ToRedisArgs: Sized {
 
     /// Whether a slice of values counts as a single argument.
     fn is_single_vec_arg(items: &[Self]) -> bool
-        ensures { result ≡ slices.is_single items.now };
+        ensures { result ≡ is_single_slice slices count items.now };
 
     /// Appends the arguments of each item, in order. Fails as `write_redis_args` does, at the
     /// first item that fails.
     fn write_each_arg<W: RedisWrite>(items: &[Self], out: &mut W) -> RedisResult<()>
-        ensures written { Writes (GivesEach gives items.now) (Any refuses items.now) (W.args out.old) (W.args out.new) result }
+        ensures written { Writes (GivesEach gives items.now) (Any refuses items.now)
+            (W.args out.old) (W.args out.new) result }
     {
         for item in items {
             item.write_redis_args(out)?;
@@ -73,9 +120,10 @@ pub trait ToRedisArgs: Sized {
     }
 
     /// The value's arguments. Fails with kind `Client` for a value that can't be written, and else
-    /// only for want of memory.
+    /// only with `OutOfMemory`.
     final fn to_redis_args(&self, alloc: Global) -> RedisResult<Vec<Vec<u8>>>
-        ensures given { IfOk result (λ args. gives self.now (args_of args.items) × (refuses self.now → ⊥)) }
+        ensures given { IfOk result (λ args. gives self.now (args_of args.items)
+            × (refuses self.now → ⊥)) }
         ensures refused { IfErr result (IsRefusal (refuses self.now)) }
     {
         let mut args = Vec::new(alloc);
@@ -87,7 +135,8 @@ pub trait ToRedisArgs: Sized {
 /// Appends the arguments of each item, in order: what `write_args_from_slice` of an ordinary type
 /// is. Fails as `write_redis_args` does, at the first item that fails.
 pub fn write_each_arg<T: ToRedisArgs, W: RedisWrite>(items: &[T], out: &mut W) -> RedisResult<()>
-    ensures written { Writes (GivesEach T.gives items.now) (Any T.refuses items.now) (W.args out.old) (W.args out.new) result }
+    ensures written { Writes (GivesEach T.gives items.now) (Any T.refuses items.now)
+        (W.args out.old) (W.args out.new) result }
 {
     T::write_each_arg(items, out)
 }

@@ -3,7 +3,9 @@
 ghost use Rattle.std.specs.Prelude.{◌≡◌, ◌↔◌, IsTrue};
 ghost use Rattle.std.specs.Char.{is_ascii_hexdigit};
 ghost use Rattle.std.specs.List.{list_all};
-ghost use Rattle.resp_args.specs.Options.{GivesOf, options, args_of_set_expiry, args_of_existence_check, args_of_field_existence_check, args_of_expire_option, is_digest};
+ghost use Rattle.resp_args.specs.Options.{GivesOf, args_of_set_expiry, args_of_existence_check};
+ghost use Rattle.resp_args.specs.Options.{args_of_field_existence_check, args_of_expire_option};
+ghost use Rattle.resp_args.specs.Options.{is_digest};
 ghost use Rattle.resp_args.specs.declared.options.ProtocolVersion.TheVariants as version;
 
 use crate::args::{NumericBehavior, ToRedisArgs};
@@ -15,9 +17,9 @@ use resp_value::RedisResult;
 /// Each command says for itself how it is written.
 #[derive(Clone, Drop)]
 pub enum Expiry {
-    /// In so many seconds.
+    /// In this many seconds.
     EX(u64),
-    /// In so many milliseconds.
+    /// In this many milliseconds.
     PX(u64),
     /// At this Unix time, in seconds.
     EXAT(u64),
@@ -30,9 +32,9 @@ pub enum Expiry {
 /// When a key expires that is set: the name of the case and its number, or `KEEPTTL`.
 #[derive(Clone, Copy)]
 pub enum SetExpiry {
-    /// In so many seconds.
+    /// In this many seconds.
     EX(u64),
-    /// In so many milliseconds.
+    /// In this many milliseconds.
     PX(u64),
     /// At this Unix time, in seconds.
     EXAT(u64),
@@ -118,8 +120,6 @@ fn is_hexadecimal(text: &[u8]) -> bool
 impl ToRedisArgs for SetExpiry {
     ghost gives = { GivesOf args_of_set_expiry };
 
-    ghost slices = { options args_of_set_expiry };
-
     fn write_redis_args<W: RedisWrite>(&self, out: &mut W) -> RedisResult<()> {
         match self {
             SetExpiry::EX(seconds) => ("EX", *seconds).write_redis_args(out),
@@ -150,8 +150,6 @@ impl ToRedisArgs for SetExpiry {
 impl ToRedisArgs for ExistenceCheck {
     ghost gives = { GivesOf args_of_existence_check };
 
-    ghost slices = { options args_of_existence_check };
-
     fn write_redis_args<W: RedisWrite>(&self, out: &mut W) -> RedisResult<()> {
         match self {
             ExistenceCheck::NX => out.write_arg(b"NX"),
@@ -179,8 +177,6 @@ impl ToRedisArgs for ExistenceCheck {
 impl ToRedisArgs for FieldExistenceCheck {
     ghost gives = { GivesOf args_of_field_existence_check };
 
-    ghost slices = { options args_of_field_existence_check };
-
     fn write_redis_args<W: RedisWrite>(&self, out: &mut W) -> RedisResult<()> {
         match self {
             FieldExistenceCheck::FNX => out.write_arg(b"FNX"),
@@ -207,8 +203,6 @@ impl ToRedisArgs for FieldExistenceCheck {
 
 impl ToRedisArgs for ExpireOption {
     ghost gives = { GivesOf args_of_expire_option };
-
-    ghost slices = { options args_of_expire_option };
 
     fn write_redis_args<W: RedisWrite>(&self, out: &mut W) -> RedisResult<()> {
         match self {

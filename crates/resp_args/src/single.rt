@@ -11,7 +11,7 @@ use std::rc::{Rc, RcSlice};
 /// A value that gives exactly one argument, as a key.
 ///
 /// Every implementation proves that it appends exactly one argument, counts for one, and is refused
-/// only for want of memory.
+/// only with `OutOfMemory`.
 pub trait ToSingleRedisArg: ToRedisArgs {
     /// It is always one argument.
     ghost single: { IsSingle Self.gives Self.refuses Self.count };

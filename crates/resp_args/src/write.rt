@@ -14,21 +14,21 @@ pub trait RedisWrite {
     /// The arguments so far.
     ghost args: { Self → Args };
 
-    /// Appends one argument of these bytes. Fails only for want of memory, and then leaves the
+    /// Appends one argument of these bytes. Fails only with `OutOfMemory`, and then leaves the
     /// arguments as they were.
     fn write_arg(&mut self, arg: &[u8]) -> RedisResult<()>
         ensures ok { OnOk result (args self.new ≡ args self.old ++ arg.now ∷ []) }
         ensures err { OnErr result (args self.new ≡ args self.old) }
         ensures memory { OnlyMemory result };
 
-    /// Appends an empty argument. Fails only for want of memory, and then leaves the arguments as
+    /// Appends an empty argument. Fails only with `OutOfMemory`, and then leaves the arguments as
     /// they were.
     fn open_arg(&mut self) -> RedisResult<()>
         ensures ok { OnOk result (args self.new ≡ args self.old ++ [] ∷ []) }
         ensures err { OnErr result (args self.new ≡ args self.old) }
         ensures memory { OnlyMemory result };
 
-    /// Appends bytes to the last argument, which has to be there. Fails only for want of memory,
+    /// Appends bytes to the last argument, which has to be there. Fails only with `OutOfMemory`,
     /// and then leaves the arguments as they were.
     fn extend_arg(&mut self, more: &[u8]) -> RedisResult<()>
         requires { 0 < length (args self.old) }

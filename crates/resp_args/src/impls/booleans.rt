@@ -1,6 +1,6 @@
 //! A truth value is written as a digit.
 
-ghost use Rattle.resp_args.specs.Args.{GivesOne, digit_of, one_each};
+ghost use Rattle.resp_args.specs.Args.{GivesOne, digit_of};
 
 use crate::args::{NumericBehavior, ToRedisArgs};
 use crate::write::RedisWrite;
@@ -8,8 +8,6 @@ use resp_value::RedisResult;
 
 impl ToRedisArgs for bool {
     ghost gives = { GivesOne digit_of };
-
-    ghost slices = { one_each digit_of };
 
     fn write_redis_args<W: RedisWrite>(&self, out: &mut W) -> RedisResult<()> {
         out.write_arg(if *self { b"1" } else { b"0" })

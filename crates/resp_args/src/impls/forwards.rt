@@ -1,6 +1,7 @@
 //! Optional values, references and owners are written as what they hold.
 
-ghost use Rattle.resp_args.specs.Args.{item_by_item, GivesOption, RefusesOption, count_of_option, behaviour_of_option};
+ghost use Rattle.resp_args.specs.Args.{GivesOption, RefusesOption, count_of_option};
+ghost use Rattle.resp_args.specs.Args.{behaviour_of_option};
 
 use crate::args::{NumericBehavior, ToRedisArgs};
 use crate::write::RedisWrite;
@@ -16,8 +17,6 @@ impl<T: ToRedisArgs> ToRedisArgs for Option<T> {
     ghost count = { count_of_option T.count };
 
     ghost behaviour = { behaviour_of_option T.behaviour };
-
-    ghost slices = { item_by_item (GivesOption T.gives) (RefusesOption T.refuses) (count_of_option T.count) };
 
     fn write_redis_args<W: RedisWrite>(&self, out: &mut W) -> RedisResult<()> {
         match self {
@@ -61,8 +60,6 @@ impl<T: ToRedisArgs> ToRedisArgs for &T {
 
     ghost behaviour = { λ x. T.behaviour x.now };
 
-    ghost slices = { item_by_item (λ x. T.gives x.now) (λ x. T.refuses x.now) (λ x. T.count x.now) };
-
     fn write_redis_args<W: RedisWrite>(&self, out: &mut W) -> RedisResult<()> {
         (**self).write_redis_args(out)
     }
@@ -95,8 +92,6 @@ impl<T: ToRedisArgs> ToRedisArgs for &mut T {
     ghost count = { λ x. T.count x.now };
 
     ghost behaviour = { λ x. T.behaviour x.now };
-
-    ghost slices = { item_by_item (λ x. T.gives x.now) (λ x. T.refuses x.now) (λ x. T.count x.now) };
 
     fn write_redis_args<W: RedisWrite>(&self, out: &mut W) -> RedisResult<()> {
         (**self).write_redis_args(out)
@@ -131,8 +126,6 @@ impl<T: ToRedisArgs> ToRedisArgs for Box<T> {
 
     ghost behaviour = { λ x. T.behaviour x.value };
 
-    ghost slices = { item_by_item (λ x. T.gives x.value) (λ x. T.refuses x.value) (λ x. T.count x.value) };
-
     fn write_redis_args<W: RedisWrite>(&self, out: &mut W) -> RedisResult<()> {
         (**self).write_redis_args(out)
     }
@@ -165,8 +158,6 @@ impl<T: ToRedisArgs> ToRedisArgs for Rc<T> {
     ghost count = { λ x. T.count x.value };
 
     ghost behaviour = { λ x. T.behaviour x.value };
-
-    ghost slices = { item_by_item (λ x. T.gives x.value) (λ x. T.refuses x.value) (λ x. T.count x.value) };
 
     fn write_redis_args<W: RedisWrite>(&self, out: &mut W) -> RedisResult<()> {
         (**self).write_redis_args(out)

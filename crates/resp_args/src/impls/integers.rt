@@ -2,7 +2,8 @@
 
 ghost use Rattle.std.specs.Prelude.{◌≡◌, [], ◌∷◌, ◌++◌, OnOk, OnErr};
 ghost use Rattle.std.specs.Fmt.{decimal, signed_decimal};
-ghost use Rattle.resp_args.specs.Args.{GivesOne, one_each, bytes_as_one};
+ghost use Rattle.resp_args.specs.Args.{GivesOne, bytes_as_one};
+ghost use Rattle.resp_args.specs.Args.Slices.{by_rule};
 ghost use Rattle.resp_args.specs.declared.args.NumericBehavior.TheVariants.{NumberIsInteger};
 ghost use Rattle.resp_value.specs.Memory.{OnlyMemory};
 
@@ -25,8 +26,6 @@ impl ToRedisArgs for i8 {
     ghost gives = { GivesOne signed_decimal };
 
     ghost behaviour = { λ _. NumberIsInteger };
-
-    ghost slices = { one_each signed_decimal };
 
     fn write_redis_args<W: RedisWrite>(&self, out: &mut W) -> RedisResult<()> {
         write_decimal(*self, out)
@@ -54,8 +53,6 @@ impl ToRedisArgs for i16 {
 
     ghost behaviour = { λ _. NumberIsInteger };
 
-    ghost slices = { one_each signed_decimal };
-
     fn write_redis_args<W: RedisWrite>(&self, out: &mut W) -> RedisResult<()> {
         write_decimal(*self, out)
     }
@@ -81,8 +78,6 @@ impl ToRedisArgs for i32 {
     ghost gives = { GivesOne signed_decimal };
 
     ghost behaviour = { λ _. NumberIsInteger };
-
-    ghost slices = { one_each signed_decimal };
 
     fn write_redis_args<W: RedisWrite>(&self, out: &mut W) -> RedisResult<()> {
         write_decimal(*self, out)
@@ -110,8 +105,6 @@ impl ToRedisArgs for i64 {
 
     ghost behaviour = { λ _. NumberIsInteger };
 
-    ghost slices = { one_each signed_decimal };
-
     fn write_redis_args<W: RedisWrite>(&self, out: &mut W) -> RedisResult<()> {
         write_decimal(*self, out)
     }
@@ -137,8 +130,6 @@ impl ToRedisArgs for i128 {
     ghost gives = { GivesOne signed_decimal };
 
     ghost behaviour = { λ _. NumberIsInteger };
-
-    ghost slices = { one_each signed_decimal };
 
     fn write_redis_args<W: RedisWrite>(&self, out: &mut W) -> RedisResult<()> {
         write_decimal(*self, out)
@@ -166,8 +157,6 @@ impl ToRedisArgs for isize {
 
     ghost behaviour = { λ _. NumberIsInteger };
 
-    ghost slices = { one_each signed_decimal };
-
     fn write_redis_args<W: RedisWrite>(&self, out: &mut W) -> RedisResult<()> {
         write_decimal(*self, out)
     }
@@ -193,7 +182,7 @@ impl ToRedisArgs for isize {
 impl ToRedisArgs for u8 {
     ghost gives = { GivesOne decimal };
 
-    ghost slices = { bytes_as_one };
+    ghost slices = { by_rule bytes_as_one };
 
     fn write_redis_args<W: RedisWrite>(&self, out: &mut W) -> RedisResult<()> {
         write_decimal(*self, out)
@@ -221,8 +210,6 @@ impl ToRedisArgs for u16 {
 
     ghost behaviour = { λ _. NumberIsInteger };
 
-    ghost slices = { one_each decimal };
-
     fn write_redis_args<W: RedisWrite>(&self, out: &mut W) -> RedisResult<()> {
         write_decimal(*self, out)
     }
@@ -248,8 +235,6 @@ impl ToRedisArgs for u32 {
     ghost gives = { GivesOne decimal };
 
     ghost behaviour = { λ _. NumberIsInteger };
-
-    ghost slices = { one_each decimal };
 
     fn write_redis_args<W: RedisWrite>(&self, out: &mut W) -> RedisResult<()> {
         write_decimal(*self, out)
@@ -277,8 +262,6 @@ impl ToRedisArgs for u64 {
 
     ghost behaviour = { λ _. NumberIsInteger };
 
-    ghost slices = { one_each decimal };
-
     fn write_redis_args<W: RedisWrite>(&self, out: &mut W) -> RedisResult<()> {
         write_decimal(*self, out)
     }
@@ -305,8 +288,6 @@ impl ToRedisArgs for u128 {
 
     ghost behaviour = { λ _. NumberIsInteger };
 
-    ghost slices = { one_each decimal };
-
     fn write_redis_args<W: RedisWrite>(&self, out: &mut W) -> RedisResult<()> {
         write_decimal(*self, out)
     }
@@ -332,8 +313,6 @@ impl ToRedisArgs for usize {
     ghost gives = { GivesOne decimal };
 
     ghost behaviour = { λ _. NumberIsInteger };
-
-    ghost slices = { one_each decimal };
 
     fn write_redis_args<W: RedisWrite>(&self, out: &mut W) -> RedisResult<()> {
         write_decimal(*self, out)

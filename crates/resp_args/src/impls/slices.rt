@@ -1,7 +1,7 @@
 //! Slices, arrays and vectors are written as their items, those of bytes as one argument.
 
 ghost use Rattle.std.specs.Prelude.{◌≡◌};
-ghost use Rattle.resp_args.specs.Args.{item_by_item, count_of_slice, GivesOne, one_each};
+ghost use Rattle.resp_args.specs.Args.{GivesSlice, RefusesSlice, count_of_slice, GivesOne};
 
 use crate::args::{NumericBehavior, ToRedisArgs};
 use crate::write::RedisWrite;
@@ -25,13 +25,11 @@ fn num_of_slice_args<T: ToRedisArgs>(items: &[T]) -> usize
 }
 
 impl<T: ToRedisArgs> ToRedisArgs for &[T] {
-    ghost gives = { λ s. T.slices.Gives s.now };
+    ghost gives = { λ s. GivesSlice T.slices T.gives s.now };
 
-    ghost refuses = { λ s. T.slices.Refuses s.now };
+    ghost refuses = { λ s. RefusesSlice T.slices T.refuses s.now };
 
     ghost count = { λ s. count_of_slice T.slices T.count s.now };
-
-    ghost slices = { item_by_item (λ s. T.slices.Gives s.now) (λ s. T.slices.Refuses s.now) (λ s. count_of_slice T.slices T.count s.now) };
 
     fn write_redis_args<W: RedisWrite>(&self, out: &mut W) -> RedisResult<()> {
         T::write_args_from_slice(self, out)
@@ -58,13 +56,11 @@ impl<T: ToRedisArgs> ToRedisArgs for &[T] {
 }
 
 impl<T: ToRedisArgs> ToRedisArgs for &mut [T] {
-    ghost gives = { λ s. T.slices.Gives s.now };
+    ghost gives = { λ s. GivesSlice T.slices T.gives s.now };
 
-    ghost refuses = { λ s. T.slices.Refuses s.now };
+    ghost refuses = { λ s. RefusesSlice T.slices T.refuses s.now };
 
     ghost count = { λ s. count_of_slice T.slices T.count s.now };
-
-    ghost slices = { item_by_item (λ s. T.slices.Gives s.now) (λ s. T.slices.Refuses s.now) (λ s. count_of_slice T.slices T.count s.now) };
 
     fn write_redis_args<W: RedisWrite>(&self, out: &mut W) -> RedisResult<()> {
         T::write_args_from_slice(self, out)
@@ -91,13 +87,11 @@ impl<T: ToRedisArgs> ToRedisArgs for &mut [T] {
 }
 
 impl<T: ToRedisArgs, const N: usize> ToRedisArgs for &[T; N] {
-    ghost gives = { λ s. T.slices.Gives s.now };
+    ghost gives = { λ s. GivesSlice T.slices T.gives s.now };
 
-    ghost refuses = { λ s. T.slices.Refuses s.now };
+    ghost refuses = { λ s. RefusesSlice T.slices T.refuses s.now };
 
     ghost count = { λ s. count_of_slice T.slices T.count s.now };
-
-    ghost slices = { item_by_item (λ s. T.slices.Gives s.now) (λ s. T.slices.Refuses s.now) (λ s. count_of_slice T.slices T.count s.now) };
 
     fn write_redis_args<W: RedisWrite>(&self, out: &mut W) -> RedisResult<()> {
         T::write_args_from_slice(self.as_slice(), out)
@@ -124,13 +118,11 @@ impl<T: ToRedisArgs, const N: usize> ToRedisArgs for &[T; N] {
 }
 
 impl<T: ToRedisArgs> ToRedisArgs for Vec<T> {
-    ghost gives = { λ s. T.slices.Gives s.items };
+    ghost gives = { λ s. GivesSlice T.slices T.gives s.items };
 
-    ghost refuses = { λ s. T.slices.Refuses s.items };
+    ghost refuses = { λ s. RefusesSlice T.slices T.refuses s.items };
 
     ghost count = { λ s. count_of_slice T.slices T.count s.items };
-
-    ghost slices = { item_by_item (λ s. T.slices.Gives s.items) (λ s. T.slices.Refuses s.items) (λ s. count_of_slice T.slices T.count s.items) };
 
     fn write_redis_args<W: RedisWrite>(&self, out: &mut W) -> RedisResult<()> {
         T::write_args_from_slice(self.as_slice(), out)
@@ -159,13 +151,11 @@ impl<T: ToRedisArgs> ToRedisArgs for Vec<T> {
 impl<T: ToRedisArgs> ToRedisArgs for BoxedSlice<T> {
     ghost use Rattle.std.specs.Box.{boxed_slice_items};
 
-    ghost gives = { λ s. T.slices.Gives (boxed_slice_items s) };
+    ghost gives = { λ s. GivesSlice T.slices T.gives (boxed_slice_items s) };
 
-    ghost refuses = { λ s. T.slices.Refuses (boxed_slice_items s) };
+    ghost refuses = { λ s. RefusesSlice T.slices T.refuses (boxed_slice_items s) };
 
     ghost count = { λ s. count_of_slice T.slices T.count (boxed_slice_items s) };
-
-    ghost slices = { item_by_item (λ s. T.slices.Gives (boxed_slice_items s)) (λ s. T.slices.Refuses (boxed_slice_items s)) (λ s. count_of_slice T.slices T.count (boxed_slice_items s)) };
 
     fn write_redis_args<W: RedisWrite>(&self, out: &mut W) -> RedisResult<()> {
         T::write_args_from_slice(self.as_slice(), out)
@@ -194,13 +184,11 @@ impl<T: ToRedisArgs> ToRedisArgs for BoxedSlice<T> {
 impl<T: ToRedisArgs> ToRedisArgs for RcSlice<T> {
     ghost use Rattle.std.specs.Rc.{rc_slice_items};
 
-    ghost gives = { λ s. T.slices.Gives (rc_slice_items s) };
+    ghost gives = { λ s. GivesSlice T.slices T.gives (rc_slice_items s) };
 
-    ghost refuses = { λ s. T.slices.Refuses (rc_slice_items s) };
+    ghost refuses = { λ s. RefusesSlice T.slices T.refuses (rc_slice_items s) };
 
     ghost count = { λ s. count_of_slice T.slices T.count (rc_slice_items s) };
-
-    ghost slices = { item_by_item (λ s. T.slices.Gives (rc_slice_items s)) (λ s. T.slices.Refuses (rc_slice_items s)) (λ s. count_of_slice T.slices T.count (rc_slice_items s)) };
 
     fn write_redis_args<W: RedisWrite>(&self, out: &mut W) -> RedisResult<()> {
         T::write_args_from_slice(self.as_slice(), out)
@@ -230,8 +218,6 @@ impl ToRedisArgs for CowSlice<'_, u8> {
     ghost use Rattle.std.specs.Cow.{cow_slice_items};
 
     ghost gives = { GivesOne cow_slice_items };
-
-    ghost slices = { one_each cow_slice_items };
 
     fn write_redis_args<W: RedisWrite>(&self, out: &mut W) -> RedisResult<()> {
         out.write_arg(self.as_slice())

@@ -1,7 +1,7 @@
 //! Texts are written as their bytes.
 
 ghost use Rattle.std.specs.Prelude.{◌≡◌};
-ghost use Rattle.resp_args.specs.Args.{GivesOne, one_each};
+ghost use Rattle.resp_args.specs.Args.{GivesOne};
 
 use crate::args::{NumericBehavior, ToRedisArgs};
 use crate::write::RedisWrite;
@@ -10,8 +10,6 @@ use std::borrow::CowStr;
 
 impl ToRedisArgs for &str {
     ghost gives = { GivesOne (λ text. text.now) };
-
-    ghost slices = { one_each (λ text. text.now) };
 
     fn write_redis_args<W: RedisWrite>(&self, out: &mut W) -> RedisResult<()> {
         out.write_arg(self.as_bytes())
@@ -39,8 +37,6 @@ impl ToRedisArgs for String {
 
     ghost gives = { GivesOne string_bytes };
 
-    ghost slices = { one_each string_bytes };
-
     fn write_redis_args<W: RedisWrite>(&self, out: &mut W) -> RedisResult<()> {
         self.as_str().write_redis_args(out)
     }
@@ -66,8 +62,6 @@ impl ToRedisArgs for CowStr<'_> {
     ghost use Rattle.std.specs.Cow.{cow_str_bytes};
 
     ghost gives = { GivesOne cow_str_bytes };
-
-    ghost slices = { one_each cow_str_bytes };
 
     fn write_redis_args<W: RedisWrite>(&self, out: &mut W) -> RedisResult<()> {
         self.as_str().write_redis_args(out)

@@ -1,7 +1,7 @@
 //! Tuples are written as their parts, in order.
 
 ghost use Rattle.std.specs.Prelude.{◌≡◌, ◌⊎◌};
-ghost use Rattle.resp_args.specs.Args.{item_by_item, GivesBoth};
+ghost use Rattle.resp_args.specs.Args.{GivesBoth};
 
 use crate::args::{NumericBehavior, ToRedisArgs};
 use crate::write::RedisWrite;
@@ -11,8 +11,6 @@ impl<A: ToRedisArgs> ToRedisArgs for (A,) {
     ghost gives = { λ x. A.gives x.0 };
 
     ghost refuses = { λ x. A.refuses x.0 };
-
-    ghost slices = { item_by_item (λ x. A.gives x.0) (λ x. A.refuses x.0) (λ _. 1) };
 
     fn write_redis_args<W: RedisWrite>(&self, out: &mut W) -> RedisResult<()> {
         self.0.write_redis_args(out)
@@ -41,8 +39,6 @@ impl<A: ToRedisArgs, B: ToRedisArgs> ToRedisArgs for (A, B) {
     ghost refuses = { λ x. A.refuses x.0 ⊎ B.refuses x.1 };
 
     ghost count = { λ _. 2 };
-
-    ghost slices = { item_by_item (λ x. GivesBoth (A.gives x.0) (B.gives x.1)) (λ x. A.refuses x.0 ⊎ B.refuses x.1) (λ _. 2) };
 
     fn write_redis_args<W: RedisWrite>(&self, out: &mut W) -> RedisResult<()> {
         self.0.write_redis_args(out)?;
@@ -73,8 +69,6 @@ impl<A: ToRedisArgs, B: ToRedisArgs, C: ToRedisArgs> ToRedisArgs for (A, B, C) {
 
     ghost count = { λ _. 3 };
 
-    ghost slices = { item_by_item (λ x. GivesBoth (A.gives x.0) (GivesBoth (B.gives x.1) (C.gives x.2))) (λ x. A.refuses x.0 ⊎ (B.refuses x.1 ⊎ C.refuses x.2)) (λ _. 3) };
-
     fn write_redis_args<W: RedisWrite>(&self, out: &mut W) -> RedisResult<()> {
         self.0.write_redis_args(out)?;
         (&self.1, &self.2).write_redis_args(out)
@@ -98,13 +92,12 @@ impl<A: ToRedisArgs, B: ToRedisArgs, C: ToRedisArgs> ToRedisArgs for (A, B, C) {
 }
 
 impl<A: ToRedisArgs, B: ToRedisArgs, C: ToRedisArgs, D: ToRedisArgs> ToRedisArgs for (A, B, C, D) {
-    ghost gives = { λ x. GivesBoth (A.gives x.0) (GivesBoth (B.gives x.1) (GivesBoth (C.gives x.2) (D.gives x.3))) };
+    ghost gives = { λ x. GivesBoth (A.gives x.0)
+        (GivesBoth (B.gives x.1) (GivesBoth (C.gives x.2) (D.gives x.3))) };
 
     ghost refuses = { λ x. A.refuses x.0 ⊎ (B.refuses x.1 ⊎ (C.refuses x.2 ⊎ D.refuses x.3)) };
 
     ghost count = { λ _. 4 };
-
-    ghost slices = { item_by_item (λ x. GivesBoth (A.gives x.0) (GivesBoth (B.gives x.1) (GivesBoth (C.gives x.2) (D.gives x.3)))) (λ x. A.refuses x.0 ⊎ (B.refuses x.1 ⊎ (C.refuses x.2 ⊎ D.refuses x.3))) (λ _. 4) };
 
     fn write_redis_args<W: RedisWrite>(&self, out: &mut W) -> RedisResult<()> {
         self.0.write_redis_args(out)?;
@@ -130,13 +123,13 @@ impl<A: ToRedisArgs, B: ToRedisArgs, C: ToRedisArgs, D: ToRedisArgs> ToRedisArgs
 
 impl<A: ToRedisArgs, B: ToRedisArgs, C: ToRedisArgs, D: ToRedisArgs, E: ToRedisArgs> ToRedisArgs
     for (A, B, C, D, E) {
-    ghost gives = { λ x. GivesBoth (A.gives x.0) (GivesBoth (B.gives x.1) (GivesBoth (C.gives x.2) (GivesBoth (D.gives x.3) (E.gives x.4)))) };
+    ghost gives = { λ x. GivesBoth (A.gives x.0)
+        (GivesBoth (B.gives x.1) (GivesBoth (C.gives x.2) (GivesBoth (D.gives x.3) (E.gives x.4)))) };
 
-    ghost refuses = { λ x. A.refuses x.0 ⊎ (B.refuses x.1 ⊎ (C.refuses x.2 ⊎ (D.refuses x.3 ⊎ E.refuses x.4))) };
+    ghost refuses = { λ x. A.refuses x.0
+        ⊎ (B.refuses x.1 ⊎ (C.refuses x.2 ⊎ (D.refuses x.3 ⊎ E.refuses x.4))) };
 
     ghost count = { λ _. 5 };
-
-    ghost slices = { item_by_item (λ x. GivesBoth (A.gives x.0) (GivesBoth (B.gives x.1) (GivesBoth (C.gives x.2) (GivesBoth (D.gives x.3) (E.gives x.4))))) (λ x. A.refuses x.0 ⊎ (B.refuses x.1 ⊎ (C.refuses x.2 ⊎ (D.refuses x.3 ⊎ E.refuses x.4)))) (λ _. 5) };
 
     fn write_redis_args<W: RedisWrite>(&self, out: &mut W) -> RedisResult<()> {
         self.0.write_redis_args(out)?;
@@ -168,13 +161,14 @@ impl<
     E: ToRedisArgs,
     F: ToRedisArgs,
 > ToRedisArgs for (A, B, C, D, E, F) {
-    ghost gives = { λ x. GivesBoth (A.gives x.0) (GivesBoth (B.gives x.1) (GivesBoth (C.gives x.2) (GivesBoth (D.gives x.3) (GivesBoth (E.gives x.4) (F.gives x.5))))) };
+    ghost gives = { λ x. GivesBoth (A.gives x.0)
+        (GivesBoth (B.gives x.1) (GivesBoth (C.gives x.2)
+        (GivesBoth (D.gives x.3) (GivesBoth (E.gives x.4) (F.gives x.5))))) };
 
-    ghost refuses = { λ x. A.refuses x.0 ⊎ (B.refuses x.1 ⊎ (C.refuses x.2 ⊎ (D.refuses x.3 ⊎ (E.refuses x.4 ⊎ F.refuses x.5)))) };
+    ghost refuses = { λ x. A.refuses x.0
+        ⊎ (B.refuses x.1 ⊎ (C.refuses x.2 ⊎ (D.refuses x.3 ⊎ (E.refuses x.4 ⊎ F.refuses x.5)))) };
 
     ghost count = { λ _. 6 };
-
-    ghost slices = { item_by_item (λ x. GivesBoth (A.gives x.0) (GivesBoth (B.gives x.1) (GivesBoth (C.gives x.2) (GivesBoth (D.gives x.3) (GivesBoth (E.gives x.4) (F.gives x.5)))))) (λ x. A.refuses x.0 ⊎ (B.refuses x.1 ⊎ (C.refuses x.2 ⊎ (D.refuses x.3 ⊎ (E.refuses x.4 ⊎ F.refuses x.5))))) (λ _. 6) };
 
     fn write_redis_args<W: RedisWrite>(&self, out: &mut W) -> RedisResult<()> {
         self.0.write_redis_args(out)?;
@@ -207,13 +201,16 @@ impl<
     F: ToRedisArgs,
     G: ToRedisArgs,
 > ToRedisArgs for (A, B, C, D, E, F, G) {
-    ghost gives = { λ x. GivesBoth (A.gives x.0) (GivesBoth (B.gives x.1) (GivesBoth (C.gives x.2) (GivesBoth (D.gives x.3) (GivesBoth (E.gives x.4) (GivesBoth (F.gives x.5) (G.gives x.6)))))) };
+    ghost gives = { λ x. GivesBoth (A.gives x.0)
+        (GivesBoth (B.gives x.1) (GivesBoth (C.gives x.2)
+        (GivesBoth (D.gives x.3) (GivesBoth (E.gives x.4)
+        (GivesBoth (F.gives x.5) (G.gives x.6)))))) };
 
-    ghost refuses = { λ x. A.refuses x.0 ⊎ (B.refuses x.1 ⊎ (C.refuses x.2 ⊎ (D.refuses x.3 ⊎ (E.refuses x.4 ⊎ (F.refuses x.5 ⊎ G.refuses x.6))))) };
+    ghost refuses = { λ x. A.refuses x.0
+        ⊎ (B.refuses x.1 ⊎ (C.refuses x.2 ⊎ (D.refuses x.3 ⊎
+        (E.refuses x.4 ⊎ (F.refuses x.5 ⊎ G.refuses x.6))))) };
 
     ghost count = { λ _. 7 };
-
-    ghost slices = { item_by_item (λ x. GivesBoth (A.gives x.0) (GivesBoth (B.gives x.1) (GivesBoth (C.gives x.2) (GivesBoth (D.gives x.3) (GivesBoth (E.gives x.4) (GivesBoth (F.gives x.5) (G.gives x.6))))))) (λ x. A.refuses x.0 ⊎ (B.refuses x.1 ⊎ (C.refuses x.2 ⊎ (D.refuses x.3 ⊎ (E.refuses x.4 ⊎ (F.refuses x.5 ⊎ G.refuses x.6)))))) (λ _. 7) };
 
     fn write_redis_args<W: RedisWrite>(&self, out: &mut W) -> RedisResult<()> {
         self.0.write_redis_args(out)?;
@@ -247,13 +244,16 @@ impl<
     G: ToRedisArgs,
     H: ToRedisArgs,
 > ToRedisArgs for (A, B, C, D, E, F, G, H) {
-    ghost gives = { λ x. GivesBoth (A.gives x.0) (GivesBoth (B.gives x.1) (GivesBoth (C.gives x.2) (GivesBoth (D.gives x.3) (GivesBoth (E.gives x.4) (GivesBoth (F.gives x.5) (GivesBoth (G.gives x.6) (H.gives x.7))))))) };
+    ghost gives = { λ x. GivesBoth (A.gives x.0)
+        (GivesBoth (B.gives x.1) (GivesBoth (C.gives x.2)
+        (GivesBoth (D.gives x.3) (GivesBoth (E.gives x.4)
+        (GivesBoth (F.gives x.5) (GivesBoth (G.gives x.6) (H.gives x.7))))))) };
 
-    ghost refuses = { λ x. A.refuses x.0 ⊎ (B.refuses x.1 ⊎ (C.refuses x.2 ⊎ (D.refuses x.3 ⊎ (E.refuses x.4 ⊎ (F.refuses x.5 ⊎ (G.refuses x.6 ⊎ H.refuses x.7)))))) };
+    ghost refuses = { λ x. A.refuses x.0
+        ⊎ (B.refuses x.1 ⊎ (C.refuses x.2 ⊎ (D.refuses x.3 ⊎
+        (E.refuses x.4 ⊎ (F.refuses x.5 ⊎ (G.refuses x.6 ⊎ H.refuses x.7)))))) };
 
     ghost count = { λ _. 8 };
-
-    ghost slices = { item_by_item (λ x. GivesBoth (A.gives x.0) (GivesBoth (B.gives x.1) (GivesBoth (C.gives x.2) (GivesBoth (D.gives x.3) (GivesBoth (E.gives x.4) (GivesBoth (F.gives x.5) (GivesBoth (G.gives x.6) (H.gives x.7)))))))) (λ x. A.refuses x.0 ⊎ (B.refuses x.1 ⊎ (C.refuses x.2 ⊎ (D.refuses x.3 ⊎ (E.refuses x.4 ⊎ (F.refuses x.5 ⊎ (G.refuses x.6 ⊎ H.refuses x.7))))))) (λ _. 8) };
 
     fn write_redis_args<W: RedisWrite>(&self, out: &mut W) -> RedisResult<()> {
         self.0.write_redis_args(out)?;
@@ -291,13 +291,17 @@ impl<
     H: ToRedisArgs,
     I: ToRedisArgs,
 > ToRedisArgs for (A, B, C, D, E, F, G, H, I) {
-    ghost gives = { λ x. GivesBoth (A.gives x.0) (GivesBoth (B.gives x.1) (GivesBoth (C.gives x.2) (GivesBoth (D.gives x.3) (GivesBoth (E.gives x.4) (GivesBoth (F.gives x.5) (GivesBoth (G.gives x.6) (GivesBoth (H.gives x.7) (I.gives x.8)))))))) };
+    ghost gives = { λ x. GivesBoth (A.gives x.0)
+        (GivesBoth (B.gives x.1) (GivesBoth (C.gives x.2)
+        (GivesBoth (D.gives x.3) (GivesBoth (E.gives x.4)
+        (GivesBoth (F.gives x.5) (GivesBoth (G.gives x.6)
+        (GivesBoth (H.gives x.7) (I.gives x.8)))))))) };
 
-    ghost refuses = { λ x. A.refuses x.0 ⊎ (B.refuses x.1 ⊎ (C.refuses x.2 ⊎ (D.refuses x.3 ⊎ (E.refuses x.4 ⊎ (F.refuses x.5 ⊎ (G.refuses x.6 ⊎ (H.refuses x.7 ⊎ I.refuses x.8))))))) };
+    ghost refuses = { λ x. A.refuses x.0
+        ⊎ (B.refuses x.1 ⊎ (C.refuses x.2 ⊎ (D.refuses x.3 ⊎
+        (E.refuses x.4 ⊎ (F.refuses x.5 ⊎ (G.refuses x.6 ⊎ (H.refuses x.7 ⊎ I.refuses x.8))))))) };
 
     ghost count = { λ _. 9 };
-
-    ghost slices = { item_by_item (λ x. GivesBoth (A.gives x.0) (GivesBoth (B.gives x.1) (GivesBoth (C.gives x.2) (GivesBoth (D.gives x.3) (GivesBoth (E.gives x.4) (GivesBoth (F.gives x.5) (GivesBoth (G.gives x.6) (GivesBoth (H.gives x.7) (I.gives x.8))))))))) (λ x. A.refuses x.0 ⊎ (B.refuses x.1 ⊎ (C.refuses x.2 ⊎ (D.refuses x.3 ⊎ (E.refuses x.4 ⊎ (F.refuses x.5 ⊎ (G.refuses x.6 ⊎ (H.refuses x.7 ⊎ I.refuses x.8)))))))) (λ _. 9) };
 
     fn write_redis_args<W: RedisWrite>(&self, out: &mut W) -> RedisResult<()> {
         self.0.write_redis_args(out)?;
@@ -336,13 +340,18 @@ impl<
     I: ToRedisArgs,
     J: ToRedisArgs,
 > ToRedisArgs for (A, B, C, D, E, F, G, H, I, J) {
-    ghost gives = { λ x. GivesBoth (A.gives x.0) (GivesBoth (B.gives x.1) (GivesBoth (C.gives x.2) (GivesBoth (D.gives x.3) (GivesBoth (E.gives x.4) (GivesBoth (F.gives x.5) (GivesBoth (G.gives x.6) (GivesBoth (H.gives x.7) (GivesBoth (I.gives x.8) (J.gives x.9))))))))) };
+    ghost gives = { λ x. GivesBoth (A.gives x.0)
+        (GivesBoth (B.gives x.1) (GivesBoth (C.gives x.2)
+        (GivesBoth (D.gives x.3) (GivesBoth (E.gives x.4)
+        (GivesBoth (F.gives x.5) (GivesBoth (G.gives x.6)
+        (GivesBoth (H.gives x.7) (GivesBoth (I.gives x.8) (J.gives x.9))))))))) };
 
-    ghost refuses = { λ x. A.refuses x.0 ⊎ (B.refuses x.1 ⊎ (C.refuses x.2 ⊎ (D.refuses x.3 ⊎ (E.refuses x.4 ⊎ (F.refuses x.5 ⊎ (G.refuses x.6 ⊎ (H.refuses x.7 ⊎ (I.refuses x.8 ⊎ J.refuses x.9)))))))) };
+    ghost refuses = { λ x. A.refuses x.0
+        ⊎ (B.refuses x.1 ⊎ (C.refuses x.2 ⊎ (D.refuses x.3 ⊎
+        (E.refuses x.4 ⊎ (F.refuses x.5 ⊎ (G.refuses x.6 ⊎
+        (H.refuses x.7 ⊎ (I.refuses x.8 ⊎ J.refuses x.9)))))))) };
 
     ghost count = { λ _. 10 };
-
-    ghost slices = { item_by_item (λ x. GivesBoth (A.gives x.0) (GivesBoth (B.gives x.1) (GivesBoth (C.gives x.2) (GivesBoth (D.gives x.3) (GivesBoth (E.gives x.4) (GivesBoth (F.gives x.5) (GivesBoth (G.gives x.6) (GivesBoth (H.gives x.7) (GivesBoth (I.gives x.8) (J.gives x.9)))))))))) (λ x. A.refuses x.0 ⊎ (B.refuses x.1 ⊎ (C.refuses x.2 ⊎ (D.refuses x.3 ⊎ (E.refuses x.4 ⊎ (F.refuses x.5 ⊎ (G.refuses x.6 ⊎ (H.refuses x.7 ⊎ (I.refuses x.8 ⊎ J.refuses x.9))))))))) (λ _. 10) };
 
     fn write_redis_args<W: RedisWrite>(&self, out: &mut W) -> RedisResult<()> {
         self.0.write_redis_args(out)?;
@@ -382,13 +391,19 @@ impl<
     J: ToRedisArgs,
     K: ToRedisArgs,
 > ToRedisArgs for (A, B, C, D, E, F, G, H, I, J, K) {
-    ghost gives = { λ x. GivesBoth (A.gives x.0) (GivesBoth (B.gives x.1) (GivesBoth (C.gives x.2) (GivesBoth (D.gives x.3) (GivesBoth (E.gives x.4) (GivesBoth (F.gives x.5) (GivesBoth (G.gives x.6) (GivesBoth (H.gives x.7) (GivesBoth (I.gives x.8) (GivesBoth (J.gives x.9) (K.gives x.10)))))))))) };
+    ghost gives = { λ x. GivesBoth (A.gives x.0)
+        (GivesBoth (B.gives x.1) (GivesBoth (C.gives x.2)
+        (GivesBoth (D.gives x.3) (GivesBoth (E.gives x.4)
+        (GivesBoth (F.gives x.5) (GivesBoth (G.gives x.6)
+        (GivesBoth (H.gives x.7) (GivesBoth (I.gives x.8)
+        (GivesBoth (J.gives x.9) (K.gives x.10)))))))))) };
 
-    ghost refuses = { λ x. A.refuses x.0 ⊎ (B.refuses x.1 ⊎ (C.refuses x.2 ⊎ (D.refuses x.3 ⊎ (E.refuses x.4 ⊎ (F.refuses x.5 ⊎ (G.refuses x.6 ⊎ (H.refuses x.7 ⊎ (I.refuses x.8 ⊎ (J.refuses x.9 ⊎ K.refuses x.10))))))))) };
+    ghost refuses = { λ x. A.refuses x.0
+        ⊎ (B.refuses x.1 ⊎ (C.refuses x.2 ⊎ (D.refuses x.3 ⊎
+        (E.refuses x.4 ⊎ (F.refuses x.5 ⊎ (G.refuses x.6 ⊎
+        (H.refuses x.7 ⊎ (I.refuses x.8 ⊎ (J.refuses x.9 ⊎ K.refuses x.10))))))))) };
 
     ghost count = { λ _. 11 };
-
-    ghost slices = { item_by_item (λ x. GivesBoth (A.gives x.0) (GivesBoth (B.gives x.1) (GivesBoth (C.gives x.2) (GivesBoth (D.gives x.3) (GivesBoth (E.gives x.4) (GivesBoth (F.gives x.5) (GivesBoth (G.gives x.6) (GivesBoth (H.gives x.7) (GivesBoth (I.gives x.8) (GivesBoth (J.gives x.9) (K.gives x.10))))))))))) (λ x. A.refuses x.0 ⊎ (B.refuses x.1 ⊎ (C.refuses x.2 ⊎ (D.refuses x.3 ⊎ (E.refuses x.4 ⊎ (F.refuses x.5 ⊎ (G.refuses x.6 ⊎ (H.refuses x.7 ⊎ (I.refuses x.8 ⊎ (J.refuses x.9 ⊎ K.refuses x.10)))))))))) (λ _. 11) };
 
     fn write_redis_args<W: RedisWrite>(&self, out: &mut W) -> RedisResult<()> {
         self.0.write_redis_args(out)?;
@@ -430,13 +445,20 @@ impl<
     K: ToRedisArgs,
     L: ToRedisArgs,
 > ToRedisArgs for (A, B, C, D, E, F, G, H, I, J, K, L) {
-    ghost gives = { λ x. GivesBoth (A.gives x.0) (GivesBoth (B.gives x.1) (GivesBoth (C.gives x.2) (GivesBoth (D.gives x.3) (GivesBoth (E.gives x.4) (GivesBoth (F.gives x.5) (GivesBoth (G.gives x.6) (GivesBoth (H.gives x.7) (GivesBoth (I.gives x.8) (GivesBoth (J.gives x.9) (GivesBoth (K.gives x.10) (L.gives x.11))))))))))) };
+    ghost gives = { λ x. GivesBoth (A.gives x.0)
+        (GivesBoth (B.gives x.1) (GivesBoth (C.gives x.2)
+        (GivesBoth (D.gives x.3) (GivesBoth (E.gives x.4)
+        (GivesBoth (F.gives x.5) (GivesBoth (G.gives x.6)
+        (GivesBoth (H.gives x.7) (GivesBoth (I.gives x.8)
+        (GivesBoth (J.gives x.9) (GivesBoth (K.gives x.10) (L.gives x.11))))))))))) };
 
-    ghost refuses = { λ x. A.refuses x.0 ⊎ (B.refuses x.1 ⊎ (C.refuses x.2 ⊎ (D.refuses x.3 ⊎ (E.refuses x.4 ⊎ (F.refuses x.5 ⊎ (G.refuses x.6 ⊎ (H.refuses x.7 ⊎ (I.refuses x.8 ⊎ (J.refuses x.9 ⊎ (K.refuses x.10 ⊎ L.refuses x.11)))))))))) };
+    ghost refuses = { λ x. A.refuses x.0
+        ⊎ (B.refuses x.1 ⊎ (C.refuses x.2 ⊎ (D.refuses x.3 ⊎
+        (E.refuses x.4 ⊎ (F.refuses x.5 ⊎ (G.refuses x.6 ⊎
+        (H.refuses x.7 ⊎ (I.refuses x.8 ⊎ (J.refuses x.9 ⊎
+        (K.refuses x.10 ⊎ L.refuses x.11)))))))))) };
 
     ghost count = { λ _. 12 };
-
-    ghost slices = { item_by_item (λ x. GivesBoth (A.gives x.0) (GivesBoth (B.gives x.1) (GivesBoth (C.gives x.2) (GivesBoth (D.gives x.3) (GivesBoth (E.gives x.4) (GivesBoth (F.gives x.5) (GivesBoth (G.gives x.6) (GivesBoth (H.gives x.7) (GivesBoth (I.gives x.8) (GivesBoth (J.gives x.9) (GivesBoth (K.gives x.10) (L.gives x.11)))))))))))) (λ x. A.refuses x.0 ⊎ (B.refuses x.1 ⊎ (C.refuses x.2 ⊎ (D.refuses x.3 ⊎ (E.refuses x.4 ⊎ (F.refuses x.5 ⊎ (G.refuses x.6 ⊎ (H.refuses x.7 ⊎ (I.refuses x.8 ⊎ (J.refuses x.9 ⊎ (K.refuses x.10 ⊎ L.refuses x.11))))))))))) (λ _. 12) };
 
     fn write_redis_args<W: RedisWrite>(&self, out: &mut W) -> RedisResult<()> {
         self.0.write_redis_args(out)?;

@@ -1,4 +1,4 @@
-use Rattle.resp_args.proofs.Lists.{progress_start, progress_step, progress_end, progress_fails}
+use Rattle.resp_args.proofs.Lists.{progress_start, progress_step, progress_end, progress_fails, progress_refused}
 use Rattle.resp_args.proofs.impls.collections.write_sorted_pairs.Goals as goal
 
 pub loop-key-init : goal.loop-key-init
@@ -11,7 +11,13 @@ loop-key-preserved g c =
 
 pub returns-in_err-write_pair : goal.returns-in_err-write_pair
 returns-in_err-write_pair g c =
-    record { written = progress_fails _ _ _ (c.in-Some.key.now, c.in-Some.value.now) c.next.new.self _ _ _ _ _ (rw c.in-Some.ensures.steps at c.loop-key.invariant) c.in_err-write_pair.ensures.written c.from_residual.ensures }
+    let progress = rw c.in-Some.ensures.steps at c.loop-key.invariant in
+    let pair : g.row.K.Denot × g.row.V.Denot = (c.in-Some.key.now, c.in-Some.value.now) in
+    let ensures = c.in_err-write_pair.ensures in
+    record {
+      written = progress_fails _ _ _ pair c.next.new.self _ _ _ _ _ progress ensures.written c.from_residual.ensures;
+      refused = progress_refused _ _ _ _ pair c.next.new.self _ _ _ _ _ progress ensures.refused c.from_residual.ensures;
+    }
 
 pub returns : goal.returns
-returns g c = record { written = progress_end _ _ _ _ _ (rw c.in-None.ensures.steps.0 at c.loop-key.invariant) }
+returns g c = record { written = progress_end _ _ _ _ _ (rw c.in-None.ensures.steps.0 at c.loop-key.invariant); refused = tt }
