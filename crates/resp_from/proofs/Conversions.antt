@@ -1,10 +1,11 @@
 -- Answers of conversions, and lists that are converted item by item.
-use Rattle.std.proofs.Common.{◌≡◌, List, [], ◌∷◌, ◌++◌, Vec, Global, Result, Ok, Err, sym, subst}
+use Rattle.std.proofs.Common.{◌≡◌, List, [], ◌∷◌, ◌++◌, Vec, Global, Result, Ok, Err, IfErr, sym, subst}
 use Rattle.std.specs.Result.{IsErr, IsErrAnd}
 use Rattle.std.specs.List.{AllZip}
 use Rattle.resp_value.specs.declared.errors.parsing_error.ParsingError.{ParsingError}
 use Rattle.resp_value.specs.declared.errors.parsing_error.ParsingError.TheVariants as parsing
-use Rattle.resp_from.specs.Conversion.{RefusesIf, Converts, ConvertsList, Decides, NeedsNoMemory}
+use Rattle.resp_value.specs.declared.value.Value.{Value}
+use Rattle.resp_from.specs.Conversion.{RefusesIf, Converts, ConvertsList, Decides, AnyButMemory}
 
 pub RefusesIf-along : {P Q : Type 0} (e : ParsingError) → (P → Q) → RefusesIf e P → RefusesIf e Q
 RefusesIf-along (parsing.Described text) f h = f h
@@ -34,18 +35,18 @@ pub Converts-list : {X : Type 0} (Fits : List X → Type 0) (r : Result (Vec X G
 Converts-list Fits (Ok v) h = h
 Converts-list Fits (Err e) h = RefusesIf-along e (λ none v. none v.items) h
 
--- what a conversion says that wants no memory
+-- what a conversion says that takes no memory
 pub Converts_decided : {X : Type 0} (Fits : X → Type 0) (r : Result X ParsingError) → Decides Fits r → Converts Fits r
 Converts_decided Fits (Ok x) h = h
 Converts_decided Fits (Err (parsing.Described text)) h = h.1
 Converts_decided Fits (Err (parsing.Fault fault)) h = h.0
 Converts_decided Fits (Err parsing.OutOfMemory) h = tt
 
-pub no_memory_decided : {X : Type 0} (Fits : X → Type 0) (r : Result X ParsingError) → Decides Fits r → NeedsNoMemory r
-no_memory_decided Fits (Ok x) h = tt
-no_memory_decided Fits (Err (parsing.Described text)) h = λ e. cc
-no_memory_decided Fits (Err (parsing.Fault fault)) h = absurd h.0
-no_memory_decided Fits (Err parsing.OutOfMemory) h = absurd h.0
+pub no_memory_decided : {X : Type 0} (reply : Value) (Fits : X → Type 0) (r : Result X ParsingError) → Decides Fits r → IfErr r (AnyButMemory reply)
+no_memory_decided reply Fits (Ok x) h = tt
+no_memory_decided reply Fits (Err (parsing.Described text)) h = λ e. cc
+no_memory_decided reply Fits (Err (parsing.Fault fault)) h = absurd h.0
+no_memory_decided reply Fits (Err parsing.OutOfMemory) h = absurd h.0
 
 pub AllZip-more : {A B : Type 0} (R : A → B → Type 0) (cs : List A) (bs : List B) (a : A) (b : B) → AllZip R cs bs → R a b → AllZip R (cs ++ a ∷ []) (bs ++ b ∷ [])
 AllZip-more R [] [] a b h r = (r, tt)
@@ -62,3 +63,5 @@ AllZip-refused R (x ∷ xs) a more f (y ∷ ys) h = AllZip-refused R xs a more f
 
 pub AllZip-none : {A B : Type 0} (R : A → B → Type 0) (all done : List A) (a : A) (rest : List A) → all ≡ done ++ a ∷ rest → ((b : B) → R a b → ⊥) → (bs : List B) → AllZip R all bs → ⊥
 AllZip-none R all done a rest e f bs h = AllZip-refused R done a rest f bs (subst (λ cs. AllZip R cs bs) e h)
+
+pub ruleset decided = (Converts_decided, no_memory_decided)

@@ -97,3 +97,5 @@ items_layer_function n each Of f _ xs ys h k = absurd h
 
 pub items_function : {X : Type 0} (n : ℕ) (each : Bool) (Of : Value → X → Type 0) → IsFunction Of → IsFunction (OfItems n each Of)
 items_function n each Of f reply xs ys h k = items_layer_function n each Of f (out-Value reply) xs ys h k
+
+pub ruleset functions = (signed_function, unsigned_function, bool_function, text_function)

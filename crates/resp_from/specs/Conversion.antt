@@ -1,20 +1,21 @@
 -- What a conversion of a reply answers.
-use Rattle.std.specs.Prelude.{◌≡◌, ◌≢◌, List, Result, Ok, Err, IfErr, Option, None, Some}
+use Rattle.std.specs.Prelude.{◌≡◌, ◌≢◌, ◌⊎◌, List, Result, Ok, Err, Option, None, Some}
 use Rattle.std.specs.declared.alloc.Global.{Global}
 use Rattle.std.specs.declared.vec.Vec.{Vec}
 use Rattle.resp_value.specs.declared.errors.parsing_error.ParsingError.{ParsingError}
 use Rattle.resp_value.specs.declared.errors.parsing_error.ParsingError.TheVariants as parsing
 use Rattle.resp_value.specs.declared.errors.redis_error.RedisError.{RedisError}
 use Rattle.resp_value.specs.declared.errors.redis_error.RedisError.TheVariants as form
+use Rattle.resp_value.specs.declared.value.Value.{Value}
 
--- the error may be answered where the fact holds: a refusal needs it, want of memory doesn't, and a fault of framing
+-- the error may be answered where the fact holds: a refusal needs it, out of memory doesn't, and a fault of framing
 -- is never answered
 abbrev pub RefusesIf : ParsingError → Type 0 → Type 0
 RefusesIf (parsing.Described text) P = P
 RefusesIf (parsing.Fault fault) P = ⊥
 RefusesIf parsing.OutOfMemory P = Unit {0}
 
--- want of memory aside, the answer is a value that fits, and a refusal exactly where none fits
+-- memory aside, the answer is a value that fits, and a refusal exactly where none fits
 abbrev pub Converts : {X : Type 0} → (X → Type 0) → Result X ParsingError → Type 0
 Converts Fits (Ok x) = Fits x
 Converts {X} Fits (Err e) = RefusesIf e ((x : X) → Fits x → ⊥)
@@ -30,11 +31,23 @@ ConvertsMaybe Fits (Ok (Some v)) = Fits v.items
 ConvertsMaybe {X} Fits (Ok None) = (xs : List X) → Fits xs → ⊥
 ConvertsMaybe Fits (Err e) = e ≡ parsing.OutOfMemory
 
--- the answer of a conversion that wants no memory
-abbrev pub NeedsNoMemory : {X : Type 0} → Result X ParsingError → Type 0
-NeedsNoMemory r = IfErr r (λ e. e ≢ parsing.OutOfMemory)
+-- the reply is a value of one type, and the other value may be made of it
+abbrev pub OfMade : {T X : Type 0} → (Value → T → Type 0) → (T → X → Type 0) → Value → X → Type 0
+OfMade {T} Of Makes reply x = (t : T) × Of reply t × Makes t x
 
--- the error is a refusal: neither want of memory nor a fault of framing
+-- what a conversion may answer that may take memory
+abbrev pub AnyError : Value → ParsingError → Type 0
+AnyError reply e = Unit {0}
+
+-- what a conversion may answer that takes no memory
+abbrev pub AnyButMemory : Value → ParsingError → Type 0
+AnyButMemory reply e = e ≢ parsing.OutOfMemory
+
+-- what a conversion of a borrowed reply may answer: `OutOfMemory` for its copy, or what the conversion of the copy answers
+abbrev pub OrMemory : (ParsingError → Type 0) → ParsingError → Type 0
+OrMemory Answers e = (e ≡ parsing.OutOfMemory) ⊎ Answers e
+
+-- the error is a refusal: neither out of memory nor a fault of framing
 abbrev pub IsRefusal : ParsingError → Type 0
 IsRefusal (parsing.Described text) = Unit {0}
 IsRefusal (parsing.Fault fault) = ⊥
@@ -45,9 +58,9 @@ abbrev pub Decides : {X : Type 0} → (X → Type 0) → Result X ParsingError �
 Decides Fits (Ok x) = Fits x
 Decides {X} Fits (Err e) = IsRefusal e × ((x : X) → Fits x → ⊥)
 
--- the error of a whole call may be answered where the fact holds
+-- the error of a whole call may be answered where the fact holds; out of memory in a call is `OutOfMemory` alone
 abbrev pub CallRefusesIf : RedisError → Type 0 → Type 0
-CallRefusesIf (form.Parse e) P = RefusesIf e P
+CallRefusesIf (form.Parse e) P = IsRefusal e × P
 CallRefusesIf form.OutOfMemory P = Unit {0}
 CallRefusesIf _ P = ⊥
 

@@ -1,6 +1,9 @@
 -- Replies as truth values, as absent values, as errors (RESP, "Nulls", "Simple errors"; RESP3, "Booleans").
-use Rattle.std.specs.Prelude.{◌≡◌, ◌≢◌, ℕ, pos, Bool, true, false, List, codes, Option, None, Some, Result, Ok, Err}
+use Rattle.std.specs.Prelude.{◌≡◌, ◌≢◌, ℕ, pos, Bool, true, false, List, codes, Option, None, Some, Result, Ok, Err, IfSome}
 use Rattle.std.specs.Bool.{MatchBool}
+use Rattle.resp_value.specs.ServerErrors.{display_of}
+use Rattle.resp_value.specs.declared.errors.parsing_error.ParsingError.{ParsingError}
+use Rattle.resp_value.specs.declared.errors.parsing_error.ParsingError.TheVariants as parsing
 use Rattle.resp_value.specs.declared.errors.redis_error.RedisError.{RedisError}
 use Rattle.resp_value.specs.declared.errors.redis_error.RedisError.TheVariants as form
 use Rattle.resp_value.specs.declared.value.Value.{Value, ServerError, out-Value}
@@ -47,3 +50,12 @@ OfResult Of reply (Err _) = ⊥
 -- the reply is no error of the server
 abbrev pub OfUnit : Value → Type 0
 OfUnit reply = is_error (out-Value reply) ≡ false
+
+-- the refusal of an error of the server says what the error shows, where that is known
+abbrev pub SaysError : Value-F Value → ParsingError → Type 0
+SaysError (Value-F.ServerError error) (parsing.Described text) = IfSome (display_of error) (λ shown. text ≡ shown)
+SaysError layer e = Unit {0}
+
+-- what `()` may answer
+abbrev pub ErrorOfUnit : Value → ParsingError → Type 0
+ErrorOfUnit reply e = SaysError (out-Value reply) e

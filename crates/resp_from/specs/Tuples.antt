@@ -38,7 +38,7 @@ abbrev pub End : List Value → Type 0
 End [] = Unit {0}
 End (value ∷ values) = ⊥
 
--- finding the values that a reply holds: refused where it doesn't hold so many
+-- finding the values that a reply holds: refused where it holds another number
 abbrev pub FindsHeld : Option (List Value) → Result (Vec Value Global) ParsingError → Type 0
 FindsHeld found (Ok v) = found ≡ Some v.items
 FindsHeld found (Err e) = RefusesIf e (found ≡ None)

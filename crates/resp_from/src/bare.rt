@@ -6,7 +6,7 @@ ghost use Rattle.resp_from.specs.Replies.{bare};
 use resp_value::Value;
 
 /// The value of a reply without its attribute, if it has one; at most one is removed.
-pub fn without_attribute(value: Value) -> Value
+pub fn strip_attribute(value: Value) -> Value
     ensures { result ≡ bare value }
 {
     match value {
@@ -16,7 +16,7 @@ pub fn without_attribute(value: Value) -> Value
 }
 
 /// The same of a borrowed reply.
-pub fn beneath_attribute(value: &Value) -> &Value
+pub fn strip_attribute_ref(value: &Value) -> &Value
     ensures { result.now ≡ bare value.now }
 {
     match value {

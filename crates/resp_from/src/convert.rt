@@ -1,9 +1,11 @@
 //! The trait of the types that a reply converts to.
 
-ghost use Rattle.std.specs.Prelude.{◌≡◌, ℕ, Bool, MatchResult};
+ghost use Rattle.std.specs.Prelude.{◌≡◌, ℕ, Bool, false, IfErr, MatchResult};
 ghost use Rattle.resp_value.specs.declared.value.Value.{Value};
+ghost use Rattle.resp_value.specs.declared.errors.parsing_error.ParsingError.{ParsingError};
 ghost use Rattle.resp_value.specs.declared.errors.parsing_error.ParsingError.TheVariants as parsing;
-ghost use Rattle.resp_from.specs.Conversion.{Converts, ConvertsList, ConvertsMaybe};
+ghost use Rattle.resp_from.specs.Conversion.{AnyError, OfMade, OrMemory, Converts, ConvertsList};
+ghost use Rattle.resp_from.specs.Conversion.{ConvertsMaybe};
 ghost use Rattle.resp_from.specs.Lists.{OfList, OfEach, OfBytes};
 
 use crate::rules::{answer_each, convert_bytes, convert_each, convert_one, copies_of, pieces_of};
@@ -13,7 +15,8 @@ use std::alloc::Global;
 /// A type that replies convert to.
 ///
 /// An implementation writes `from_redis_value` and the two constants; the other functions rest on
-/// them. No refusal of a conversion carries a `FrameFault`.
+/// them. For the contract it writes `of_value`, and `WIDTH` and `BYTES` where they aren't 0 and
+/// false. No refusal of a conversion carries a `FrameFault`.
 pub trait FromRedisValue: Sized + Drop {
     /// How many values of a list make one of the type: `n` for a tuple of `n`, else 0.
     const WIDTH: usize;
@@ -21,24 +24,29 @@ pub trait FromRedisValue: Sized + Drop {
     /// Whether each byte of a bulk string is a value of the type: true for `u8` alone.
     const BYTES: bool;
 
-    ghost WIDTH: { ℕ };
+    ghost WIDTH: { ℕ } = { 0 };
 
-    ghost BYTES: { Bool };
+    ghost BYTES: { Bool } = { false };
 
     // Holds of a reply and each value that it converts to.
     ghost of_value: { Value → Self → Type 0 };
 
+    // Holds of a reply and each error that its conversion may answer; of any, by default.
+    ghost error_of_value: { Value → ParsingError → Type 0 } = { AnyError };
+
     /// The value of a reply.
     ///
-    /// Refused where the reply is no value of the type, or for want of memory.
+    /// Refused where the reply is no value of the type, or on `OutOfMemory`.
     fn from_redis_value(alloc: Global, value: Value) -> Result<Self, ParsingError>
-        ensures converts { Converts (of_value value) result };
+        ensures converts { Converts (of_value value) result }
+        ensures errors { IfErr result (error_of_value value) };
 
     /// The value of a borrowed reply; unless the type says more, that of a copy.
     ///
-    /// Refused where the reply is no value of the type, or for want of memory.
+    /// Refused where the reply is no value of the type, or on `OutOfMemory`.
     fn from_redis_value_ref(alloc: Global, value: &Value) -> Result<Self, ParsingError>
         ensures converts { Converts (of_value value.now) result }
+        ensures errors { IfErr result (OrMemory (error_of_value value.now)) }
     {
         Self::from_redis_value(alloc, value.try_clone(alloc)?)
     }
@@ -48,7 +56,7 @@ pub trait FromRedisValue: Sized + Drop {
     /// Each reply is one value. Of a tuple, whose replies don't all hold as many values as it has
     /// parts, each group of that many replies is one value; a short last group is refused.
     ///
-    /// Refused where a reply or a group is no value of the type, or for want of memory.
+    /// Refused where a reply or a group is no value of the type, or on `OutOfMemory`.
     final fn from_redis_values(alloc: Global, values: Vec<Value>) -> Result<Vec<Self>, ParsingError>
         ensures converts { ConvertsList (OfList WIDTH of_value values.items) result }
     {
@@ -67,12 +75,13 @@ pub trait FromRedisValue: Sized + Drop {
 
     /// The values of a list of replies, or in place of each its refusal.
     ///
-    /// A list with a short last group is one refusal. Fails only for want of memory.
+    /// A list with a short last group is one refusal. Fails only with `OutOfMemory`.
     final fn from_each_redis_values(
         alloc: Global,
         values: Vec<Value>,
     ) -> Result<Vec<Result<Self, ParsingError>>, ParsingError>
-        ensures answers { MatchResult result (λ v. OfEach WIDTH of_value values.items v.items) (λ e. e ≡ parsing.OutOfMemory) }
+        ensures answers { MatchResult result (λ v. OfEach WIDTH of_value values.items v.items)
+            (λ e. e ≡ parsing.OutOfMemory) }
     {
         match pieces_of(alloc, Self::WIDTH, values) {
             Ok(pieces) => answer_each(alloc, pieces),
@@ -88,7 +97,7 @@ pub trait FromRedisValue: Sized + Drop {
     /// The values of the bytes of a bulk string: of `u8` each byte, of another type the one bulk
     /// string.
     ///
-    /// Refused where that is no value of the type, or for want of memory.
+    /// Refused where that is no value of the type, or on `OutOfMemory`.
     final fn from_byte_vec(alloc: Global, bytes: Vec<u8>) -> Result<Vec<Self>, ParsingError>
         ensures converts { ConvertsList (OfBytes BYTES of_value bytes.items) result }
     {
@@ -100,7 +109,7 @@ pub trait FromRedisValue: Sized + Drop {
 
     /// The same of borrowed bytes, or `None` where `from_byte_vec` refuses.
     ///
-    /// Fails only for want of memory.
+    /// Fails only with `OutOfMemory`.
     final fn from_byte_slice(alloc: Global, bytes: &[u8]) -> Result<Option<Vec<Self>>, ParsingError>
         ensures converts { ConvertsMaybe (OfBytes BYTES of_value bytes.now) result }
     {
@@ -115,6 +124,7 @@ pub trait FromRedisValue: Sized + Drop {
 /// The value of a reply, as [`FromRedisValue::from_redis_value`] gives it.
 pub fn from_redis_value<T: FromRedisValue>(alloc: Global, value: Value) -> Result<T, ParsingError>
     ensures converts { Converts (T.of_value value) result }
+    ensures errors { IfErr result (T.error_of_value value) }
 {
     T::from_redis_value(alloc, value)
 }
@@ -125,6 +135,45 @@ pub fn from_redis_value_ref<T: FromRedisValue>(
     value: &Value,
 ) -> Result<T, ParsingError>
     ensures converts { Converts (T.of_value value.now) result }
+    ensures errors { IfErr result (OrMemory (T.error_of_value value.now)) }
 {
     T::from_redis_value_ref(alloc, value)
+}
+
+/// A value that is made of the reply's value as a `T`; so a type of one's own converts by way of a
+/// tuple.
+///
+/// Refused where the reply is no `T`, or on `OutOfMemory`.
+///
+/// ```text
+/// impl From<(i64, i64)> for Point {
+///     ghost from_gives = { λ t p. (p.x ≡ t.0) × (p.y ≡ t.1) };
+///
+///     fn from((x, y): (i64, i64)) -> Point {
+///         Point { x, y }
+///     }
+/// }
+///
+/// impl FromRedisValue for Point {
+///     const WIDTH: usize = 0;
+///
+///     const BYTES: bool = false;
+///
+///     ghost of_value = { OfMade ⟦<(i64, i64) as FromRedisValue>⟧.of_value
+///         ⟦<Point as From<(i64, i64)>>⟧.from_gives };
+///
+///     fn from_redis_value(alloc: Global, value: Value) -> Result<Point, ParsingError> {
+///         from_redis_value_by::<(i64, i64), Point>(alloc, value)
+///     }
+/// }
+/// ```
+pub fn from_redis_value_by<T: FromRedisValue, X: From<T>>(
+    alloc: Global,
+    value: Value,
+) -> Result<X, ParsingError>
+    ensures converts { Converts (OfMade T.of_value X.from_gives value) result }
+    ensures errors { IfErr result (T.error_of_value value) }
+{
+    let part = T::from_redis_value(alloc, value)?;
+    Ok(X::from(part))
 }

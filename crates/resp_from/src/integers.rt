@@ -1,10 +1,10 @@
 //! Integers of replies.
 
-ghost use Rattle.std.specs.Prelude.{ℤ, ℕ, List, Bool};
-ghost use Rattle.resp_from.specs.Conversion.{Converts, Decides, NeedsNoMemory};
+ghost use Rattle.std.specs.Prelude.{ℤ, ℕ, List, Bool, IfErr};
+ghost use Rattle.resp_from.specs.Conversion.{AnyButMemory, Converts, Decides};
 ghost use Rattle.resp_from.specs.Integers.{OfInteger};
 
-use crate::bare::beneath_attribute;
+use crate::bare::strip_attribute_ref;
 use crate::convert::FromRedisValue;
 use resp_value::{ParsingError, Value};
 use std::alloc::Global;
@@ -34,7 +34,7 @@ pub trait Integer: Sized + Drop {
 fn read_integer<T: Integer>(value: &Value) -> Result<T, ParsingError>
     ensures decides { Decides (OfInteger T.of_number T.of_text value.now) result }
 {
-    match beneath_attribute(value) {
+    match strip_attribute_ref(value) {
         Value::Int(number) => T::from_number(i64::from(*number)),
         Value::SimpleString(text) => T::from_text(text.as_str()),
         Value::BulkString(bytes) => match std::str::from_utf8(bytes.as_slice()) {
@@ -53,24 +53,21 @@ impl<T: Integer> FromRedisValue for T {
 
     const BYTES: bool = T::IS_BYTE;
 
-    ghost WIDTH = { 0 };
-
     ghost BYTES = { T.IS_BYTE };
 
     ghost of_value = { OfInteger T.of_number T.of_text };
 
-    #[tactic(auto, using(crate::proofs::Conversions::Converts_decided, crate::proofs::Conversions::no_memory_decided))]
-    fn from_redis_value(_alloc: Global, value: Value) -> Result<T, ParsingError>
-        ensures converts { Converts (OfInteger T.of_number T.of_text value) result }
-        ensures no_memory { NeedsNoMemory result }
-    {
+    ghost error_of_value = { AnyButMemory };
+
+    #[tactic(auto, using(crate::proofs::Conversions::decided))]
+    fn from_redis_value(_alloc: Global, value: Value) -> Result<T, ParsingError> {
         read_integer(&value)
     }
 
-    #[tactic(auto, using(crate::proofs::Conversions::Converts_decided, crate::proofs::Conversions::no_memory_decided))]
+    #[tactic(auto, using(crate::proofs::Conversions::decided))]
     fn from_redis_value_ref(_alloc: Global, value: &Value) -> Result<T, ParsingError>
         ensures converts { Converts (OfInteger T.of_number T.of_text value.now) result }
-        ensures no_memory { NeedsNoMemory result }
+        ensures errors { IfErr result (AnyButMemory value.now) }
     {
         read_integer(value)
     }

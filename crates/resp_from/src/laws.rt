@@ -2,7 +2,8 @@
 
 ghost use Rattle.std.specs.Prelude.{ℕ};
 ghost use Rattle.std.specs.Int.{Width};
-ghost use Rattle.resp_from.specs.Integers.{OfInteger, SignedNumber, SignedText, UnsignedNumber, UnsignedText};
+ghost use Rattle.resp_from.specs.Integers.{OfInteger, SignedNumber, SignedText, UnsignedNumber};
+ghost use Rattle.resp_from.specs.Integers.{UnsignedText};
 ghost use Rattle.resp_from.specs.Items.{OfItems};
 ghost use Rattle.resp_from.specs.Laws.{IsFunction};
 ghost use Rattle.resp_from.specs.Single.{OfBool, OfOption};
@@ -12,8 +13,8 @@ use crate::convert::FromRedisValue;
 
 /// A reply is one integer of a type at most, one truth value and one text. So an owned and a
 /// borrowed conversion, which meet one contract, give equal values where both succeed.
-#[tactic(auto, using(crate::proofs::Functions::signed_function, crate::proofs::Functions::unsigned_function, crate::proofs::Functions::bool_function, crate::proofs::Functions::text_function))]
-pub fn one_value_each()
+#[tactic(auto, using(crate::proofs::Functions::functions))]
+pub fn law_of_one_value()
     ensures signed { (w : Width) → IsFunction (OfInteger (SignedNumber w) (SignedText w)) }
     ensures unsigned { (k : ℕ) → IsFunction (OfInteger (UnsignedNumber k) (UnsignedText k)) }
     ensures truth { IsFunction OfBool }
@@ -22,14 +23,14 @@ pub fn one_value_each()
 
 /// The same of an `Option`, where it holds of what is inside.
 #[tactic(auto, using(crate::proofs::Functions::option_function))]
-pub fn one_option_each<T: FromRedisValue>()
+pub fn law_of_one_option<T: FromRedisValue>()
     requires inside { IsFunction T.of_value }
     ensures option { IsFunction (OfOption T.of_value) }
 {}
 
 /// The same of the items of a `Vec`, where it holds of each item.
 #[tactic(auto, using(crate::proofs::Functions::items_function))]
-pub fn one_list_each<T: FromRedisValue>()
+pub fn law_of_one_list<T: FromRedisValue>()
     requires inside { IsFunction T.of_value }
     ensures items { IsFunction (OfItems T.WIDTH T.BYTES T.of_value) }
 {}

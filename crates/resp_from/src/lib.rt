@@ -12,4 +12,4 @@ mod texts;
 mod tuples;
 mod values;
 
-pub use convert::{FromRedisValue, from_redis_value, from_redis_value_ref};
+pub use convert::{FromRedisValue, from_redis_value, from_redis_value_by, from_redis_value_ref};

@@ -24,16 +24,11 @@ fn maps_of_one(alloc: Global, pairs: Items<(Value, Value)>) -> Result<Vec<Value>
 /// each as a map of one pair; a bulk string, as `from_byte_vec` says; or nothing, which is empty.
 /// No attribute is removed.
 impl<T: FromRedisValue> FromRedisValue for Vec<T> {
-    ghost use Rattle.std.specs.Prelude.{false};
     ghost use Rattle.resp_from.specs.Items.{OfItems};
 
     const WIDTH: usize = 0;
 
     const BYTES: bool = false;
-
-    ghost WIDTH = { 0 };
-
-    ghost BYTES = { false };
 
     ghost of_value = { λ reply v. OfItems T.WIDTH T.BYTES T.of_value reply v.items };
 

@@ -25,12 +25,13 @@ pub fn convert_each<T: FromRedisValue>(
     Ok(all)
 }
 
-/// One value or refusal for each reply; fails only for want of memory.
+/// One value or refusal for each reply; fails only with `OutOfMemory`.
 pub fn answer_each<T: FromRedisValue>(
     alloc: Global,
     replies: Vec<Value>,
 ) -> Result<Vec<Result<T, ParsingError>>, ParsingError>
-    ensures answers { MatchResult result (λ v. AllZip (λ reply r. Decides (T.of_value reply) r) replies.items v.items) (λ e. e ≡ parsing.OutOfMemory) }
+    ensures answers { MatchResult result (λ v. AllZip (λ reply r. Decides (T.of_value reply) r)
+        replies.items v.items) (λ e. e ≡ parsing.OutOfMemory) }
 {
     let mut all = Vec::new(alloc);
     for reply in replies {
@@ -43,7 +44,8 @@ fn answer_one<T: FromRedisValue>(
     alloc: Global,
     reply: Value,
 ) -> Result<Result<T, ParsingError>, ParsingError>
-    ensures answers { MatchResult result (λ r. Decides (T.of_value reply) r) (λ e. e ≡ parsing.OutOfMemory) }
+    ensures answers { MatchResult result (λ r. Decides (T.of_value reply) r) (λ e. e
+        ≡ parsing.OutOfMemory) }
 {
     match T::from_redis_value(alloc, reply) {
         Ok(value) => Ok(Ok(value)),
@@ -59,7 +61,8 @@ pub fn convert_bytes<T: FromRedisValue>(
     alloc: Global,
     bytes: Vec<u8>,
 ) -> Result<Vec<T>, ParsingError>
-    ensures converts { ConvertsList (AllZip T.of_value (map (λ byte. Int (pos byte)) bytes.items)) result }
+    ensures converts { ConvertsList (AllZip T.of_value (map (λ byte. Int (pos byte)) bytes.items))
+        result }
 {
     let mut all = Vec::new(alloc);
     for byte in bytes {

@@ -1,10 +1,10 @@
 //! Replies as truth values, as absent values, behind pointers and as errors.
 
-ghost use Rattle.std.specs.Prelude.{Bool};
-ghost use Rattle.resp_from.specs.Conversion.{Converts, Decides, NeedsNoMemory};
+ghost use Rattle.std.specs.Prelude.{IfErr};
+ghost use Rattle.resp_from.specs.Conversion.{AnyButMemory, Converts, Decides};
 ghost use Rattle.resp_from.specs.Single.{OfBool, OfOption, OfResult, TruthText};
 
-use crate::bare::{beneath_attribute, without_attribute};
+use crate::bare::{strip_attribute, strip_attribute_ref};
 use crate::convert::FromRedisValue;
 use resp_value::{ParsingError, RedisError, Value};
 use std::alloc::Global;
@@ -25,7 +25,7 @@ fn read_truth_text(text: &[u8]) -> Result<bool, ParsingError>
 fn read_bool(value: &Value) -> Result<bool, ParsingError>
     ensures decides { Decides (OfBool value.now) result }
 {
-    match beneath_attribute(value) {
+    match strip_attribute_ref(value) {
         Value::Nil => Ok(false),
         Value::Okay => Ok(true),
         Value::Boolean(truth) => Ok(*truth),
@@ -39,30 +39,23 @@ fn read_bool(value: &Value) -> Result<bool, ParsingError>
 /// A truth value is false for nothing, 0 and the text `0`, and true for `OK`, every other number
 /// and the text `1`. At most one attribute is removed. Takes no memory.
 impl FromRedisValue for bool {
-    ghost use Rattle.std.specs.Prelude.{false};
-
     const WIDTH: usize = 0;
 
     const BYTES: bool = false;
 
-    ghost WIDTH = { 0 };
-
-    ghost BYTES = { false };
-
     ghost of_value = { OfBool };
 
-    #[tactic(auto, using(crate::proofs::Conversions::Converts_decided, crate::proofs::Conversions::no_memory_decided))]
-    fn from_redis_value(_alloc: Global, value: Value) -> Result<bool, ParsingError>
-        ensures converts { Converts (OfBool value) result }
-        ensures no_memory { NeedsNoMemory result }
-    {
+    ghost error_of_value = { AnyButMemory };
+
+    #[tactic(auto, using(crate::proofs::Conversions::decided))]
+    fn from_redis_value(_alloc: Global, value: Value) -> Result<bool, ParsingError> {
         read_bool(&value)
     }
 
-    #[tactic(auto, using(crate::proofs::Conversions::Converts_decided, crate::proofs::Conversions::no_memory_decided))]
+    #[tactic(auto, using(crate::proofs::Conversions::decided))]
     fn from_redis_value_ref(_alloc: Global, value: &Value) -> Result<bool, ParsingError>
         ensures converts { Converts (OfBool value.now) result }
-        ensures no_memory { NeedsNoMemory result }
+        ensures errors { IfErr result (AnyButMemory value.now) }
     {
         read_bool(value)
     }
@@ -71,20 +64,14 @@ impl FromRedisValue for bool {
 /// `None` is nothing; any other reply is a `Some`. One attribute is removed before, and the type
 /// inside may remove one more.
 impl<T: FromRedisValue> FromRedisValue for Option<T> {
-    ghost use Rattle.std.specs.Prelude.{false};
-
     const WIDTH: usize = 0;
 
     const BYTES: bool = false;
 
-    ghost WIDTH = { 0 };
-
-    ghost BYTES = { false };
-
     ghost of_value = { OfOption T.of_value };
 
     fn from_redis_value(alloc: Global, value: Value) -> Result<Option<T>, ParsingError> {
-        match without_attribute(value) {
+        match strip_attribute(value) {
             Value::Nil => Ok(None),
             value => Ok(Some(T::from_redis_value(alloc, value)?)),
         }
@@ -93,15 +80,9 @@ impl<T: FromRedisValue> FromRedisValue for Option<T> {
 
 /// A value in memory of its own.
 impl<T: FromRedisValue> FromRedisValue for Box<T> {
-    ghost use Rattle.std.specs.Prelude.{false};
-
     const WIDTH: usize = 0;
 
     const BYTES: bool = false;
-
-    ghost WIDTH = { 0 };
-
-    ghost BYTES = { false };
 
     ghost of_value = { λ reply b. T.of_value reply b.value };
 
@@ -113,15 +94,9 @@ impl<T: FromRedisValue> FromRedisValue for Box<T> {
 
 /// A value in memory that can be shared.
 impl<T: FromRedisValue> FromRedisValue for Rc<T> {
-    ghost use Rattle.std.specs.Prelude.{false};
-
     const WIDTH: usize = 0;
 
     const BYTES: bool = false;
-
-    ghost WIDTH = { 0 };
-
-    ghost BYTES = { false };
 
     ghost of_value = { λ reply rc. T.of_value reply rc.value };
 
@@ -133,15 +108,9 @@ impl<T: FromRedisValue> FromRedisValue for Rc<T> {
 
 /// An error of the server is an `Err`; any other reply is converted.
 impl<T: FromRedisValue> FromRedisValue for Result<T, RedisError> {
-    ghost use Rattle.std.specs.Prelude.{false};
-
     const WIDTH: usize = 0;
 
     const BYTES: bool = false;
-
-    ghost WIDTH = { 0 };
-
-    ghost BYTES = { false };
 
     ghost of_value = { OfResult T.of_value };
 
@@ -168,18 +137,15 @@ impl<T: FromRedisValue> FromRedisValue for Result<T, RedisError> {
 
 /// Every reply but an error of the server, whose text the refusal carries.
 impl FromRedisValue for () {
-    ghost use Rattle.std.specs.Prelude.{false};
-    ghost use Rattle.resp_from.specs.Single.{OfUnit};
+    ghost use Rattle.resp_from.specs.Single.{ErrorOfUnit, OfUnit};
 
     const WIDTH: usize = 0;
 
     const BYTES: bool = false;
 
-    ghost WIDTH = { 0 };
-
-    ghost BYTES = { false };
-
     ghost of_value = { λ reply _. OfUnit reply };
+
+    ghost error_of_value = { ErrorOfUnit };
 
     fn from_redis_value(alloc: Global, value: Value) -> Result<(), ParsingError> {
         match value {

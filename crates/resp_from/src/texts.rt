@@ -1,27 +1,23 @@
 //! Texts of replies.
 
-use crate::bare::without_attribute;
+use crate::bare::strip_attribute;
 use crate::convert::FromRedisValue;
 use itoa::Buffer;
 use resp_value::{ParsingError, Value};
 use std::alloc::Global;
 
 impl FromRedisValue for String {
-    ghost use Rattle.std.specs.Prelude.{false, string_bytes};
+    ghost use Rattle.std.specs.Prelude.{string_bytes};
     ghost use Rattle.resp_from.specs.Texts.{OfText};
 
     const WIDTH: usize = 0;
 
     const BYTES: bool = false;
 
-    ghost WIDTH = { 0 };
-
-    ghost BYTES = { false };
-
     ghost of_value = { λ reply text. OfText reply (string_bytes text) };
 
     fn from_redis_value(alloc: Global, value: Value) -> Result<String, ParsingError> {
-        match without_attribute(value) {
+        match strip_attribute(value) {
             Value::BulkString(bytes) => match String::from_utf8(bytes.into_vec()) {
                 Ok(text) => Ok(text),
                 Err(_) => Err(ParsingError::from("Invalid UTF-8")),

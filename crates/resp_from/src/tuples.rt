@@ -7,7 +7,7 @@ ghost use Rattle.resp_from.specs.Conversion.{Converts};
 ghost use Rattle.resp_from.specs.Replies.{bare};
 ghost use Rattle.resp_from.specs.Tuples.{FindsHeld, Holds, held, in_turn, of_length};
 
-use crate::bare::without_attribute;
+use crate::bare::strip_attribute;
 use crate::convert::FromRedisValue;
 use resp_value::{Items, ParsingError, Value};
 use std::alloc::{AllocError, Global};
@@ -39,7 +39,7 @@ fn if_long(values: Vec<Value>, width: usize) -> Result<Vec<Value>, ParsingError>
 fn held_values(alloc: Global, width: usize, reply: Value) -> Result<Vec<Value>, ParsingError>
     ensures finds { FindsHeld (held width (out-Value (bare reply))) result }
 {
-    match without_attribute(reply) {
+    match strip_attribute(reply) {
         Value::Array(items) => if_long(items.into_vec(), width),
         Value::Set(items) => if_long(items.into_vec(), width),
         Value::Map(pairs) => if_long(values_in_turn(alloc, pairs)?, width),
@@ -89,7 +89,8 @@ impl<A: FromRedisValue, R: Parts> Parts for (A, R) {
 
 /// All parts of a tuple of this width.
 fn parts_of<P: Parts>(alloc: Global, width: usize, reply: Value) -> Result<P, ParsingError>
-    ensures converts { Converts (λ parts. Holds width reply (λ values. P.of_values values parts)) result }
+    ensures converts { Converts (λ parts. Holds width reply (λ values. P.of_values values parts))
+        result }
 {
     P::take(alloc, &mut held_values(alloc, width, reply)?.into_iter())
 }
@@ -97,7 +98,6 @@ fn parts_of<P: Parts>(alloc: Global, width: usize, reply: Value) -> Result<P, Pa
 /// A tuple is an array or a set of as many values, or a map of half as many pairs, part by part,
 /// each key before its value. At most one attribute is removed.
 impl<A: FromRedisValue> FromRedisValue for (A,) {
-    ghost use Rattle.std.specs.Prelude.{false};
     ghost use Rattle.resp_from.specs.Tuples.{Holds, First, End};
 
     const WIDTH: usize = 1;
@@ -105,8 +105,6 @@ impl<A: FromRedisValue> FromRedisValue for (A,) {
     const BYTES: bool = false;
 
     ghost WIDTH = { 1 };
-
-    ghost BYTES = { false };
 
     ghost of_value = { λ reply x. Holds 1 reply (First A.of_value x.0 End) };
 
@@ -117,7 +115,6 @@ impl<A: FromRedisValue> FromRedisValue for (A,) {
 }
 
 impl<A: FromRedisValue, B: FromRedisValue> FromRedisValue for (A, B) {
-    ghost use Rattle.std.specs.Prelude.{false};
     ghost use Rattle.resp_from.specs.Tuples.{Holds, First, End};
 
     const WIDTH: usize = 2;
@@ -125,8 +122,6 @@ impl<A: FromRedisValue, B: FromRedisValue> FromRedisValue for (A, B) {
     const BYTES: bool = false;
 
     ghost WIDTH = { 2 };
-
-    ghost BYTES = { false };
 
     ghost of_value = { λ reply x. Holds 2 reply (First A.of_value x.0 (First B.of_value x.1 End)) };
 
@@ -137,7 +132,6 @@ impl<A: FromRedisValue, B: FromRedisValue> FromRedisValue for (A, B) {
 }
 
 impl<A: FromRedisValue, B: FromRedisValue, C: FromRedisValue> FromRedisValue for (A, B, C) {
-    ghost use Rattle.std.specs.Prelude.{false};
     ghost use Rattle.resp_from.specs.Tuples.{Holds, First, End};
 
     const WIDTH: usize = 3;
@@ -146,9 +140,8 @@ impl<A: FromRedisValue, B: FromRedisValue, C: FromRedisValue> FromRedisValue for
 
     ghost WIDTH = { 3 };
 
-    ghost BYTES = { false };
-
-    ghost of_value = { λ reply x. Holds 3 reply (First A.of_value x.0 (First B.of_value x.1 (First C.of_value x.2 End))) };
+    ghost of_value = { λ reply x. Holds 3 reply
+        (First A.of_value x.0 (First B.of_value x.1 (First C.of_value x.2 End))) };
 
     fn from_redis_value(alloc: Global, value: Value) -> Result<(A, B, C), ParsingError> {
         let (a, (b, (c, ()))) = parts_of(alloc, 3, value)?;
@@ -158,7 +151,6 @@ impl<A: FromRedisValue, B: FromRedisValue, C: FromRedisValue> FromRedisValue for
 
 impl<A: FromRedisValue, B: FromRedisValue, C: FromRedisValue, D: FromRedisValue> FromRedisValue
     for (A, B, C, D) {
-    ghost use Rattle.std.specs.Prelude.{false};
     ghost use Rattle.resp_from.specs.Tuples.{Holds, First, End};
 
     const WIDTH: usize = 4;
@@ -167,9 +159,9 @@ impl<A: FromRedisValue, B: FromRedisValue, C: FromRedisValue, D: FromRedisValue>
 
     ghost WIDTH = { 4 };
 
-    ghost BYTES = { false };
-
-    ghost of_value = { λ reply x. Holds 4 reply (First A.of_value x.0 (First B.of_value x.1 (First C.of_value x.2 (First D.of_value x.3 End)))) };
+    ghost of_value = { λ reply x. Holds 4 reply
+        (First A.of_value x.0 (First B.of_value x.1
+        (First C.of_value x.2 (First D.of_value x.3 End)))) };
 
     fn from_redis_value(alloc: Global, value: Value) -> Result<(A, B, C, D), ParsingError> {
         let (a, (b, (c, (d, ())))) = parts_of(alloc, 4, value)?;
@@ -184,7 +176,6 @@ impl<
     D: FromRedisValue,
     E: FromRedisValue,
 > FromRedisValue for (A, B, C, D, E) {
-    ghost use Rattle.std.specs.Prelude.{false};
     ghost use Rattle.resp_from.specs.Tuples.{Holds, First, End};
 
     const WIDTH: usize = 5;
@@ -193,9 +184,9 @@ impl<
 
     ghost WIDTH = { 5 };
 
-    ghost BYTES = { false };
-
-    ghost of_value = { λ reply x. Holds 5 reply (First A.of_value x.0 (First B.of_value x.1 (First C.of_value x.2 (First D.of_value x.3 (First E.of_value x.4 End))))) };
+    ghost of_value = { λ reply x. Holds 5 reply
+        (First A.of_value x.0 (First B.of_value x.1
+        (First C.of_value x.2 (First D.of_value x.3 (First E.of_value x.4 End))))) };
 
     fn from_redis_value(alloc: Global, value: Value) -> Result<(A, B, C, D, E), ParsingError> {
         let (a, (b, (c, (d, (e, ()))))) = parts_of(alloc, 5, value)?;
@@ -211,7 +202,6 @@ impl<
     E: FromRedisValue,
     F: FromRedisValue,
 > FromRedisValue for (A, B, C, D, E, F) {
-    ghost use Rattle.std.specs.Prelude.{false};
     ghost use Rattle.resp_from.specs.Tuples.{Holds, First, End};
 
     const WIDTH: usize = 6;
@@ -220,9 +210,10 @@ impl<
 
     ghost WIDTH = { 6 };
 
-    ghost BYTES = { false };
-
-    ghost of_value = { λ reply x. Holds 6 reply (First A.of_value x.0 (First B.of_value x.1 (First C.of_value x.2 (First D.of_value x.3 (First E.of_value x.4 (First F.of_value x.5 End)))))) };
+    ghost of_value = { λ reply x. Holds 6 reply
+        (First A.of_value x.0 (First B.of_value x.1
+        (First C.of_value x.2 (First D.of_value x.3
+        (First E.of_value x.4 (First F.of_value x.5 End)))))) };
 
     fn from_redis_value(alloc: Global, value: Value) -> Result<(A, B, C, D, E, F), ParsingError> {
         let (a, (b, (c, (d, (e, (f, ())))))) = parts_of(alloc, 6, value)?;
@@ -239,7 +230,6 @@ impl<
     F: FromRedisValue,
     G: FromRedisValue,
 > FromRedisValue for (A, B, C, D, E, F, G) {
-    ghost use Rattle.std.specs.Prelude.{false};
     ghost use Rattle.resp_from.specs.Tuples.{Holds, First, End};
 
     const WIDTH: usize = 7;
@@ -248,9 +238,10 @@ impl<
 
     ghost WIDTH = { 7 };
 
-    ghost BYTES = { false };
-
-    ghost of_value = { λ reply x. Holds 7 reply (First A.of_value x.0 (First B.of_value x.1 (First C.of_value x.2 (First D.of_value x.3 (First E.of_value x.4 (First F.of_value x.5 (First G.of_value x.6 End))))))) };
+    ghost of_value = { λ reply x. Holds 7 reply
+        (First A.of_value x.0 (First B.of_value x.1
+        (First C.of_value x.2 (First D.of_value x.3
+        (First E.of_value x.4 (First F.of_value x.5 (First G.of_value x.6 End))))))) };
 
     fn from_redis_value(
         alloc: Global,
@@ -271,7 +262,6 @@ impl<
     G: FromRedisValue,
     H: FromRedisValue,
 > FromRedisValue for (A, B, C, D, E, F, G, H) {
-    ghost use Rattle.std.specs.Prelude.{false};
     ghost use Rattle.resp_from.specs.Tuples.{Holds, First, End};
 
     const WIDTH: usize = 8;
@@ -280,9 +270,11 @@ impl<
 
     ghost WIDTH = { 8 };
 
-    ghost BYTES = { false };
-
-    ghost of_value = { λ reply x. Holds 8 reply (First A.of_value x.0 (First B.of_value x.1 (First C.of_value x.2 (First D.of_value x.3 (First E.of_value x.4 (First F.of_value x.5 (First G.of_value x.6 (First H.of_value x.7 End)))))))) };
+    ghost of_value = { λ reply x. Holds 8 reply
+        (First A.of_value x.0 (First B.of_value x.1
+        (First C.of_value x.2 (First D.of_value x.3
+        (First E.of_value x.4 (First F.of_value x.5
+        (First G.of_value x.6 (First H.of_value x.7 End)))))))) };
 
     fn from_redis_value(
         alloc: Global,
@@ -304,7 +296,6 @@ impl<
     H: FromRedisValue,
     I: FromRedisValue,
 > FromRedisValue for (A, B, C, D, E, F, G, H, I) {
-    ghost use Rattle.std.specs.Prelude.{false};
     ghost use Rattle.resp_from.specs.Tuples.{Holds, First, End};
 
     const WIDTH: usize = 9;
@@ -313,9 +304,11 @@ impl<
 
     ghost WIDTH = { 9 };
 
-    ghost BYTES = { false };
-
-    ghost of_value = { λ reply x. Holds 9 reply (First A.of_value x.0 (First B.of_value x.1 (First C.of_value x.2 (First D.of_value x.3 (First E.of_value x.4 (First F.of_value x.5 (First G.of_value x.6 (First H.of_value x.7 (First I.of_value x.8 End))))))))) };
+    ghost of_value = { λ reply x. Holds 9 reply
+        (First A.of_value x.0 (First B.of_value x.1
+        (First C.of_value x.2 (First D.of_value x.3
+        (First E.of_value x.4 (First F.of_value x.5
+        (First G.of_value x.6 (First H.of_value x.7 (First I.of_value x.8 End))))))))) };
 
     fn from_redis_value(
         alloc: Global,
@@ -338,7 +331,6 @@ impl<
     I: FromRedisValue,
     J: FromRedisValue,
 > FromRedisValue for (A, B, C, D, E, F, G, H, I, J) {
-    ghost use Rattle.std.specs.Prelude.{false};
     ghost use Rattle.resp_from.specs.Tuples.{Holds, First, End};
 
     const WIDTH: usize = 10;
@@ -347,9 +339,12 @@ impl<
 
     ghost WIDTH = { 10 };
 
-    ghost BYTES = { false };
-
-    ghost of_value = { λ reply x. Holds 10 reply (First A.of_value x.0 (First B.of_value x.1 (First C.of_value x.2 (First D.of_value x.3 (First E.of_value x.4 (First F.of_value x.5 (First G.of_value x.6 (First H.of_value x.7 (First I.of_value x.8 (First J.of_value x.9 End)))))))))) };
+    ghost of_value = { λ reply x. Holds 10 reply
+        (First A.of_value x.0 (First B.of_value x.1
+        (First C.of_value x.2 (First D.of_value x.3
+        (First E.of_value x.4 (First F.of_value x.5
+        (First G.of_value x.6 (First H.of_value x.7
+        (First I.of_value x.8 (First J.of_value x.9 End)))))))))) };
 
     fn from_redis_value(
         alloc: Global,
@@ -373,7 +368,6 @@ impl<
     J: FromRedisValue,
     K: FromRedisValue,
 > FromRedisValue for (A, B, C, D, E, F, G, H, I, J, K) {
-    ghost use Rattle.std.specs.Prelude.{false};
     ghost use Rattle.resp_from.specs.Tuples.{Holds, First, End};
 
     const WIDTH: usize = 11;
@@ -382,9 +376,12 @@ impl<
 
     ghost WIDTH = { 11 };
 
-    ghost BYTES = { false };
-
-    ghost of_value = { λ reply x. Holds 11 reply (First A.of_value x.0 (First B.of_value x.1 (First C.of_value x.2 (First D.of_value x.3 (First E.of_value x.4 (First F.of_value x.5 (First G.of_value x.6 (First H.of_value x.7 (First I.of_value x.8 (First J.of_value x.9 (First K.of_value x.10 End))))))))))) };
+    ghost of_value = { λ reply x. Holds 11 reply
+        (First A.of_value x.0 (First B.of_value x.1
+        (First C.of_value x.2 (First D.of_value x.3
+        (First E.of_value x.4 (First F.of_value x.5
+        (First G.of_value x.6 (First H.of_value x.7
+        (First I.of_value x.8 (First J.of_value x.9 (First K.of_value x.10 End))))))))))) };
 
     fn from_redis_value(
         alloc: Global,
@@ -409,7 +406,6 @@ impl<
     K: FromRedisValue,
     L: FromRedisValue,
 > FromRedisValue for (A, B, C, D, E, F, G, H, I, J, K, L) {
-    ghost use Rattle.std.specs.Prelude.{false};
     ghost use Rattle.resp_from.specs.Tuples.{Holds, First, End};
 
     const WIDTH: usize = 12;
@@ -418,9 +414,13 @@ impl<
 
     ghost WIDTH = { 12 };
 
-    ghost BYTES = { false };
-
-    ghost of_value = { λ reply x. Holds 12 reply (First A.of_value x.0 (First B.of_value x.1 (First C.of_value x.2 (First D.of_value x.3 (First E.of_value x.4 (First F.of_value x.5 (First G.of_value x.6 (First H.of_value x.7 (First I.of_value x.8 (First J.of_value x.9 (First K.of_value x.10 (First L.of_value x.11 End)))))))))))) };
+    ghost of_value = { λ reply x. Holds 12 reply
+        (First A.of_value x.0 (First B.of_value x.1
+        (First C.of_value x.2 (First D.of_value x.3
+        (First E.of_value x.4 (First F.of_value x.5
+        (First G.of_value x.6 (First H.of_value x.7
+        (First I.of_value x.8 (First J.of_value x.9
+        (First K.of_value x.10 (First L.of_value x.11 End)))))))))))) };
 
     fn from_redis_value(
         alloc: Global,

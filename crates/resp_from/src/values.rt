@@ -5,15 +5,11 @@ use resp_value::{ParsingError, Value};
 use std::alloc::Global;
 
 impl FromRedisValue for Value {
-    ghost use Rattle.std.specs.Prelude.{◌≡◌, false};
+    ghost use Rattle.std.specs.Prelude.{◌≡◌};
 
     const WIDTH: usize = 0;
 
     const BYTES: bool = false;
-
-    ghost WIDTH = { 0 };
-
-    ghost BYTES = { false };
 
     ghost of_value = { λ reply v. v ≡ reply };
 

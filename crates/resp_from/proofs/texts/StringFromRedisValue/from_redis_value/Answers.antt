@@ -6,7 +6,7 @@ use Rattle.resp_from.specs.Texts.{IsText}
 use Rattle.resp_from.proofs.Layers.{out-BulkString}
 use Rattle.resp_from.proofs.texts.StringFromRedisValue.from_redis_value.Goals as goal
 
-pub returns-in-Ok : goal.returns-in-Ok
-returns-in-Ok c =
+pub returns-in-Ok-clause-converts : goal.returns-in-Ok-clause-converts
+returns-in-Ok-clause-converts c =
     let same : string_bytes c.in-Ok.text ≡ c.in-BulkString.bytes = search rules in
-    record { converts = subst (λ w. IsText w (string_bytes c.in-Ok.text)) (sym (ap out-Value (sym c.without_attribute.ensures ∙ c.in-BulkString.is) ∙ out-BulkString c.in-BulkString.bytes)) (subst IsUtf8 same (IsUtf8-string_bytes c.in-Ok.text), same) }
+    subst (λ w. IsText w (string_bytes c.in-Ok.text)) (sym (ap out-Value (sym c.strip_attribute.ensures ∙ c.in-BulkString.is) ∙ out-BulkString c.in-BulkString.bytes)) (subst IsUtf8 same (IsUtf8-string_bytes c.in-Ok.text), same)
