@@ -1,5 +1,5 @@
 pub mod Exchanging
-pub mod Fronts
+pub mod Prefixes
 pub mod Numerals
 pub mod Sending
 pub mod Spelling

@@ -37,8 +37,8 @@ trim-digits : (ds : List ℕ) → IsAscii ds → all_ascii_digits ds ≡ true �
 unfolding trim_start trim_end
 trim-digits ds ascii h =
     let spelled = encodes-IsAscii ds ascii in
-    let front : encode_utf8_all (skip_leading_whitespace (chars ds)) ≡ ds = rw (chars-IsAscii ds ascii, nothing_skipped ds h) spelled in
-    rw (front, chars-IsAscii ds ascii, nothing_dropped ds h) spelled
+    let prefix : encode_utf8_all (skip_leading_whitespace (chars ds)) ≡ ds = rw (chars-IsAscii ds ascii, nothing_skipped ds h) spelled in
+    rw (prefix, chars-IsAscii ds ascii, nothing_dropped ds h) spelled
 
 -- a digit is no sign
 no_sign : (ds : List ℕ) → all_ascii_digits ds ≡ true → (starts_with_minus ds ≡ false) × (without_leading_plus ds ≡ ds)

@@ -13,9 +13,9 @@ use Rattle.resp_args.specs.Args.{Args}
 use Rattle.resp_parse.specs.Lines.{crlf, NoBreak}
 use Rattle.resp_parse.specs.Laws.{LawOfPrefixes}
 use Rattle.resp_parse.specs.Reads.{Reads}
-use Rattle.resp_parse.specs.Grammar.{Good, Header, Joined, is_type, next, body, parts, wrong, or_nil}
+use Rattle.resp_parse.specs.Grammar.{Good, Header, Joined, is_type, next, body, elements, wrong, or_nil}
 use Rattle.resp_value.specs.declared.errors.kinds.FrameFault.TheVariants.{NotInteger}
-use Rattle.resp_core.specs.Packed.{header, frame, packed, as_value}
+use Rattle.resp_core.specs.Packed.{length_line, bulk, packed, as_value}
 use Rattle.resp_core.specs.PackingLaw.{LawOfPacking}
 use Rattle.resp_core.proofs.Numerals.{own, number-decimal}
 
@@ -32,7 +32,7 @@ digits_unbroken (c ∷ cs) h [] y e =
 digits_unbroken (c ∷ cs) h (x ∷ xs) y e = digits_unbroken cs (and_parts (is_ascii_digit c) (all_ascii_digits cs) h).1 xs y (cc)
 
 -- a mark, a length and what follows are a header
-headed : (mark len : ℕ) (rest b : List ℕ) → len < 2 ^ 63 → is_type mark ≡ true → b ≡ header mark len ++ rest → Header b mark (decimal len) rest
+headed : (mark len : ℕ) (rest b : List ℕ) → len < 2 ^ 63 → is_type mark ≡ true → b ≡ length_line mark len ++ rest → Header b mark (decimal len) rest
 headed mark len rest b small known e = record {
   bytes = e ∙ ap (λ l. mark ∷ l) (append_assoc (decimal len) crlf rest);
   known = known;
@@ -46,17 +46,17 @@ bulk_next : (len : ℕ) → len < 2 ^ 63 → next 36 (decimal len) ≡ body len 
 unfolding next
 bulk_next len small = ap (λ o. elim o [ Some n ↦ or_nil (λ k. body k (λ bytes. Ok (BulkString bytes))) n | None ↦ wrong NotInteger ]) (number-decimal len small)
 
-array_next : (len : ℕ) → len < 2 ^ 63 → next 42 (decimal len) ≡ parts len (λ values. Ok (Array values))
+array_next : (len : ℕ) → len < 2 ^ 63 → next 42 (decimal len) ≡ elements len (λ values. Ok (Array values))
 unfolding next
-array_next len small = ap (λ o. elim o [ Some n ↦ or_nil (λ k. parts k (λ values. Ok (Array values))) n | None ↦ wrong NotInteger ]) (number-decimal len small)
+array_next len small = ap (λ o. elim o [ Some n ↦ or_nil (λ k. elements k (λ values. Ok (Array values))) n | None ↦ wrong NotInteger ]) (number-decimal len small)
 
 -- a frame spells its argument as a bulk string
-frame_good : (d : ℕ) (arg : List ℕ) → length arg < 2 ^ 63 → Good (suc d) (frame arg) (BulkString arg)
+frame_good : (d : ℕ) (arg : List ℕ) → length arg < 2 ^ 63 → Good (suc d) (bulk arg) (BulkString arg)
 frame_good d arg small = (
   36,
   decimal (length arg),
   arg ++ crlf,
-  headed 36 (length arg) (arg ++ crlf) (frame arg) small refl refl,
+  headed 36 (length arg) (arg ++ crlf) (bulk arg) small refl refl,
   text_of (length arg) small,
   rw (bulk_next (length arg) small) (arg, refl, refl, refl),
 )
@@ -66,9 +66,9 @@ abbrev AllShort : Args → Type 0
 AllShort [] = Unit {0}
 AllShort (arg ∷ args) = (length arg < 2 ^ 63) × AllShort args
 
-frames_joined : (d : ℕ) (args : Args) → AllShort args → Joined (Good (suc d)) (flat_map frame args) (map BulkString args)
+frames_joined : (d : ℕ) (args : Args) → AllShort args → Joined (Good (suc d)) (flat_map bulk args) (map BulkString args)
 frames_joined d [] h = refl
-frames_joined d (arg ∷ args) h = (frame arg, flat_map frame args, refl, frame_good d arg h.0, frames_joined d args h.1)
+frames_joined d (arg ∷ args) h = (bulk arg, flat_map bulk args, refl, frame_good d arg h.0, frames_joined d args h.1)
 
 length-map : (args : Args) → length (map BulkString args) ≡ length args
 length-map [] = refl
@@ -78,23 +78,23 @@ packed_good : (d : ℕ) (args : Args) → length args < 2 ^ 63 → AllShort args
 packed_good d args few short = (
   42,
   decimal (length args),
-  flat_map frame args,
-  headed 42 (length args) (flat_map frame args) (packed args) few refl refl,
+  flat_map bulk args,
+  headed 42 (length args) (flat_map bulk args) (packed args) few refl refl,
   text_of (length args) few,
   rw (array_next (length args) few) (map BulkString args, length-map args, frames_joined d args short, refl),
 )
 
-frame_longer : (arg : List ℕ) → length arg < length (frame arg)
+frame_longer : (arg : List ℕ) → length arg < length (bulk arg)
 frame_longer arg = simp length-append (omega arith)
 
-few : (args : Args) → length args ≤ length (flat_map frame args)
+few : (args : Args) → length args ≤ length (flat_map bulk args)
 few [] = omega arith
-few (arg ∷ args) = let rest = few args in let one = frame_longer arg in omega (arith, length-append (frame arg) (flat_map frame args))
+few (arg ∷ args) = let rest = few args in let one = frame_longer arg in omega (arith, length-append (bulk arg) (flat_map bulk args))
 
-short : (args : Args) → length (flat_map frame args) < 2 ^ 63 → AllShort args
+short : (args : Args) → length (flat_map bulk args) < 2 ^ 63 → AllShort args
 short [] h = tt
 short (arg ∷ args) h =
-    let both = length-append (frame arg) (flat_map frame args) in
+    let both = length-append (bulk arg) (flat_map bulk args) in
     let one = frame_longer arg in
     (omega arith, short args (omega arith))
 
@@ -103,17 +103,17 @@ good_some : (d : ℕ) (v : Value) → Good d [] v → ⊥
 good_some zero v h = h
 good_some (suc d) v h = let e = h.3.bytes in cc
 
--- nor has an empty list a good front
-no_front : (d : ℕ) (x y : List ℕ) (v : Value) → x ++ y ≡ [] → Good d x v → ⊥
-no_front d [] y v e h = good_some d v h
-no_front d (b ∷ x) y v e h = cc
+-- nor has an empty list a good prefix
+no_prefix : (d : ℕ) (x y : List ℕ) (v : Value) → x ++ y ≡ [] → Good d x v → ⊥
+no_prefix d [] y v e h = good_some d v h
+no_prefix d (b ∷ x) y v e h = cc
 
 -- bytes read as one list of values only
 module _ (d : ℕ) (law : (a x b y : List ℕ) → LawOfPrefixes d a x b y) where
   joined_once : (b : List ℕ) (vs ws : List Value) → Joined (Good d) b vs → Joined (Good d) b ws → vs ≡ ws
   joined_once b [] [] h k = refl
-  joined_once b [] (w ∷ ws) h k = absurd (no_front d k.0 k.1 w (sym k.2 ∙ h) k.3)
-  joined_once b (v ∷ vs) [] h k = absurd (no_front d h.0 h.1 v (sym h.2 ∙ k) h.3)
+  joined_once b [] (w ∷ ws) h k = absurd (no_prefix d k.0 k.1 w (sym k.2 ∙ h) k.3)
+  joined_once b (v ∷ vs) [] h k = absurd (no_prefix d h.0 h.1 v (sym h.2 ∙ k) h.3)
   joined_once b (v ∷ vs) (w ∷ ws) h k =
       let same = (law h.0 h.1 k.0 k.1).values v w (sym h.2 ∙ k.2) h.3 k.3 in
       let rest : h.1 ≡ k.1 = append_cancel_left h.0 h.1 k.1 (sym h.2 ∙ k.2 ∙ ap (λ a. a ++ k.1) (sym same.0)) in
@@ -123,8 +123,8 @@ module _ (d : ℕ) (law : (a x b y : List ℕ) → LawOfPrefixes d a x b y) wher
 pub packed_reads_only : ((a x b y : List ℕ) → LawOfPrefixes 100 a x b y) → (args : Args) → LawOfPacking args
 unfolding Reads
 packed_reads_only law args small =
-    let body = flat_map frame args in
-    let some : length body < 2 ^ 63 = omega (arith, length-append (header 42 (length args)) body) in
+    let body = flat_map bulk args in
+    let some : length body < 2 ^ 63 = omega (arith, length-append (length_line 42 (length args)) body) in
     let good = packed_good 98 args (let n = few args in omega arith) (short args some) in
     let reads : Joined (Good 100) (packed args) (as_value args ∷ []) = (packed args, [], sym (append-nil (packed args)), good, refl) in
     record { reads = reads; only = λ vs h. joined_once 100 law (packed args) vs (as_value args ∷ []) h reads }

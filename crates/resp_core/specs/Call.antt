@@ -4,19 +4,19 @@ use Rattle.resp_value.specs.declared.value.Value.{Value, Nil}
 use Rattle.resp_value.specs.declared.errors.kinds.ErrorKind.TheVariants as kind
 use Rattle.resp_value.specs.declared.errors.redis_error.RedisError.{RedisError}
 use Rattle.resp_value.specs.declared.errors.redis_error.RedisError.TheVariants.{General, Server}
-use Rattle.resp_value.specs.Tree.{first_error}
+use Rattle.resp_value.specs.FirstError.{first_error}
 use Rattle.resp_from.specs.Conversion.{ConvertsCall}
 use Rattle.resp_core.specs.Packed.{packed}
 use Rattle.resp_core.specs.Command.{Command}
-use Rattle.resp_core.specs.Wire.{Wire, SameKind, Exchange}
+use Rattle.resp_core.specs.Connection.{Connection, SameKind, Exchange}
 
 -- a connection that broke before refuses, and nothing changes
-pub record RefusesBroken {A : Type 0} (old new : Wire) (r : Result A RedisError) : Type 0 where
+pub record RefusesBroken {A : Type 0} (old new : Connection) (r : Result A RedisError) : Type 0 where
   pub answer : r ≡ Err (General kind.Io (codes "link is broken") None)
   pub same : new ≡ old
 
 -- an empty command is refused unsent
-pub record RefusesEmpty {A : Type 0} (old new : Wire) (r : Result A RedisError) : Type 0 where
+pub record RefusesEmpty {A : Type 0} (old new : Connection) (r : Result A RedisError) : Type 0 where
   pub answer : r ≡ Err (General kind.Client (codes "empty command") None)
   pub same : new ≡ old
 
@@ -31,11 +31,11 @@ AnswersReply answers (reply ∷ []) = answers reply
 AnswersReply answers (reply ∷ next ∷ more) = ⊥
 
 -- the contract of a call that sends a command
-pub record CommandCall {A : Type 0} (old new : Wire) (c : Command) (r : Result A RedisError) (answers : Value → Type 0) : Type 0 where
+pub record CommandCall {A : Type 0} (old new : Connection) (c : Command) (r : Result A RedisError) (answers : Value → Type 0) : Type 0 where
   pub same : SameKind old new
   pub when_broken : old.broken ≡ true → RefusesBroken old new r
   pub when_empty : old.broken ≡ false → c.args ≡ [] → RefusesEmpty old new r
-  pub when_told : old.tells ≡ true → old.broken ≡ false → c.args ≢ [] → Exchange old new (packed c.args) (needed c) r (AnswersReply answers)
+  pub otherwise : old.broken ≡ false → c.args ≢ [] → Exchange old new (packed c.args) (needed c) r (AnswersReply answers)
 
 -- what a query makes of a reply: its first server error, if there is one, else its conversion
 abbrev pub Answers : {A : Type 0} → (Value → A → Type 0) → Result A RedisError → Value → Type 0

@@ -1,8 +1,10 @@
+pub mod Arguments
 pub mod Call
 pub mod Command
 pub mod Linking
 pub mod Packed
 pub mod PackingLaw
+pub mod Replies
 pub mod Sinks
 pub mod Taken
-pub mod Wire
+pub mod Connection

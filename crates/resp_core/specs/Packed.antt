@@ -6,16 +6,16 @@ use Rattle.resp_args.specs.Args.{Args}
 use Rattle.resp_parse.specs.Lines.{crlf}
 
 -- a mark, a length in decimal, CR LF
-abbrev pub header : ℕ → ℕ → List ℕ
-header mark len = mark ∷ (decimal len ++ crlf)
+abbrev pub length_line : ℕ → ℕ → List ℕ
+length_line mark len = mark ∷ (decimal len ++ crlf)
 
 -- an argument: `$`, its length, CR LF, its bytes, CR LF
-abbrev pub frame : List ℕ → List ℕ
-frame arg = header 36 (length arg) ++ (arg ++ crlf)
+abbrev pub bulk : List ℕ → List ℕ
+bulk arg = length_line 36 (length arg) ++ (arg ++ crlf)
 
 -- a command: `*`, how many arguments, CR LF, and each argument
 abbrev pub packed : Args → List ℕ
-packed args = header 42 (length args) ++ flat_map frame args
+packed args = length_line 42 (length args) ++ flat_map bulk args
 
 -- the same, but for no arguments no bytes
 abbrev pub packed_or_none : Args → List ℕ

@@ -1,6 +1,7 @@
 //! Commands.
 
-ghost use Rattle.std.specs.Prelude.{◌≡◌, ◌∷◌, [], ◌++◌, ◌↔◌, is_ok, if◌then◌else◌, IfOk, IfErr, OnOk, OnErr, IsTrue, true, false, length, take, ◌<◌};
+ghost use Rattle.std.specs.Prelude.{◌≡◌, ◌∷◌, [], ◌++◌, ◌↔◌, is_ok, if◌then◌else◌, IfOk, IfErr};
+ghost use Rattle.std.specs.Prelude.{OnOk, OnErr, IsTrue, true, false, length, take, ◌<◌};
 ghost use Rattle.resp_value.specs.Memory.{OnlyMemory};
 ghost use Rattle.resp_args.specs.Args.{Appends, IsRefusal, extended};
 ghost use Rattle.resp_core.specs.Command.{new_command};
@@ -97,7 +98,7 @@ impl Cmd {
         mem::replace(self, new)
     }
 
-    /// An equal command. Fails only for want of memory.
+    /// An equal command. Fails only with `OutOfMemory`.
     pub fn try_clone(&self) -> Result<Cmd, AllocError>
         ensures { IfOk result (λ c. c ≡ self.now) }
     {
@@ -116,7 +117,7 @@ impl Cmd {
     }
 
     /// The bytes that send the command, as [`pack_command`](crate::pack_command) gives them; no
-    /// bytes for an empty command. Fails only for want of memory.
+    /// bytes for an empty command. Fails only with `OutOfMemory`.
     pub fn get_packed_command(&self) -> RedisResult<Vec<u8>>
         ensures packed { IfOk result (λ bytes. bytes.items ≡ packed_or_none self.now.args) }
         ensures memory { OnlyMemory result }
@@ -127,8 +128,8 @@ impl Cmd {
         pack_command(self.alloc, self.args.as_slice())
     }
 
-    /// Appends the bytes that send the command; an empty command gives `*0` and CR LF. Refused for
-    /// want of memory, the buffer's bytes are as they were.
+    /// Appends the bytes that send the command; an empty command gives `*0` and CR LF. On
+    /// `OutOfMemory` the buffer's bytes are as they were.
     pub fn write_packed_command(&self, out: &mut Vec<u8>) -> RedisResult<()>
         ensures written { OnOk result (out.new.items ≡ out.old.items ++ packed self.now.args) }
         ensures unchanged { OnErr result (out.new.items ≡ out.old.items) }
@@ -158,7 +159,8 @@ impl Cmd {
     /// Fails with the first server error in the reply, with kind `Parse` where the reply doesn't
     /// convert, and where the connection's `req_command` fails.
     pub fn query<T: FromRedisValue>(&self, con: &mut dyn ConnectionLike) -> RedisResult<T>
-        ensures { CommandCall (wire con.old) (wire con.new) self.now result (Answers T.of_value result) }
+        ensures { CommandCall (connection con.old) (connection con.new) self.now result
+            (Answers T.of_value result) }
     {
         let reply = con.req_command(self)?;
         answer(self.alloc, reply)
@@ -168,7 +170,8 @@ impl Cmd {
     ///
     /// Fails as [`Cmd::query`] does.
     pub fn exec(&self, con: &mut dyn ConnectionLike) -> RedisResult<()>
-        ensures { CommandCall (wire con.old) (wire con.new) self.now result (Answers (⟦<() as FromRedisValue>⟧.of_value) result) }
+        ensures { CommandCall (connection con.old) (connection con.new) self.now result
+            (Answers (⟦<() as FromRedisValue>⟧.of_value) result) }
     {
         self.query(con)
     }

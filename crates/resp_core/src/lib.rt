@@ -12,6 +12,7 @@
 #![tactic(auto)]
 
 mod command;
+pub mod laws;
 mod link;
 mod packing;
 mod sink;
@@ -25,7 +26,7 @@ pub use resp_args::{
     ProtocolVersion, RedisWrite, SetExpiry, ToRedisArgs, ToSingleRedisArg,
     is_valid_16_bytes_hex_digest, write_each_arg,
 };
-pub use resp_from::{FromRedisValue, from_redis_value, from_redis_value_ref};
+pub use resp_from::{FromRedisValue, from_redis_value, from_redis_value_by, from_redis_value_ref};
 pub use resp_parse::{Parser, Reading, ReplySource, law_of_prefixes, parse_redis_value};
 pub use resp_value::{
     Boxed, Description, ErrorKind, FrameFault, IoKind, Items, MapIter, OwnedMapIter, ParsingError,

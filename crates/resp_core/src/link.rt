@@ -1,12 +1,12 @@
 //! Connections, and a connection over bytes.
 
 ghost use Rattle.std.specs.Prelude.{◌≡◌, [], true, false, Ok};
-ghost use Rattle.resp_parse.specs.State.{IsAtRest, IsAtRest-prop};
-ghost use Rattle.resp_parse.specs.Ends.{end_of};
+ghost use Rattle.resp_parse.specs.State.{IsBetweenValues, IsBetweenValues-prop};
+ghost use Rattle.resp_parse.specs.Source.{end_of};
 ghost use Rattle.resp_core.specs.Sinks.{sink_of};
-ghost use Rattle.resp_core.specs.Wire.{Wire};
+ghost use Rattle.resp_core.specs.Connection.{Connection};
 ghost use Rattle.resp_core.specs.Call.{CommandCall};
-ghost use Rattle.resp_core.specs.Linking.{Exchanges, wire_of};
+ghost use Rattle.resp_core.specs.Linking.{Exchanges, connection_of};
 
 use crate::command::Cmd;
 use crate::sink::{CommandSink, Writing, send_all};
@@ -18,20 +18,21 @@ use std::io::{Read, Write};
 /// A connection to a server: something that takes requests and answers replies.
 pub trait ConnectionLike {
     /// What is known of it: what was sent, what is to come, whether it is broken.
-    ghost wire: { Self → Wire };
+    ghost connection: { Self → Connection };
 
     /// Sends a command and answers its reply, or `Nil` at once where none is waited for.
     ///
     /// Refused, in this order: where the connection broke before; for an empty command; for a
     /// fault of sending or flushing; for a fault of receiving; for an early end; for bytes that are
-    /// no reply. Want of memory may come at any place. After a refusal of the last four, and for
-    /// want of memory once sending was begun, the connection is broken for good.
+    /// no reply. `OutOfMemory` may come at any place. After a refusal of the last four, and on
+    /// `OutOfMemory` once sending was begun, the connection is broken permanently.
     fn req_command(&mut self, cmd: &Cmd) -> RedisResult<Value>
-        ensures { CommandCall (wire self.old) (wire self.new) cmd.now result (λ reply. result ≡ Ok reply) };
+        ensures { CommandCall (connection self.old) (connection self.new) cmd.now result
+            (λ reply. result ≡ Ok reply) };
 
     /// Whether several commands may be sent at once.
     fn supports_pipelining(&self) -> bool
-        ensures { result ≡ (wire self.now).pipelines };
+        ensures { result ≡ (connection self.now).pipelines };
 }
 
 /// A connection over a source and a sink of bytes.
@@ -45,14 +46,15 @@ pub struct ByteLink<S, K> {
     sink: K,
     parser: Parser,
     broken: bool,
-    ghost rested: { broken ≡ false → IsAtRest parser } by { Prim.hlevel IsAtRest-prop },
+    ghost rested: { broken ≡ false → IsBetweenValues parser } by { Prim.hlevel IsBetweenValues-prop },
 }
 
 impl<R: Read, W: Write> ByteLink<Reading<R>, Writing<W>> {
     /// A link over a reader and a writer.
     pub fn new(alloc: Global, reader: R, writer: W) -> ByteLink<Reading<R>, Writing<W>>
-        ensures { ⟦<ByteLink<Reading<R>, Writing<W>> as ConnectionLike>⟧.wire result
-            ≡ wire_of (end_of (R.remaining reader) 0) (sink_of (W.contents writer) false 0) [] false }
+        ensures { ⟦<ByteLink<Reading<R>, Writing<W>> as ConnectionLike>⟧.connection result
+            ≡ connection_of (end_of (R.remaining reader) 0) (sink_of (W.contents writer) false 0)
+            [] false }
     {
         ByteLink::over(alloc, Reading::new(reader), Writing::new(writer))
     }
@@ -61,7 +63,8 @@ impl<R: Read, W: Write> ByteLink<Reading<R>, Writing<W>> {
 impl<S: ReplySource, K: CommandSink> ByteLink<S, K> {
     /// A link over a source and a sink.
     pub fn over(alloc: Global, source: S, sink: K) -> ByteLink<S, K>
-        ensures { ⟦<ByteLink<S, K> as ConnectionLike>⟧.wire result ≡ wire_of (S.source source) (K.sink sink) [] false }
+        ensures { ⟦<ByteLink<S, K> as ConnectionLike>⟧.connection result
+            ≡ connection_of (S.source source) (K.sink sink) [] false }
     {
         ByteLink {
             source,
@@ -73,7 +76,7 @@ impl<S: ReplySource, K: CommandSink> ByteLink<S, K> {
 
     /// Whether the link is broken: every further call is refused.
     pub fn is_broken(&self) -> bool
-        ensures { result ≡ (⟦<ByteLink<S, K> as ConnectionLike>⟧.wire self.now).broken }
+        ensures { result ≡ (⟦<ByteLink<S, K> as ConnectionLike>⟧.connection self.now).broken }
     {
         self.broken
     }
@@ -94,16 +97,18 @@ impl<S: ReplySource, K: CommandSink> ByteLink<S, K> {
     }
 
     /// Sends a request, and takes its reply unless none is waited for.
-    fn exchange(&mut self, bytes: &[u8], silent: bool) -> RedisResult<Value>
+    fn exchange(&mut self, bytes: &[u8], no_response: bool) -> RedisResult<Value>
         requires { self.old.broken ≡ false }
         ensures exchanged { Exchanges
-            (wire_of (S.source self.old.source) (K.sink self.old.sink) self.old.parser.unseen self.old.broken)
-            (wire_of (S.source self.new.source) (K.sink self.new.sink) self.new.parser.unseen self.new.broken)
-            bytes.now silent result }
+            (connection_of (S.source self.old.source) (K.sink self.old.sink)
+            self.old.parser.unparsed self.old.broken)
+            (connection_of (S.source self.new.source) (K.sink self.new.sink)
+            self.new.parser.unparsed self.new.broken)
+            bytes.now no_response result }
     {
         self.broken = true;
         send_all(&mut self.sink, bytes)?;
-        if silent {
+        if no_response {
             self.broken = false;
             return Ok(Value::Nil);
         }
@@ -114,9 +119,10 @@ impl<S: ReplySource, K: CommandSink> ByteLink<S, K> {
 }
 
 impl<S: ReplySource, K: CommandSink> ConnectionLike for ByteLink<S, K> {
-    ghost use Rattle.resp_core.specs.Linking.{wire_of};
+    ghost use Rattle.resp_core.specs.Linking.{connection_of};
 
-    ghost wire = { λ c. wire_of (S.source c.source) (K.sink c.sink) c.parser.unseen c.broken };
+    ghost connection = { λ c. connection_of (S.source c.source) (K.sink c.sink) c.parser.unparsed
+        c.broken };
 
     fn req_command(&mut self, cmd: &Cmd) -> RedisResult<Value> {
         if self.broken {

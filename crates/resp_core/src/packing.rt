@@ -3,7 +3,7 @@
 ghost use Rattle.std.specs.Prelude.{◌≡◌, ◌++◌, length, take, IfOk, OnOk, OnErr};
 ghost use Rattle.resp_value.specs.Memory.{OnlyMemory};
 ghost use Rattle.resp_args.specs.Args.{Args, args_of};
-ghost use Rattle.resp_core.specs.Packed.{header, frame, packed};
+ghost use Rattle.resp_core.specs.Packed.{length_line, bulk, packed};
 ghost use Rattle.resp_core.specs.PackingLaw.{LawOfPacking};
 
 use itoa::Buffer;
@@ -14,7 +14,7 @@ use std::alloc::Global;
 /// The bytes that send a command of these arguments (RESP, "Sending commands to a Redis server").
 ///
 /// `*`, the number of arguments and CR LF; then for each argument `$`, its length in bytes, CR LF,
-/// its bytes and CR LF. No arguments at all give `*0` and CR LF. Fails only for want of memory.
+/// its bytes and CR LF. No arguments at all give `*0` and CR LF. Fails only with `OutOfMemory`.
 pub fn pack_command(alloc: Global, args: &[Vec<u8>]) -> RedisResult<Vec<u8>>
     ensures packed { IfOk result (λ bytes. bytes.items ≡ packed (args_of args.now)) }
     ensures memory { OnlyMemory result }
@@ -24,7 +24,7 @@ pub fn pack_command(alloc: Global, args: &[Vec<u8>]) -> RedisResult<Vec<u8>>
     Ok(bytes)
 }
 
-/// Appends a packed command; refused for want of memory, the bytes are as they were.
+/// Appends a packed command; on `OutOfMemory` the bytes are as they were.
 pub fn write_packed(out: &mut Vec<u8>, args: &[Vec<u8>]) -> RedisResult<()>
     ensures written { OnOk result (out.new.items ≡ out.old.items ++ packed (args_of args.now)) }
     ensures unchanged { OnErr result (out.new.items ≡ out.old.items) }
@@ -40,30 +40,30 @@ pub fn write_packed(out: &mut Vec<u8>, args: &[Vec<u8>]) -> RedisResult<()>
 
 fn append_packed(out: &mut Vec<u8>, args: &[Vec<u8>]) -> RedisResult<()>
     ensures written { OnOk result (out.new.items ≡ out.old.items ++ packed (args_of args.now)) }
-    ensures front { take (length out.old.items) out.new.items ≡ out.old.items }
+    ensures prefix { take (length out.old.items) out.new.items ≡ out.old.items }
     ensures memory { OnlyMemory result }
 {
-    append_header(out, b'*', args.len())?;
+    append_length_line(out, b'*', args.len())?;
     for arg in args {
-        append_frame(out, arg.as_slice())?;
+        append_bulk(out, arg.as_slice())?;
     }
     Ok(())
 }
 
-fn append_frame(out: &mut Vec<u8>, arg: &[u8]) -> RedisResult<()>
-    ensures written { OnOk result (out.new.items ≡ out.old.items ++ frame arg.now) }
-    ensures front { take (length out.old.items) out.new.items ≡ out.old.items }
+fn append_bulk(out: &mut Vec<u8>, arg: &[u8]) -> RedisResult<()>
+    ensures written { OnOk result (out.new.items ≡ out.old.items ++ bulk arg.now) }
+    ensures prefix { take (length out.old.items) out.new.items ≡ out.old.items }
     ensures memory { OnlyMemory result }
 {
-    append_header(out, b'$', arg.len())?;
+    append_length_line(out, b'$', arg.len())?;
     out.extend_from_slice(arg)?;
     out.extend_from_slice(b"\r\n")?;
     Ok(())
 }
 
-fn append_header(out: &mut Vec<u8>, mark: u8, len: usize) -> RedisResult<()>
-    ensures written { OnOk result (out.new.items ≡ out.old.items ++ header mark len) }
-    ensures front { take (length out.old.items) out.new.items ≡ out.old.items }
+fn append_length_line(out: &mut Vec<u8>, mark: u8, len: usize) -> RedisResult<()>
+    ensures written { OnOk result (out.new.items ≡ out.old.items ++ length_line mark len) }
+    ensures prefix { take (length out.old.items) out.new.items ≡ out.old.items }
     ensures memory { OnlyMemory result }
 {
     out.push(mark)?;

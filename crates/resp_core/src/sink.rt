@@ -1,7 +1,7 @@
 //! Where requests go.
 
 ghost use Rattle.std.specs.Prelude.{◌≡◌, ◌+◌, ◌-◌, ◌^◌, ◌-◌, min, false, length};
-ghost use Rattle.resp_parse.specs.Ends.{FailureCounted};
+ghost use Rattle.resp_parse.specs.Source.{FailureCounted};
 ghost use Rattle.resp_core.specs.Sinks.{Sink, Sends, Flushes, SendsAll, sink_of};
 
 use resp_value::IoKind;
@@ -13,7 +13,7 @@ pub trait CommandSink {
     /// them may wait to be flushed, and how many calls have failed.
     ghost sink: { Self → Sink };
 
-    /// Sends a front of the bytes, at least one of any, and answers how many. An `Err` sends
+    /// Sends a prefix of the bytes, at least one of any, and answers how many. An `Err` sends
     /// nothing and raises the count of failures by one, up to the greatest `u64`.
     fn send(&mut self, bytes: &[u8]) -> Result<usize, IoKind>
         ensures sends { Sends (sink self.old) (sink self.new) bytes.now result };
@@ -30,7 +30,7 @@ pub trait CommandSink {
 #[derive(Drop)]
 pub struct Writing<W> {
     writer: W,
-    waiting: bool,
+    unflushed: bool,
     failures: u64,
 }
 
@@ -41,18 +41,19 @@ impl<W: Write> Writing<W> {
     {
         Writing {
             writer,
-            waiting: false,
+            unflushed: false,
             failures: 0,
         }
     }
 
     /// The writer, by move.
     pub fn into_inner(self) -> W
-        ensures { (⟦<Writing<W> as CommandSink>⟧.sink self).bytes ≡ (sink_of (W.contents result) false 0).bytes }
+        ensures { (⟦<Writing<W> as CommandSink>⟧.sink self).bytes
+            ≡ (sink_of (W.contents result) false 0).bytes }
     {
         let Writing {
             writer,
-            waiting: _,
+            unflushed: _,
             failures: _,
         } = self;
         writer
@@ -60,10 +61,10 @@ impl<W: Write> Writing<W> {
 }
 
 impl<W: Write> CommandSink for Writing<W> {
-    ghost sink = { λ s. sink_of (W.contents s.writer) s.waiting s.failures };
+    ghost sink = { λ s. sink_of (W.contents s.writer) s.unflushed s.failures };
 
     fn send(&mut self, bytes: &[u8]) -> Result<usize, IoKind> {
-        self.waiting = true;
+        self.unflushed = true;
         match self.writer.write(bytes) {
             Ok(n) => {
                 if n == 0 && !bytes.is_empty() {
@@ -82,7 +83,7 @@ impl<W: Write> CommandSink for Writing<W> {
     fn flush(&mut self) -> Result<(), IoKind> {
         match self.writer.flush() {
             Ok(()) => {
-                self.waiting = false;
+                self.unflushed = false;
                 Ok(())
             }
             Err(error) => {

@@ -8,7 +8,7 @@ use resp_args::RedisWrite;
 use resp_value::RedisResult;
 use std::alloc::Global;
 
-/// A command of this name, without arguments so far. Fails only for want of memory.
+/// A command of this name, without arguments so far. Fails only with `OutOfMemory`.
 pub fn cmd(alloc: Global, name: &str) -> RedisResult<Cmd>
     ensures named { IfOk result (λ c. c ≡ record { args = name.now ∷ []; no_response = false }) }
     ensures memory { OnlyMemory result }

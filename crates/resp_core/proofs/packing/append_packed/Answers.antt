@@ -1,5 +1,5 @@
-use Rattle.resp_core.proofs.Fronts.{front_of_front}
+use Rattle.resp_core.proofs.Prefixes.{prefix_of_prefix}
 use Rattle.resp_core.proofs.packing.append_packed.Goals as goal
 
-pub returns-in_err-append_frame-clause-front : goal.returns-in_err-append_frame-clause-front
-returns-in_err-append_frame-clause-front c = front_of_front _ _ _ _ c.loop-arg.invariant c.append_frame.ensures.front
+pub returns-in_err-append_bulk-clause-prefix : goal.returns-in_err-append_bulk-clause-prefix
+returns-in_err-append_bulk-clause-prefix c = prefix_of_prefix _ _ _ _ c.loop-arg.invariant c.append_bulk.ensures.prefix

@@ -1,8 +1,0 @@
--- What stands in front of a list.
-use Rattle.std.proofs.Common.{◌≡◌, ◌++◌, List, length, take, arith}
-use Rattle.std.proofs.lemmas.Grind.{common_steps}
-use Rattle.std.proofs.lemmas.List.{take-append-drop}
-
--- what is in front of a front is in front
-pub front_of_front : {A : Type 0} (old middle new more : List A) → middle ≡ old ++ more → take (length middle) new ≡ middle → take (length old) new ≡ old
-front_of_front old middle new more e f = let g = take-append-drop (length middle) new in grind (arith, common_steps)

@@ -1,0 +1,122 @@
+-- What a connection has sent and what is to come, and what one exchange over it leaves.
+use Rattle.std.specs.Prelude.{◌≡◌, ℕ, ◌⊎◌, Bool, true, false, List, [], ◌++◌, length, Result, Err, IsErrAnd}
+use Rattle.resp_value.specs.declared.value.Value.{Value}
+use Rattle.resp_value.specs.declared.errors.kinds.FrameFault.{FrameFault}
+use Rattle.resp_value.specs.declared.errors.kinds.IoKind.TheVariants.{UnexpectedEof}
+use Rattle.resp_value.specs.declared.errors.parsing_error.ParsingError.TheVariants.{Fault}
+use Rattle.resp_value.specs.declared.errors.redis_error.RedisError.{RedisError}
+use Rattle.resp_value.specs.declared.errors.redis_error.RedisError.TheVariants.{Io, Parse, OutOfMemory}
+use Rattle.resp_parse.specs.Source.{FailureCounted}
+use Rattle.resp_core.specs.Sinks.{SentPrefix}
+use Rattle.resp_core.specs.Taken.{TakesAll, TakesFault, TakesEarly, TakesTooLittle}
+
+pub record Connection : Type 0 where
+  -- whether the bytes below are known
+  pub observable : Bool
+  -- whether several commands may be sent at once
+  pub pipelines : Bool
+  pub sent : List ℕ
+  -- whether some of what was sent may wait to be flushed
+  pub unflushed : Bool
+  -- the bytes that were received and aren't taken, and then those that will come
+  pub incoming : List ℕ
+  pub broken : Bool
+  pub source_failures : ℕ
+  pub sink_failures : ℕ
+
+-- a connection that doesn't tell its bytes and takes one command at a time: only whether it is broken is known
+abbrev pub untold : Bool → Connection
+untold broken = record {
+  observable = false;
+  pipelines = false;
+  sent = [];
+  unflushed = false;
+  incoming = [];
+  broken = broken;
+  source_failures = 0;
+  sink_failures = 0;
+}
+
+-- what no call changes
+pub record SameKind (old new : Connection) : Type 0 where
+  pub observable : old.observable ≡ true → new.observable ≡ true
+  pub pipelines : new.pipelines ≡ old.pipelines
+
+-- the request was sent, and nothing of it waits
+pub record Sent (old new : Connection) (q : List ℕ) : Type 0 where
+  pub bytes : old.observable ≡ true → new.sent ≡ old.sent ++ q
+  pub flushed : new.unflushed ≡ false
+
+pub record NoFailure (old new : Connection) : Type 0 where
+  pub source : new.source_failures ≡ old.source_failures
+  pub sink : new.sink_failures ≡ old.sink_failures
+
+-- the replies came: they are answered, every later byte is kept, and the connection is usable
+pub record Replied (old new : Connection) (q : List ℕ) (n : ℕ) (answers : List Value → Type 0) : Type 0 where
+  pub replies : List Value
+  pub enough : length replies ≡ n
+  pub sent : Sent old new q
+  pub takes : old.observable ≡ true → TakesAll old.incoming replies new.incoming
+  pub usable : new.broken ≡ false
+  pub no_failure : NoFailure old new
+  pub answer : answers replies
+
+-- a fault stands in the place of a reply
+pub record Faulted {A : Type 0} (old new : Connection) (q : List ℕ) (n : ℕ) (result : Result A RedisError) : Type 0 where
+  pub fault : FrameFault
+  pub sent : Sent old new q
+  pub takes : old.observable ≡ true → TakesFault n old.incoming fault
+  pub broken : new.broken ≡ true
+  pub no_failure : NoFailure old new
+  pub answer : result ≡ Err (Parse (Fault fault))
+
+-- the bytes to come end too early
+pub record Ended {A : Type 0} (old new : Connection) (q : List ℕ) (n : ℕ) (result : Result A RedisError) : Type 0 where
+  pub sent : Sent old new q
+  pub takes : old.observable ≡ true → TakesEarly n old.incoming
+  pub broken : new.broken ≡ true
+  pub no_failure : NoFailure old new
+  pub answer : result ≡ Err (Io UnexpectedEof)
+
+abbrev pub IsIo : RedisError → Type 0
+IsIo (Io kind) = Unit {0}
+IsIo _ = ⊥
+
+-- the sink failed: a prefix of the request was sent, and nothing was taken
+pub record SendFailed {A : Type 0} (old new : Connection) (q : List ℕ) (result : Result A RedisError) : Type 0 where
+  pub sent : old.observable ≡ true → SentPrefix old.sent new.sent q
+  pub incoming : old.observable ≡ true → new.incoming ≡ old.incoming
+  pub broken : new.broken ≡ true
+  pub source : new.source_failures ≡ old.source_failures
+  pub counted : FailureCounted old.sink_failures new.sink_failures
+  pub answer : IsErrAnd result IsIo
+
+-- the source failed: the request was sent, and a prefix of the bytes to come was taken, which is too little
+pub record ReceiveFailed {A : Type 0} (old new : Connection) (q : List ℕ) (n : ℕ) (result : Result A RedisError) : Type 0 where
+  pub sent : Sent old new q
+  pub takes : old.observable ≡ true → TakesTooLittle n old.incoming
+  pub broken : new.broken ≡ true
+  pub counted : FailureCounted old.source_failures new.source_failures
+  pub sink : new.sink_failures ≡ old.sink_failures
+  pub answer : IsErrAnd result IsIo
+
+-- the connection is broken, and a prefix of the request was sent
+pub record BrokenMidway (old new : Connection) (q : List ℕ) : Type 0 where
+  pub sent : old.observable ≡ true → SentPrefix old.sent new.sent q
+  pub broken : new.broken ≡ true
+
+-- memory ran out, and neither source nor sink failed: nothing was sent and nothing changed, or midway
+pub record RanOutOfMemory {A : Type 0} (old new : Connection) (q : List ℕ) (result : Result A RedisError) : Type 0 where
+  pub answer : result ≡ Err OutOfMemory
+  pub no_failure : NoFailure old new
+  pub left : (new ≡ old) ⊎ BrokenMidway old new q
+
+-- what a call does that sends q and needs n replies; answers says what the replies make of it. What bytes were sent
+-- and taken is said where the connection tells them; how the connection is left, always
+pub data Exchange {A : Type 0} (old new : Connection) (q : List ℕ) (n : ℕ) (result : Result A RedisError) (answers : List Value → Type 0) : Type 0 where
+  replied : Replied old new q n answers → Exchange old new q n result answers
+  faulted : Faulted old new q n result → Exchange old new q n result answers
+  ended : Ended old new q n result → Exchange old new q n result answers
+  send_failed : SendFailed old new q result → Exchange old new q n result answers
+  receive_failed : ReceiveFailed old new q n result → Exchange old new q n result answers
+  out_of_memory : RanOutOfMemory old new q result → Exchange old new q n result answers
