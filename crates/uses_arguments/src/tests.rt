@@ -1,0 +1,68 @@
+//! The bytes that each of the functions makes.
+
+use crate::{add_all, add_tagged, add_twelve, fields_of, get, set_fields};
+use resp_core::{ByteLink, Cmd, Reading, Writing, cmd};
+use std::io::Cursor;
+use std::process::Abort;
+
+type Link = ByteLink<Reading<Cursor<Vec<u8>>>, Writing<Vec<u8>>>;
+
+fn link_over(rt: &(impl Abort + AllocGlobal), replies: &[u8]) -> Link {
+    let bytes = Vec::from_slice(rt.alloc(), replies).expect(rt, "no refusal");
+    ByteLink::new(rt.alloc(), Cursor::new(bytes), Vec::new(rt.alloc()))
+}
+
+fn sent(link: Link) -> Vec<u8> {
+    let (_source, sink) = link.into_ends();
+    sink.into_inner()
+}
+
+fn named(rt: &(impl Abort + AllocGlobal), name: &str) -> Cmd {
+    cmd(rt.alloc(), name).expect(rt, "no refusal")
+}
+
+fn packs(rt: &(impl Abort + AllocGlobal), command: &Cmd, wanted: &str) {
+    let bytes = command.get_packed_command().expect(rt, "no refusal");
+    assert_eq!(rt; bytes.as_slice(), wanted.as_bytes());
+}
+
+#[test]
+fn queries(rt: HostRuntime) {
+    let mut link = link_over(&rt, b"*2\r\n$1\r\n1\r\n$-1\r\n:3\r\n");
+    let found = fields_of(rt.alloc(), &mut link, "h", &["a", "b"]).expect(&rt, "no refusal");
+    assert_eq!(rt; found.len(), 2);
+    assert!(rt; found[0].is_some() && found[1].is_none());
+    let set = set_fields(rt.alloc(), &mut link, "h", "ann", &[("x", 5)]);
+    assert_eq!(rt; set.expect(&rt, "no refusal"), 3);
+    let wanted = "*4\r\n$5\r\nHMGET\r\n$1\r\nh\r\n$1\r\na\r\n$1\r\nb\r\n\
+*10\r\n$4\r\nHSET\r\n$1\r\nh\r\n$4\r\nname\r\n$3\r\nann\r\n$1\r\nx\r\n$1\r\n5\r\n\
+$6\r\nvisits\r\n$1\r\n1\r\n$5\r\nlevel\r\n$1\r\n2\r\n";
+    assert_eq!(rt; sent(link).as_slice(), wanted.as_bytes());
+}
+
+#[test]
+fn chains(rt: HostRuntime) {
+    let command = get(rt.alloc(), "k").expect(&rt, "no refusal");
+    packs(&rt, &command, "*2\r\n$3\r\nGET\r\n$1\r\nk\r\n");
+    let mut command = named(&rt, "X");
+    add_all(&mut command, "k", &["l"], &[("p", "q")]).expect(&rt, "no refusal");
+    packs(
+        &rt,
+        &command,
+        "*10\r\n$1\r\nX\r\n$1\r\nk\r\n$1\r\nb\r\n$4\r\nname\r\n$3\r\nage\r\n$1\r\nl\r\n$1\r\np\r\n$1\r\nq\r\n$1\r\na\r\n$1\r\n1\r\n",
+    );
+    let mut command = named(&rt, "XADD");
+    add_twelve(&mut command, "s", "f", "v").expect(&rt, "no refusal");
+    packs(
+        &rt,
+        &command,
+        "*13\r\n$4\r\nXADD\r\n$1\r\ns\r\n$10\r\nNOMKSTREAM\r\n$6\r\nMAXLEN\r\n$1\r\n~\r\n$4\r\n1000\r\n$5\r\nLIMIT\r\n$2\r\n10\r\n$1\r\n*\r\n$1\r\nf\r\n$1\r\nv\r\n$2\r\nat\r\n$1\r\n7\r\n",
+    );
+    let mut command = named(&rt, "X");
+    add_tagged(&mut command, "t", ("a", 1)).expect(&rt, "no refusal");
+    packs(
+        &rt,
+        &command,
+        "*4\r\n$1\r\nX\r\n$1\r\nt\r\n$1\r\na\r\n$1\r\n1\r\n",
+    );
+}

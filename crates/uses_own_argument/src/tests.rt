@@ -1,0 +1,65 @@
+//! What each type writes.
+
+use crate::{Fields, Key, Member, Path, Point, Range};
+use resp_core::{ErrorKind, RedisError, RedisWrite, ToRedisArgs};
+use std::collections::BTreeMap;
+use std::process::Abort;
+use std::test::Fail;
+
+/// The value gives these arguments, joined by spaces.
+fn gives<T: ToRedisArgs>(rt: &(impl Abort + AllocGlobal), value: &T, wanted: &str) {
+    let args = value.to_redis_args(rt.alloc()).expect(rt, "no refusal");
+    let mut text = String::new(rt.alloc());
+    for arg in &args {
+        write!(
+            text,
+            "{} ",
+            std::str::from_utf8(arg.as_slice()).expect(rt, "a text")
+        )
+        .expect(rt, "memory");
+    }
+    assert_eq!(rt; text.as_str(), wanted);
+}
+
+#[test]
+fn fields_one_after_another(rt: HostRuntime) {
+    gives(&rt, &Point { x: 1, y: -2 }, "1 -2 ");
+    gives(
+        &rt,
+        &[Point { x: 1, y: 2 }, Point { x: 3, y: 4 }].as_slice(),
+        "1 2 3 4 ",
+    );
+    gives(&rt, &Range { first: 0, last: -1 }, "0 -1 ");
+}
+
+#[test]
+fn fields_that_own(rt: HostRuntime) -> Result<(), Fail> {
+    let name = String::from_str(rt.alloc(), "a b")?;
+    gives(&rt, &Member { score: 7, name }, "7 a b ");
+    let name = String::from_str(rt.alloc(), "my_key")?;
+    gives(&rt, &Key { name }, "my_key ");
+    let points = vec![in rt.alloc(); Point { x: 1, y: 2 }, Point { x: 3, y: 4 }]?;
+    gives(&rt, &Path { points }, "1 2 3 4 ");
+    Ok(())
+}
+
+#[test]
+fn a_wide_pair_isnt_written(rt: HostRuntime) -> Result<(), Fail> {
+    let mut map = BTreeMap::new(rt.alloc());
+    map.insert(1i64, vec![in rt.alloc(); 5i64]?)?;
+    map.insert(2, vec![in rt.alloc(); 6i64, 7]?)?;
+    let mut args = vec![in rt.alloc(); Vec::from_slice(rt.alloc(), b"x")?]?;
+    let refused = map.write_redis_args(&mut args).expect_err(&rt, "a refusal");
+    assert_eq!(rt; refused.kind(), ErrorKind::Client);
+    match &refused {
+        RedisError::General { text, .. } => {
+            assert_eq!(rt; text.as_str(), "map key or value is more than one argument");
+        }
+        _ => assert!(rt; false),
+    }
+    assert_eq!(rt; args.len(), 3);
+    assert_eq!(rt; args[0].as_slice(), b"x".as_slice());
+    assert_eq!(rt; args[1].as_slice(), b"1".as_slice());
+    assert_eq!(rt; args[2].as_slice(), b"5".as_slice());
+    Ok(())
+}
