@@ -58,7 +58,7 @@ fn server_error_leaves_it_usable(rt: HostRuntime) {
 }
 
 #[test]
-fn faulty_front_breaks_it(rt: HostRuntime) {
+fn faulty_prefix_breaks_it(rt: HostRuntime) {
     let mut link = link_over(&rt, b":x\r\n:7\r\n");
     let error = get(&rt)
         .query::<i64>(&mut link)

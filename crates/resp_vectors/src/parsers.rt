@@ -124,16 +124,26 @@ fn bodies(rt: HostRuntime) {
     }
 }
 
-/// Whether the value is an attribute of one pair, a text and 1.
+/// Whether the value is an attribute of one pair, the text `k` and 1.
 fn describes_one(value: &Value) -> bool {
     match value {
-        Value::Attribute { attributes, .. } => {
-            matches!(
-                attributes.as_slice(),
-                [(Value::SimpleString(_), Value::Int(1))]
-            )
-        }
+        Value::Attribute { attributes, .. } => match attributes.as_slice() {
+            [(Value::SimpleString(key), Value::Int(1))] => key.eq_str("k"),
+            _ => false,
+        },
         _ => false,
+    }
+}
+
+#[test]
+fn big_numbers(rt: HostRuntime) {
+    let bytes = b"(3492890328409238509324850943850943825024385\r\n";
+    match parse_redis_value(rt.alloc(), bytes).expect(&rt, "no refusal") {
+        Value::BigNumber(digits) => {
+            let wanted = b"3492890328409238509324850943850943825024385";
+            assert_eq!(rt; digits.as_slice(), wanted.as_slice());
+        }
+        _ => assert!(rt; false),
     }
 }
 
@@ -146,8 +156,8 @@ fn aggregates(rt: HostRuntime) {
             "array([ok, Server error: `LOADING: x`, int(1)]) ",
         ),
         (
-            &b"~2\r\n#t\r\n:100\r\n"[..],
-            "set([boolean(true), int(100)]) ",
+            &b"~5\r\n+orange\r\n+apple\r\n#t\r\n:100\r\n:999\r\n"[..],
+            "set([simple-string(\"orange\"), simple-string(\"apple\"), boolean(true), int(100), int(999)]) ",
         ),
         (
             &b"%2\r\n+first\r\n:1\r\n+second\r\n:2\r\n"[..],
@@ -208,7 +218,19 @@ fn levels(rt: HostRuntime) {
         assert_eq!(rt; nested(&rt, header, 100, last).as_str(), "TooDeep");
     }
     assert_eq!(rt; nested(&rt, "*1\r\n", 100, "").as_str(), "..");
-    assert_eq!(rt; nested(&rt, "*1\r\n", 100, "@").as_str(), "TooDeep");
+}
+
+#[test]
+fn any_byte_is_too_deep(rt: HostRuntime) {
+    let mut bytes = Vec::new(rt.alloc());
+    for _ in 0..100 {
+        bytes.extend_from_slice(b"*1\r\n").expect(&rt, "no refusal");
+    }
+    for byte in 0..=255_u8 {
+        bytes.push(byte).expect(&rt, "no refusal");
+        assert_eq!(rt; shown(&rt, bytes.as_slice()).as_str(), "TooDeep");
+        let _ = bytes.pop();
+    }
 }
 
 #[test]

@@ -10,10 +10,10 @@ use std::process::Abort;
 /// The bytes end exactly where this fault shows: without the last one they are unfinished.
 fn faults(rt: &(impl Abort + AllocGlobal), bytes: &[u8], wanted: FrameFault) {
     let mut parser = Parser::new(rt.alloc());
-    let Some((last, front)) = bytes.split_last() else {
+    let Some((last, prefix)) = bytes.split_last() else {
         return;
     };
-    parser.feed(front).expect(rt, "no refusal");
+    parser.feed(prefix).expect(rt, "no refusal");
     assert!(rt; parser.take_value().expect(rt, "no refusal").is_none());
     parser.feed(&[*last]).expect(rt, "no refusal");
     let error = parser.take_value().expect_err(rt, "a refusal");

@@ -12,7 +12,8 @@ use std::process::Abort;
 use std::rc::{Rc, RcSlice};
 use std::test::Fail;
 
-/// The value gives these arguments, each shown with its length before it, and counts for so many.
+/// The value gives these arguments, each shown with its length before it, and counts for that
+/// number.
 fn gives<T: ToRedisArgs>(rt: &(impl Abort + AllocGlobal), value: &T, wanted: &str, count: usize) {
     let args = value.to_redis_args(rt.alloc()).expect(rt, "no refusal");
     let mut text = String::new(rt.alloc());
@@ -275,8 +276,17 @@ fn a_refused_pair_isnt_written(rt: HostRuntime) -> Result<(), Fail> {
     pairs.insert(2, [6, 7].as_slice())?;
     let mut list = ArgList::new(rt.alloc());
     list.write_arg(b"x")?;
-    assert!(rt; pairs.write_redis_args(&mut list).is_err());
+    match pairs.write_redis_args(&mut list) {
+        Ok(()) => assert!(rt; false),
+        Err(error) => {
+            assert_eq!(rt; error.kind(), ErrorKind::Client);
+            let shown = format!(in rt.alloc(); "{error}")?;
+            let wanted = "map key or value is more than one argument - Client";
+            assert_eq!(rt; shown.as_str(), wanted);
+        }
+    }
     assert_eq!(rt; list.len(), 3);
+    assert_eq!(rt; list.get(1), Some(b"1".as_slice()));
     assert_eq!(rt; list.get(2), Some(b"5".as_slice()));
     Ok(())
 }

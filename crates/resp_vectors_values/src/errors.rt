@@ -1,5 +1,6 @@
 //! Errors, names and the small containers: each call once, and the texts that they print.
 
+use resp_core::laws::law_of_equal_errors;
 use resp_core::{
     Boxed, Description, ErrorKind, FrameFault, IoKind, Items, ParsingError, PushInfo, PushKind,
     RedisError, ServerError, ServerErrorKind, Text, Value, VerbatimFormat, get_push_kind,
@@ -44,6 +45,94 @@ fn items(rt: HostRuntime) {
     );
     debugs(&rt, &items, "[1, 2]");
     assert_eq!(rt; items.into_vec().len(), 2);
+}
+
+#[test]
+fn items_as_a_slice(rt: HostRuntime) {
+    let items = Items::from(vec![in rt.alloc(); 3, 4, 5].expect(&rt, "no refusal"));
+    assert_eq!(rt;
+        (items.first(), items.get(1), items.last()),
+        (Some(&3), Some(&4), Some(&5))
+    );
+    assert_eq!(rt; items[2], 5);
+    assert!(rt; items.get(3).is_none());
+    let mut sum = 0;
+    for item in &items {
+        sum += *item;
+    }
+    assert_eq!(rt; sum, 12);
+    assert_eq!(rt; items.iter().rev().copied().next(), Some(5));
+}
+
+#[test]
+fn texts_as_a_str(rt: HostRuntime) {
+    let text = Text::from_str(rt.alloc(), "PONG").expect(&rt, "no refusal");
+    assert_eq!(rt; text.len(), 4);
+    assert!(rt; text.starts_with("PO") && !text.is_empty());
+    assert!(rt; text.eq_str("PONG") && !text.eq_str("pong"));
+}
+
+#[test]
+fn fixed_texts_that_are_long(rt: HostRuntime) {
+    for (text, kept) in [
+        (
+            "0123456789012345678901234567890123456789012345678901234567890123",
+            "0123456789012345678901234567890123456789012345678901234567890123",
+        ),
+        (
+            "01234567890123456789012345678901234567890123456789012345678901234",
+            "0123456789012345678901234567890123456789012345678901234567890...",
+        ),
+        (
+            "012345678901234567890123456789012345678901234567890123456789\u{E9}\u{E9}\u{E9}",
+            "012345678901234567890123456789012345678901234567890123456789...",
+        ),
+    ] {
+        assert_eq!(rt; Description::from(text).as_str(), kept);
+    }
+}
+
+/// Whether two errors are equal, in both orders and each to itself.
+fn alike(rt: &(impl Abort + AllocGlobal), a: &RedisError, b: &RedisError) -> bool {
+    assert!(rt; *a == *a && *b == *b);
+    assert_eq!(rt; *a == *b, *b == *a);
+    *a == *b
+}
+
+#[test]
+fn equal_errors(rt: HostRuntime) {
+    let refused = RedisError::from((ErrorKind::Client, "empty command"));
+    let other_text = RedisError::from((ErrorKind::Client, "formatting failed"));
+    assert!(rt; alike(&rt, &refused, &other_text));
+    let broken = RedisError::from((ErrorKind::Io, "link is broken"));
+    assert!(rt; !alike(&rt, &refused, &broken));
+    let early = RedisError::from(IoKind::UnexpectedEof);
+    assert!(rt; !alike(&rt, &broken, &early));
+    assert!(rt; alike(&rt, &early, &RedisError::from(IoKind::UnexpectedEof)));
+    assert!(rt; !alike(&rt, &early, &RedisError::from(IoKind::TimedOut)));
+    let described = RedisError::from(ParsingError::from("unknown type byte"));
+    let fault = RedisError::from(ParsingError::from(FrameFault::UnknownType));
+    assert!(rt; !alike(&rt, &described, &fault));
+    let by_hand = RedisError::Parse(ParsingError::OutOfMemory);
+    let memory = RedisError::from(ParsingError::OutOfMemory);
+    assert!(rt; !alike(&rt, &by_hand, &memory));
+    assert_eq!(rt;
+        (by_hand.kind(), memory.kind()),
+        (ErrorKind::Parse, ErrorKind::OutOfMemory)
+    );
+    law_of_equal_errors();
+}
+
+#[test]
+fn errors_of_the_standard_library(rt: HostRuntime) {
+    for (kind, wanted) in [
+        (io::ErrorKind::TimedOut, IoKind::TimedOut),
+        (io::ErrorKind::BrokenPipe, IoKind::BrokenPipe),
+        (io::ErrorKind::OutOfMemory, IoKind::Other),
+    ] {
+        let error = RedisError::from(io::Error::from(kind));
+        assert_eq!(rt; error.io_kind(), Some(wanted));
+    }
 }
 
 #[test]

@@ -1,0 +1,154 @@
+//! What readers and writers are asked for, and how often, over devices that count their calls.
+
+use crate::devices::{ScriptedReader, ScriptedWriter, Step};
+use resp_core::{
+    ByteLink, Cmd, CommandSink, IoKind, Parser, Reading, ReplySource, Value, Writing, cmd,
+};
+use std::io::ErrorKind;
+use std::process::Abort;
+
+fn ping(rt: &(impl Abort + AllocGlobal)) -> Cmd {
+    cmd(rt.alloc(), "PING").expect(rt, "no refusal")
+}
+
+#[test]
+fn a_readers_fault_is_its_own(rt: HostRuntime) {
+    for (script, want) in [
+        (&[Step::Fails(ErrorKind::TimedOut)][..], IoKind::TimedOut),
+        (
+            &[Step::Fails(ErrorKind::BrokenPipe)][..],
+            IoKind::BrokenPipe,
+        ),
+        (
+            &[Step::Fails(ErrorKind::Interrupted)][..],
+            IoKind::Interrupted,
+        ),
+    ] {
+        let mut parser = Parser::new(rt.alloc());
+        let error = parser
+            .parse_value(ScriptedReader::new(script))
+            .expect_err(&rt, "a refusal");
+        assert_eq!(rt; error.io_kind(), Some(want));
+        assert!(rt; !parser.is_failed());
+        let reply = parser
+            .parse_value(ScriptedReader::new(&[Step::Moves(b":7\r\n")]))
+            .expect(&rt, "no refusal");
+        assert_eq!(rt; reply, Value::Int(7));
+    }
+}
+
+#[test]
+fn a_held_value_asks_for_nothing(rt: HostRuntime) {
+    let script = &[Step::Fails(ErrorKind::TimedOut)];
+    let mut source = Reading::new(ScriptedReader::new(script));
+    let mut parser = Parser::new(rt.alloc());
+    parser
+        .feed(b":1\r\n:2\r\n:3\r\n:")
+        .expect(&rt, "no refusal");
+    let first = parser.parse_from(&mut source).expect(&rt, "no refusal");
+    assert_eq!(rt; first, Value::Int(1));
+    let second = parser
+        .parse_value(ScriptedReader::new(script))
+        .expect(&rt, "no refusal");
+    assert_eq!(rt; second, Value::Int(2));
+    let third = parser.parse_from(&mut source).expect(&rt, "no refusal");
+    assert_eq!(rt; third, Value::Int(3));
+    let error = parser.parse_from(&mut source).expect_err(&rt, "a refusal");
+    assert_eq!(rt; error.io_kind(), Some(IoKind::TimedOut));
+    assert_eq!(rt; source.into_inner().calls, 1);
+}
+
+#[test]
+fn values_held_after_a_reader_ended(rt: HostRuntime) {
+    let mut parser = Parser::new(rt.alloc());
+    parser.feed(b":1\r\n:2\r\n").expect(&rt, "no refusal");
+    let first = parser.parse_value(&b""[..]).expect(&rt, "no refusal");
+    assert_eq!(rt; first, Value::Int(1));
+    let second = parser.take_value().expect(&rt, "no refusal");
+    assert_eq!(rt; second, Some(Value::Int(2)));
+    let third = parser
+        .parse_value(&b":3\r\n:4\r\n"[..])
+        .expect(&rt, "no refusal");
+    assert_eq!(rt; third, Value::Int(3));
+    let fourth = parser.take_value().expect(&rt, "no refusal");
+    assert_eq!(rt; fourth, Some(Value::Int(4)));
+}
+
+#[test]
+fn one_read_a_fill(rt: HostRuntime) {
+    let script = &[Step::Fails(ErrorKind::Interrupted), Step::Moves(b":7\r\n")];
+    let mut source = Reading::new(ScriptedReader::new(script));
+    let mut buf = [0; 16];
+    assert_eq!(rt; source.fill(&mut buf[..]), Err(IoKind::Interrupted));
+    assert_eq!(rt; source.into_inner().calls, 1);
+    let mut link = ByteLink::new(
+        rt.alloc(),
+        ScriptedReader::new(script),
+        ScriptedWriter::new(&[], &[]),
+    );
+    let error = ping(&rt)
+        .query::<i64>(&mut link)
+        .expect_err(&rt, "a refusal");
+    assert_eq!(rt; error.io_kind(), Some(IoKind::Interrupted));
+    assert!(rt; link.is_broken());
+    let (source, _sink) = link.into_ends();
+    assert_eq!(rt; source.into_inner().calls, 1);
+}
+
+#[test]
+fn one_write_a_send(rt: HostRuntime) {
+    let script = &[Step::Fails(ErrorKind::Interrupted), Step::Moves(b"x")];
+    let mut sink = Writing::new(ScriptedWriter::new(script, &[]));
+    assert_eq!(rt; sink.send(b"x"), Err(IoKind::Interrupted));
+    let writer = sink.into_inner();
+    assert_eq!(rt; (writer.writes, writer.flushes), (1, 0));
+}
+
+#[test]
+fn one_flush_a_flush(rt: HostRuntime) {
+    let script = &[Step::Fails(ErrorKind::Interrupted)];
+    let mut sink = Writing::new(ScriptedWriter::new(&[], script));
+    assert_eq!(rt; sink.flush(), Err(IoKind::Interrupted));
+    let writer = sink.into_inner();
+    assert_eq!(rt; (writer.writes, writer.flushes), (0, 1));
+}
+
+#[test]
+fn a_query_flushes_its_writer(rt: HostRuntime) {
+    let mut link = ByteLink::new(
+        rt.alloc(),
+        ScriptedReader::new(&[Step::Moves(b":7\r\n"), Step::Moves(b":8\r\n")]),
+        ScriptedWriter::new(&[], &[]),
+    );
+    let first: i64 = ping(&rt).query(&mut link).expect(&rt, "no refusal");
+    assert_eq!(rt; first, 7);
+    let (source, sink) = link.into_ends();
+    let writer = sink.into_inner();
+    assert_eq!(rt; (writer.writes, writer.flushes), (1, 1));
+    assert_eq!(rt; source.into_inner().calls, 1);
+}
+
+#[test]
+fn at_most_4096_bytes_a_read(rt: HostRuntime) {
+    let script = &[
+        Step::Moves(b"$9000\r\n"),
+        Step::Moves(&[b'x'; 5000]),
+        Step::Moves(&[b'x'; 5000]),
+        Step::Moves(b"x"),
+    ];
+    let mut parser = Parser::new(rt.alloc());
+    let early = parser.parse_value(ScriptedReader::new(script));
+    assert_eq!(rt;
+        early.expect_err(&rt, "a refusal").io_kind(),
+        Some(IoKind::UnexpectedEof)
+    );
+    let mut parser = Parser::new(rt.alloc());
+    let mut source = Reading::new(ScriptedReader::new(script));
+    let early = parser.parse_from(&mut source);
+    assert_eq!(rt;
+        early.expect_err(&rt, "a refusal").io_kind(),
+        Some(IoKind::UnexpectedEof)
+    );
+    let reader = source.into_inner();
+    assert_eq!(rt; (reader.calls, reader.most), (5, 4096));
+}
