@@ -13,7 +13,7 @@ mod program;
 #[cfg(test)]
 mod tests;
 
-use program::{pack, print_usage, query, read};
+use program::{Task, pack, print_no_words, print_usage, query, read, task_of};
 use resp_core::ByteLink;
 use std::process::ExitCode;
 use std::{env, io};
@@ -24,21 +24,18 @@ fn main(rt: HostRuntime) -> ExitCode {
 
 fn run(rt: HostRuntime) -> u8 {
     let alloc = rt.alloc();
-    let Ok(words) = words(&rt) else {
-        return print_usage(&mut rt.stderr());
+    let words = match words(&rt) {
+        Ok(words) => words,
+        Err(error) => return print_no_words(&error, &mut rt.stderr()),
     };
-    match words.as_slice() {
-        [first, rest @ ..] if first.as_str() == "pack" => {
-            pack(alloc, rest, &mut rt.stdout(), &mut rt.stderr())
-        }
-        [only] if only.as_str() == "read" => {
-            read(alloc, &mut rt.stdin(), &mut rt.stdout(), &mut rt.stderr())
-        }
-        [first, rest @ ..] if first.as_str() == "query" => {
+    match task_of(words.as_slice()) {
+        Task::Pack(words) => pack(alloc, words, &mut rt.stdout(), &mut rt.stderr()),
+        Task::Read => read(alloc, &mut rt.stdin(), &mut rt.stdout(), &mut rt.stderr()),
+        Task::Query(words) => {
             let mut link = ByteLink::new(alloc, rt.stdin(), rt.stdout());
-            query(alloc, rest, &mut link, &mut rt.stderr())
+            query(alloc, words, &mut link, &mut rt.stderr())
         }
-        _ => print_usage(&mut rt.stderr()),
+        Task::Usage => print_usage(&mut rt.stderr()),
     }
 }
 

@@ -1,6 +1,6 @@
 //! What the program does, over any streams.
 
-use resp_core::{Cmd, ConnectionLike, IoKind, Parser, RedisError, RedisResult, RedisWrite, Value};
+use resp_core::{Cmd, ConnectionLike, Parser, RedisError, RedisResult, RedisWrite, Value};
 use std::alloc::Global;
 use std::io;
 use std::io::{Read, Write};
@@ -17,7 +17,50 @@ const REFUSED: u8 = 2;
 const USAGE: &str =
     "usage: resp pack WORD.. | resp read | resp query [--atomic] WORD.. [, WORD..]..\n";
 
+/// What the words of a call ask for.
+#[derive(Clone, Copy, PartialEq, Eq, Debug)]
+pub enum Task<'a> {
+    /// `pack WORD..`
+    Pack(&'a [String]),
+    /// `read`
+    Read,
+    /// `query WORD..`
+    Query(&'a [String]),
+    /// Anything else.
+    Usage,
+}
+
+/// The task of the words after the program's name.
+pub fn task_of(words: &[String]) -> Task<'_> {
+    let Some((first, rest)) = words.split_first() else {
+        return Task::Usage;
+    };
+    match first.as_str() {
+        "pack" => Task::Pack(rest),
+        "read" => {
+            if rest.is_empty() {
+                Task::Read
+            } else {
+                Task::Usage
+            }
+        }
+        "query" => Task::Query(rest),
+        _ => Task::Usage,
+    }
+}
+
+/// What is printed where the words can't be had: the usage, unless memory ran out.
+pub fn print_no_words<E: Write>(error: &io::Error, err: &mut E) -> u8 {
+    if error.kind() != io::ErrorKind::OutOfMemory {
+        return print_usage(err);
+    }
+    let _ = writeln!(err, "refused: out of memory");
+    REFUSED
+}
+
 /// Prints the usage on standard error.
+///
+/// The usage names `--atomic` and `,` already; until there are pipelines, both print it.
 pub fn print_usage<E: Write>(err: &mut E) -> u8 {
     let _ = err.write_all(USAGE.as_bytes());
     WRONG_WORDS
@@ -52,7 +95,7 @@ pub fn read<R: Read, O: Write, E: Write>(
 enum Stop {
     /// The input ended within a reply.
     Early,
-    /// A fault, or want of memory.
+    /// A fault, or out of memory.
     Refused(RedisError),
 }
 
@@ -71,7 +114,7 @@ fn print_replies<R: Read, O: Write>(
     let mut parser = Parser::new(alloc);
     let mut chunk = [0; 4096];
     for _ in 0..u64::MAX {
-        let n = reader.read(&mut chunk[..]).map_err(io_error)?;
+        let n = reader.read(&mut chunk[..]).map_err(RedisError::from)?;
         if n == 0 {
             break;
         }
@@ -149,12 +192,9 @@ fn print_packed<O: Write>(alloc: Global, words: &[String], out: &mut O) -> Redis
 }
 
 fn write_whole<O: Write>(out: &mut O, bytes: &[u8]) -> RedisResult<()> {
-    out.write_all(bytes).map_err(io_error)?;
-    out.flush().map_err(io_error)
-}
-
-fn io_error(error: io::Error) -> RedisError {
-    RedisError::from(IoKind::from(error.kind()))
+    out.write_all(bytes)?;
+    out.flush()?;
+    Ok(())
 }
 
 fn ask(alloc: Global, words: &[String], con: &mut dyn ConnectionLike) -> RedisResult<Value> {

@@ -1,10 +1,10 @@
 //! The program over memory.
 
-use crate::program::{pack, query, read};
+use crate::program::{Task, pack, print_no_words, print_usage, query, read, task_of};
 use resp_core::{ByteLink, Reading, Writing};
 use std::alloc::Global;
 use std::io;
-use std::io::{Cursor, Write};
+use std::io::{Cursor, Read, Write};
 use std::test::Fail;
 
 type Link = ByteLink<Reading<Cursor<Vec<u8>>>, Writing<Vec<u8>>>;
@@ -43,6 +43,47 @@ fn packs_a_command(rt: HostRuntime) -> Result<(), Fail> {
         assert_eq!(rt; pack(alloc, words.as_slice(), &mut out, &mut err), 0);
         assert_eq!(rt; out.as_slice(), packed.as_bytes());
         assert!(rt; err.is_empty());
+    }
+    Ok(())
+}
+
+#[test]
+fn words_name_a_task(rt: HostRuntime) -> Result<(), Fail> {
+    let alloc = rt.alloc();
+    for (words, task) in [
+        (words_of(alloc, &[])?, 'u'),
+        (words_of(alloc, &["PACK", "GET"])?, 'u'),
+        (words_of(alloc, &["pack"])?, 'p'),
+        (words_of(alloc, &["read"])?, 'r'),
+        (words_of(alloc, &["read", "more"])?, 'u'),
+        (words_of(alloc, &["query", "GET", "k"])?, 'q'),
+    ] {
+        let found = match task_of(words.as_slice()) {
+            Task::Pack(rest) => ('p', rest.len()),
+            Task::Read => ('r', 0),
+            Task::Query(rest) => ('q', rest.len()),
+            Task::Usage => ('u', 0),
+        };
+        let rest = words.len().saturating_sub(1);
+        let wanted = if task == 'p' || task == 'q' { rest } else { 0 };
+        assert_eq!(rt; found, (task, wanted));
+    }
+    let mut err: Vec<u8> = Vec::new(alloc);
+    assert_eq!(rt; print_usage(&mut err), 1);
+    assert_eq!(rt; err.as_slice(), USAGE.as_bytes());
+    Ok(())
+}
+
+#[test]
+fn words_that_cannot_be_had(rt: HostRuntime) -> Result<(), Fail> {
+    let alloc = rt.alloc();
+    for (kind, printed, status) in [
+        (io::ErrorKind::OutOfMemory, "refused: out of memory\n", 2),
+        (io::ErrorKind::InvalidData, USAGE, 1),
+    ] {
+        let mut err: Vec<u8> = Vec::new(alloc);
+        assert_eq!(rt; print_no_words(&io::Error::from(kind), &mut err), status);
+        assert_eq!(rt; err.as_slice(), printed.as_bytes());
     }
     Ok(())
 }
@@ -157,6 +198,35 @@ impl Write for Closed {
     fn flush(&mut self) -> io::Result<()> {
         Ok(())
     }
+}
+
+/// Gives one whole reply, and then a fault.
+#[derive(Drop)]
+struct Broken {
+    given: bool,
+}
+
+impl Read for Broken {
+    fn read(&mut self, buf: &mut [u8]) -> io::Result<usize> {
+        if self.given || buf.len() < 4 {
+            return Err(io::Error::from(io::ErrorKind::ConnectionReset));
+        }
+        self.given = true;
+        buf[..4].copy_from_slice(b":1\r\n");
+        Ok(4)
+    }
+}
+
+#[test]
+fn a_reader_that_fails(rt: HostRuntime) -> Result<(), Fail> {
+    let alloc = rt.alloc();
+    let mut out: Vec<u8> = Vec::new(alloc);
+    let mut err: Vec<u8> = Vec::new(alloc);
+    let mut reader = Broken { given: false };
+    assert_eq!(rt; read(alloc, &mut reader, &mut out, &mut err), 2);
+    assert_eq!(rt; out.as_slice(), b"int(1)\n".as_slice());
+    assert_eq!(rt; err.as_slice(), b"refused: I/O error\n".as_slice());
+    Ok(())
 }
 
 #[test]
