@@ -75,6 +75,23 @@ fn values_held_after_a_reader_ended(rt: HostRuntime) {
 }
 
 #[test]
+fn parse_value_reads_no_further(rt: HostRuntime) {
+    let script = &[
+        Step::Moves(b":1\r"),
+        Step::Moves(b"\n:2"),
+        Step::Moves(b"\r\n"),
+    ];
+    let mut reader = ScriptedReader::new(script);
+    let mut parser = Parser::new(rt.alloc());
+    let first = parser.parse_value(&mut reader).expect(&rt, "no refusal");
+    assert_eq!(rt; first, Value::Int(1));
+    assert_eq!(rt; reader.calls, 2);
+    let second = parser.parse_value(&mut reader).expect(&rt, "no refusal");
+    assert_eq!(rt; second, Value::Int(2));
+    assert_eq!(rt; reader.calls, 3);
+}
+
+#[test]
 fn one_read_a_fill(rt: HostRuntime) {
     let script = &[Step::Fails(ErrorKind::Interrupted), Step::Moves(b":7\r\n")];
     let mut source = Reading::new(ScriptedReader::new(script));
