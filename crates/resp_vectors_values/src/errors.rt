@@ -56,9 +56,9 @@ fn items_as_a_slice(rt: HostRuntime) {
     );
     assert_eq!(rt; items[2], 5);
     assert!(rt; items.get(3).is_none());
-    let mut sum = 0;
+    let mut sum = 0_i32;
     for item in &items {
-        sum += *item;
+        sum = sum.saturating_add(*item);
     }
     assert_eq!(rt; sum, 12);
     assert_eq!(rt; items.iter().rev().copied().next(), Some(5));
