@@ -142,7 +142,7 @@ struct Asked {
 impl ReplySource for Asked {
     ghost use Rattle.std.specs.Prelude.{false, []};
 
-    ghost source = { λ _. record { tells = false; bytes = []; failures = 0 } };
+    ghost source = { λ _. record { observable = false; bytes = []; failures = 0 } };
 
     fn fill(&mut self, buf: &mut [u8]) -> Result<usize, IoKind> {
         if buf.len() > self.most {
