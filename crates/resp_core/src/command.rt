@@ -51,8 +51,8 @@ impl Cmd {
 
     /// Adds an argument, or as many as it gives.
     ///
-    /// Fails with kind `Client` for a value that can't be written, and else only for want of
-    /// memory; the command is then as it was.
+    /// Fails with kind `Client` for a value that can't be written, and else only with
+    /// `OutOfMemory`; the command is then as it was.
     pub fn arg<T: ToRedisArgs + Drop>(&mut self, arg: T) -> RedisResult<&mut Self>
         ensures same { IfOk result (λ c. c.ghost_name ≡ self.entry.ghost_name) }
         ensures given { IfOk result (λ c. Appends (T.gives arg) self.old.args c.now.args) }
