@@ -1,5 +1,5 @@
-pub mod Exchanging
-pub mod Prefixes
-pub mod Numerals
-pub mod Sending
-pub mod Spelling
+pub mod DecimalReadsBack
+pub mod LinkExchanges
+pub mod PackedReadsBack
+pub mod PrefixOfPrefix
+pub mod SentSoFar

@@ -11,12 +11,14 @@ use Rattle.resp_core.specs.Command.{Command}
 use Rattle.resp_core.specs.Connection.{Connection, SameKind, Exchange}
 
 -- a connection that broke before refuses, and nothing changes
-pub record RefusesBroken {A : Type 0} (old new : Connection) (r : Result A RedisError) : Type 0 where
+pub record RefusesBroken {A : Type 0} (old new : Connection)
+    (r : Result A RedisError) : Type 0 where
   pub answer : r ≡ Err (General kind.Io (codes "link is broken") None)
   pub same : new ≡ old
 
 -- an empty command is refused unsent
-pub record RefusesEmpty {A : Type 0} (old new : Connection) (r : Result A RedisError) : Type 0 where
+pub record RefusesEmpty {A : Type 0} (old new : Connection)
+    (r : Result A RedisError) : Type 0 where
   pub answer : r ≡ Err (General kind.Client (codes "empty command") None)
   pub same : new ≡ old
 
@@ -31,12 +33,15 @@ AnswersReply answers (reply ∷ []) = answers reply
 AnswersReply answers (reply ∷ next ∷ more) = ⊥
 
 -- the contract of a call that sends a command
-pub record CommandCall {A : Type 0} (old new : Connection) (c : Command) (r : Result A RedisError) (answers : Value → Type 0) : Type 0 where
+pub record CommandCall {A : Type 0} (old new : Connection) (c : Command)
+    (r : Result A RedisError) (answers : Value → Type 0) : Type 0 where
   pub same : SameKind old new
   pub when_broken : old.broken ≡ true → RefusesBroken old new r
   pub when_empty : old.broken ≡ false → c.args ≡ [] → RefusesEmpty old new r
-  pub otherwise : old.broken ≡ false → c.args ≢ [] → Exchange old new (packed c.args) (needed c) r (AnswersReply answers)
+  pub otherwise : old.broken ≡ false → c.args ≢ [] →
+      Exchange old new (packed c.args) (needed c) r (AnswersReply answers)
 
 -- what a query makes of a reply: its first server error, if there is one, else its conversion
 abbrev pub Answers : {A : Type 0} → (Value → A → Type 0) → Result A RedisError → Value → Type 0
-Answers of_value r reply = MatchOption (first_error reply) (ConvertsCall (of_value reply) r) (λ e. r ≡ Err (Server e))
+Answers of_value r reply =
+    MatchOption (first_error reply) (ConvertsCall (of_value reply) r) (λ e. r ≡ Err (Server e))

@@ -7,7 +7,7 @@ use Rattle.resp_value.specs.declared.errors.parsing_error.ParsingError.TheVarian
 use Rattle.resp_value.specs.declared.errors.redis_error.RedisError.{RedisError}
 use Rattle.resp_value.specs.declared.errors.redis_error.RedisError.TheVariants.{Io, Parse, OutOfMemory}
 use Rattle.resp_parse.specs.Source.{FailureCounted}
-use Rattle.resp_core.specs.Sinks.{SentPrefix}
+use Rattle.resp_core.specs.Sink.{SentPrefix}
 use Rattle.resp_core.specs.Taken.{TakesAll, TakesFault, TakesEarly, TakesTooLittle}
 
 pub record Connection : Type 0 where
@@ -24,7 +24,8 @@ pub record Connection : Type 0 where
   pub source_failures : ℕ
   pub sink_failures : ℕ
 
--- a connection that doesn't tell its bytes and takes one command at a time: only whether it is broken is known
+-- a connection that doesn't tell its bytes and takes one command at a time: only whether it is
+-- broken is known
 abbrev pub untold : Bool → Connection
 untold broken = record {
   observable = false;
@@ -52,7 +53,8 @@ pub record NoFailure (old new : Connection) : Type 0 where
   pub sink : new.sink_failures ≡ old.sink_failures
 
 -- the replies came: they are answered, every later byte is kept, and the connection is usable
-pub record Replied (old new : Connection) (q : List ℕ) (n : ℕ) (answers : List Value → Type 0) : Type 0 where
+pub record Replied (old new : Connection) (q : List ℕ) (n : ℕ)
+    (answers : List Value → Type 0) : Type 0 where
   pub replies : List Value
   pub enough : length replies ≡ n
   pub sent : Sent old new q
@@ -62,7 +64,8 @@ pub record Replied (old new : Connection) (q : List ℕ) (n : ℕ) (answers : Li
   pub answer : answers replies
 
 -- a fault stands in the place of a reply
-pub record Faulted {A : Type 0} (old new : Connection) (q : List ℕ) (n : ℕ) (result : Result A RedisError) : Type 0 where
+pub record Faulted {A : Type 0} (old new : Connection) (q : List ℕ) (n : ℕ)
+    (result : Result A RedisError) : Type 0 where
   pub fault : FrameFault
   pub sent : Sent old new q
   pub takes : old.observable ≡ true → TakesFault n old.incoming fault
@@ -70,8 +73,9 @@ pub record Faulted {A : Type 0} (old new : Connection) (q : List ℕ) (n : ℕ) 
   pub no_failure : NoFailure old new
   pub answer : result ≡ Err (Parse (Fault fault))
 
--- the bytes to come end too early
-pub record Ended {A : Type 0} (old new : Connection) (q : List ℕ) (n : ℕ) (result : Result A RedisError) : Type 0 where
+-- the incoming bytes end too early
+pub record Ended {A : Type 0} (old new : Connection) (q : List ℕ) (n : ℕ)
+    (result : Result A RedisError) : Type 0 where
   pub sent : Sent old new q
   pub takes : old.observable ≡ true → TakesEarly n old.incoming
   pub broken : new.broken ≡ true
@@ -83,7 +87,8 @@ IsIo (Io kind) = Unit {0}
 IsIo _ = ⊥
 
 -- the sink failed: a prefix of the request was sent, and nothing was taken
-pub record SendFailed {A : Type 0} (old new : Connection) (q : List ℕ) (result : Result A RedisError) : Type 0 where
+pub record SendFailed {A : Type 0} (old new : Connection) (q : List ℕ)
+    (result : Result A RedisError) : Type 0 where
   pub sent : old.observable ≡ true → SentPrefix old.sent new.sent q
   pub incoming : old.observable ≡ true → new.incoming ≡ old.incoming
   pub broken : new.broken ≡ true
@@ -91,8 +96,10 @@ pub record SendFailed {A : Type 0} (old new : Connection) (q : List ℕ) (result
   pub counted : FailureCounted old.sink_failures new.sink_failures
   pub answer : IsErrAnd result IsIo
 
--- the source failed: the request was sent, and a prefix of the bytes to come was taken, which is too little
-pub record ReceiveFailed {A : Type 0} (old new : Connection) (q : List ℕ) (n : ℕ) (result : Result A RedisError) : Type 0 where
+-- the source failed: the request was sent, and a prefix of the incoming bytes was taken, which is
+-- too little
+pub record ReceiveFailed {A : Type 0} (old new : Connection) (q : List ℕ) (n : ℕ)
+    (result : Result A RedisError) : Type 0 where
   pub sent : Sent old new q
   pub takes : old.observable ≡ true → TakesTooLittle n old.incoming
   pub broken : new.broken ≡ true
@@ -105,15 +112,19 @@ pub record BrokenMidway (old new : Connection) (q : List ℕ) : Type 0 where
   pub sent : old.observable ≡ true → SentPrefix old.sent new.sent q
   pub broken : new.broken ≡ true
 
--- memory ran out, and neither source nor sink failed: nothing was sent and nothing changed, or midway
-pub record RanOutOfMemory {A : Type 0} (old new : Connection) (q : List ℕ) (result : Result A RedisError) : Type 0 where
+-- memory ran out, and neither source nor sink failed: nothing was sent and nothing changed, or it
+-- broke midway
+pub record RanOutOfMemory {A : Type 0} (old new : Connection) (q : List ℕ)
+    (result : Result A RedisError) : Type 0 where
   pub answer : result ≡ Err OutOfMemory
   pub no_failure : NoFailure old new
   pub left : (new ≡ old) ⊎ BrokenMidway old new q
 
--- what a call does that sends q and needs n replies; answers says what the replies make of it. What bytes were sent
--- and taken is said where the connection tells them; how the connection is left, always
-pub data Exchange {A : Type 0} (old new : Connection) (q : List ℕ) (n : ℕ) (result : Result A RedisError) (answers : List Value → Type 0) : Type 0 where
+-- what a call does that sends q and needs n replies; answers says what the replies make of it. What
+-- bytes were sent and taken is said where the connection tells them; how the connection is left,
+-- always
+pub data Exchange {A : Type 0} (old new : Connection) (q : List ℕ) (n : ℕ)
+    (result : Result A RedisError) (answers : List Value → Type 0) : Type 0 where
   replied : Replied old new q n answers → Exchange old new q n result answers
   faulted : Faulted old new q n result → Exchange old new q n result answers
   ended : Ended old new q n result → Exchange old new q n result answers

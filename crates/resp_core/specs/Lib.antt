@@ -5,6 +5,6 @@ pub mod Linking
 pub mod Packed
 pub mod PackingLaw
 pub mod Replies
-pub mod Sinks
+pub mod Sink
 pub mod Taken
 pub mod Connection

@@ -3,7 +3,7 @@ use Rattle.std.specs.Prelude.{◌≡◌, ℕ, ◌&&◌, Bool, true, List, ◌++�
 use Rattle.resp_value.specs.declared.value.Value.{Value}
 use Rattle.resp_value.specs.declared.errors.redis_error.RedisError.{RedisError}
 use Rattle.resp_parse.specs.Source.{End}
-use Rattle.resp_core.specs.Sinks.{Sink}
+use Rattle.resp_core.specs.Sink.{Sink}
 use Rattle.resp_core.specs.Connection.{Connection, SameKind, Exchange}
 use Rattle.resp_core.specs.Call.{AnswersReply}
 
@@ -20,7 +20,10 @@ connection_of source sink unparsed broken = record {
   sink_failures = sink.failures;
 }
 
--- what the exchange of a connection does that isn't broken: its one reply is the answer, or nil where none is needed
-pub record Exchanges (old new : Connection) (q : List ℕ) (no_response : Bool) (result : Result Value RedisError) : Type 0 where
+-- what the exchange of a connection does that isn't broken: its one reply is the answer, or nil
+-- where none is needed
+pub record Exchanges (old new : Connection) (q : List ℕ) (no_response : Bool)
+    (result : Result Value RedisError) : Type 0 where
   pub same : SameKind old new
-  pub exchange : Exchange old new q (if no_response then 0 else 1) result (AnswersReply (λ reply. result ≡ Ok reply))
+  pub exchange : Exchange old new q (if no_response then 0 else 1) result
+      (AnswersReply (λ reply. result ≡ Ok reply))

@@ -17,6 +17,7 @@ mod link;
 mod packing;
 mod sink;
 mod start;
+mod writing;
 
 pub use command::Cmd;
 pub use link::{ByteLink, ConnectionLike};
@@ -33,5 +34,6 @@ pub use resp_value::{
     PushInfo, PushKind, RedisError, RedisResult, ServerError, ServerErrorKind, Text, Value,
     VerbatimFormat, get_push_kind, verbatim_format,
 };
-pub use sink::{CommandSink, Writing};
+pub use sink::CommandSink;
 pub use start::cmd;
+pub use writing::Writing;

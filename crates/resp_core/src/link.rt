@@ -3,13 +3,14 @@
 ghost use Rattle.std.specs.Prelude.{◌≡◌, [], true, false, Ok};
 ghost use Rattle.resp_parse.specs.State.{IsBetweenValues, IsBetweenValues-prop};
 ghost use Rattle.resp_parse.specs.Source.{end_of};
-ghost use Rattle.resp_core.specs.Sinks.{sink_of};
+ghost use Rattle.resp_core.specs.Sink.{sink_of};
 ghost use Rattle.resp_core.specs.Connection.{Connection};
 ghost use Rattle.resp_core.specs.Call.{CommandCall};
 ghost use Rattle.resp_core.specs.Linking.{Exchanges, connection_of};
 
 use crate::command::Cmd;
-use crate::sink::{CommandSink, Writing, send_all};
+use crate::sink::{CommandSink, send_all};
+use crate::writing::Writing;
 use resp_parse::{Parser, Reading, ReplySource};
 use resp_value::{ErrorKind, RedisError, RedisResult, Value};
 use std::alloc::Global;
@@ -17,7 +18,7 @@ use std::io::{Read, Write};
 
 /// A connection to a server: something that takes requests and answers replies.
 pub trait ConnectionLike {
-    /// What is known of it: what was sent, what is to come, whether it is broken.
+    /// What is known of it: what was sent, what is incoming, whether it is broken.
     ghost connection: { Self → Connection };
 
     /// Sends a command and answers its reply, or `Nil` at once where none is waited for.

@@ -1,4 +1,4 @@
-use Rattle.resp_core.proofs.Prefixes.{prefix_of_prefix}
+use Rattle.resp_core.proofs.PrefixOfPrefix.{prefix_of_prefix}
 use Rattle.resp_core.proofs.packing.append_packed.Goals as goal
 
 pub returns-in_err-append_bulk-clause-prefix : goal.returns-in_err-append_bulk-clause-prefix

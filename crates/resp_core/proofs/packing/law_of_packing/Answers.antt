@@ -1,4 +1,4 @@
-use Rattle.resp_core.proofs.Spelling.{packed_reads_only}
+use Rattle.resp_core.proofs.PackedReadsBack.{packed_reads_only}
 use Rattle.resp_core.proofs.packing.law_of_packing.Goals as goal
 
 pub returns : goal.returns

@@ -1,5 +1,5 @@
 use Rattle.std.proofs.lemmas.Result.{err_from_is_err_and}
-use Rattle.resp_core.proofs.Sending.{sent_more, sending_failed}
+use Rattle.resp_core.proofs.SentSoFar.{sent_more, sending_failed}
 use Rattle.resp_core.proofs.sink.send_all.Goals as goal
 
 pub loop-done-preserved : goal.loop-done-preserved

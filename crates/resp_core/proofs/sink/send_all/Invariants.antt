@@ -1,5 +1,5 @@
 use Rattle.std.proofs.Common.{◌-◌, length}
-use Rattle.resp_core.proofs.Sending.{SentSoFar}
+use Rattle.resp_core.proofs.SentSoFar.{SentSoFar}
 use Rattle.resp_core.proofs.sink.send_all.Given as goal
 
 abbrev pub invariant-loop-done : goal.invariant-loop-done

@@ -1,5 +1,5 @@
 use Rattle.std.proofs.lemmas.Result.{err_from_is_err_and}
-use Rattle.resp_core.proofs.Exchanging.{not_waited, answered, unanswered}
+use Rattle.resp_core.proofs.LinkExchanges.{not_waited, answered, unanswered}
 use Rattle.resp_core.proofs.link.ByteLink.exchange.Goals as goal
 
 pub returns-then-no_response : goal.returns-then-no_response

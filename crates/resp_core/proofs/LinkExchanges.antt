@@ -11,36 +11,24 @@ use Rattle.resp_parse.specs.State.{State}
 use Rattle.resp_parse.proofs.Come.{HasGoodPrefix-whole, HasFaultyPrefix-whole, IsUnfinished-whole}
 use Rattle.resp_parse.specs.Parses.{Parses, Parsed, CannotParse, faulty, early, interrupted, out_of_memory}
 use Rattle.resp_core.specs.Linking.{connection_of, Exchanges}
-use Rattle.resp_core.specs.Sinks.{Sink, SendsAll}
+use Rattle.resp_core.specs.Sink.{Sink, SendsAll}
 use Rattle.resp_core.specs.Taken.{TakesAll, TakesFault, TakesEarly}
 use Rattle.resp_core.specs.Connection as connection
-use Rattle.resp_core.specs.Connection.{Connection, SameKind, Sent, Exchange, replied, faulted}
-
--- a prefix that reads as these values, and the rest
-pub record PrefixReads (d : ℕ) (b : List ℕ) (vs : List Value) (rest : List ℕ) : Type 0 where
-  pub prefix : List ℕ
-  pub whole : b ≡ prefix ++ rest
-  pub reads : Reads d prefix vs
-
-pub prefix_none : (d : ℕ) (b : List ℕ) → PrefixReads d b [] b
-unfolding Reads
-prefix_none d b = record { prefix = []; whole = refl; reads = refl }
-
-pub prefix_one : (d : ℕ) (b rest : List ℕ) (v : Value) → HasGoodPrefix d b v rest → PrefixReads d b (v ∷ []) rest
-unfolding HasGoodPrefix Reads
-prefix_one d b rest v h = record { prefix = h.0; whole = h.1; reads = (h.0, [], sym (append-nil h.0), h.2, refl) }
+use Rattle.resp_core.specs.Connection.{SameKind, Sent, Exchange, replied, faulted}
 
 takes_none : (b : List ℕ) → TakesAll b [] b
-takes_none b = let f = prefix_none 100 b in record { prefix = f.prefix; whole = f.whole; reads = f.reads }
+unfolding Reads
+takes_none b = record { prefix = []; whole = refl; reads = refl }
 
 takes_one : (b rest : List ℕ) (v : Value) → HasGoodPrefix 100 b v rest → TakesAll b (v ∷ []) rest
-takes_one b rest v h = let f = prefix_one 100 b rest v h in record { prefix = f.prefix; whole = f.whole; reads = f.reads }
+unfolding HasGoodPrefix Reads
+takes_one b rest v h = record { prefix = h.0; whole = h.1; reads = (h.0, [], sym (append-nil h.0), h.2, refl) }
 
 takes_fault : (b : List ℕ) (f : FrameFault) → HasFaultyPrefix 100 b f → TakesFault 1 b f
-takes_fault b f h = let r = prefix_none 100 b in record { replies = []; prefix = r.prefix; rest = b; whole = r.whole; reads = r.reads; few = omega arith; faulty = h }
+takes_fault b f h = let none = takes_none b in record { replies = []; prefix = none.prefix; rest = b; whole = none.whole; reads = none.reads; few = omega arith; faulty = h }
 
 takes_early : (b : List ℕ) → IsUnfinished 100 b → TakesEarly 1 b
-takes_early b h = let r = prefix_none 100 b in record { replies = []; prefix = r.prefix; rest = b; whole = r.whole; reads = r.reads; few = omega arith; unfinished = h }
+takes_early b h = let none = takes_none b in record { replies = []; prefix = none.prefix; rest = b; whole = none.whole; reads = none.reads; few = omega arith; unfinished = h }
 
 both_true : (a b : Bool) → (a && b) ≡ true → (a ≡ true) × (b ≡ true)
 both_true true b h = (refl, h)
@@ -127,7 +115,10 @@ missed s s' k k' unparsed new b q e answers sending (interrupted kind is midway)
 missed s s' k k' unparsed new b q e answers sending (out_of_memory filled is failed) = connection.out_of_memory (record {
   answer = ap Err is;
   no_failure = record { source = failed.failures; sink = sending.failures };
-  left = inr (record { sent = λ told. (q, [], sym (append-nil q), sending.bytes (both_true s.observable k.observable told).1); broken = refl });
+  left = inr (record {
+    sent = λ told. record { prefix = q; rest = []; whole = sym (append-nil q); sent = sending.bytes (both_true s.observable k.observable told).1 };
+    broken = refl;
+  });
 })
 
 -- no reply came

@@ -4,7 +4,7 @@ use Rattle.std.proofs.lemmas.Grind.{common_steps}
 use Rattle.std.proofs.lemmas.List.{take-append-drop, take_all}
 use Rattle.std.proofs.Math.Seq.{take-add}
 use Rattle.resp_value.specs.declared.errors.kinds.IoKind.{IoKind}
-use Rattle.resp_core.specs.Sinks.{Sink, Sends, SendsAll}
+use Rattle.resp_core.specs.Sink.{Sink, Sends, SendsAll}
 
 -- the first bytes of the request were sent
 pub record SentSoFar (start now : Sink) (q : List ℕ) (done : ℕ) : Type 0 where
@@ -32,6 +32,11 @@ pub sending_failed : (start now next : Sink) (q given : List ℕ) (done : ℕ) (
 sending_failed start now next q given done kind so_far step = record {
   observable = λ told. step.observable (so_far.observable told);
   failures = rw (← so_far.failures) step.failures;
-  bytes = λ told. (take done q, drop done q, sym (take-append-drop done q), step.bytes (so_far.observable told) ∙ so_far.bytes told);
+  bytes = λ told. record {
+    prefix = take done q;
+    rest = drop done q;
+    whole = sym (take-append-drop done q);
+    sent = step.bytes (so_far.observable told) ∙ so_far.bytes told;
+  };
   flushed = tt;
 }

@@ -17,7 +17,7 @@ use Rattle.resp_parse.specs.Grammar.{Good, Header, Joined, is_type, next, body, 
 use Rattle.resp_value.specs.declared.errors.kinds.FrameFault.TheVariants.{NotInteger}
 use Rattle.resp_core.specs.Packed.{length_line, bulk, packed, as_value}
 use Rattle.resp_core.specs.PackingLaw.{LawOfPacking}
-use Rattle.resp_core.proofs.Numerals.{own, number-decimal}
+use Rattle.resp_core.proofs.DecimalReadsBack.{own, number-decimal}
 
 -- no line break stands among digits
 digits_unbroken : (ds : List ℕ) → all_ascii_digits ds ≡ true → NoBreak ds
