@@ -25,11 +25,6 @@ pub ConvertsList-err : {X : Type 0} (Fits : List X → Type 0) (r : Result (Vec 
 ConvertsList-err Fits (Ok x) e h f = absurd (cc (h.0))
 ConvertsList-err {X} Fits (Err d) e h f = subst (λ b. RefusesIf b ((xs : List X) → Fits xs → ⊥)) (sym h.1) f
 
--- what fits one relation fits the other, and so for refusals
-pub ConvertsList-along : {X : Type 0} (P Q : List X → Type 0) (r : Result (Vec X Global) ParsingError) → ((xs : List X) → P xs → Q xs) → ((xs : List X) → Q xs → P xs) → ConvertsList P r → ConvertsList Q r
-ConvertsList-along P Q (Ok v) to from h = to v.items h
-ConvertsList-along P Q (Err e) to from h = RefusesIf-along e (λ none xs q. none xs (from xs q)) h
-
 -- a list as a vector
 pub Converts-list : {X : Type 0} (Fits : List X → Type 0) (r : Result (Vec X Global) ParsingError) → ConvertsList Fits r → Converts (λ v. Fits v.items) r
 Converts-list Fits (Ok v) h = h

@@ -1,5 +1,5 @@
 pub mod Conversions
-pub mod Cuts
-pub mod Functions
-pub mod Layers
-pub mod Pairs
+pub mod Groups
+pub mod InTurn
+pub mod OneValueAtMost
+pub mod TopLayer

@@ -8,8 +8,8 @@ use Rattle.resp_value.specs.declared.errors.redis_error.RedisError.{RedisError}
 use Rattle.resp_value.specs.declared.errors.redis_error.RedisError.TheVariants as form
 use Rattle.resp_value.specs.declared.value.Value.{Value}
 
--- the error may be answered where the fact holds: a refusal needs it, out of memory doesn't, and a fault of framing
--- is never answered
+-- the error may be answered where the fact holds: a refusal needs it, out of memory doesn't, and a
+-- fault of framing is never answered
 abbrev pub RefusesIf : ParsingError → Type 0 → Type 0
 RefusesIf (parsing.Described text) P = P
 RefusesIf (parsing.Fault fault) P = ⊥
@@ -21,19 +21,24 @@ Converts Fits (Ok x) = Fits x
 Converts {X} Fits (Err e) = RefusesIf e ((x : X) → Fits x → ⊥)
 
 -- the same of a list
-abbrev pub ConvertsList : {X : Type 0} → (List X → Type 0) → Result (Vec X Global) ParsingError → Type 0
+abbrev pub ConvertsList : {X : Type 0} → (List X → Type 0) → Result (Vec X Global) ParsingError
+    → Type 0
 ConvertsList Fits (Ok v) = Fits v.items
 ConvertsList {X} Fits (Err e) = RefusesIf e ((xs : List X) → Fits xs → ⊥)
 
 -- the same, where a refusal is no error of the call
-abbrev pub ConvertsMaybe : {X : Type 0} → (List X → Type 0) → Result (Option (Vec X Global)) ParsingError → Type 0
+abbrev pub ConvertsMaybe : {X : Type 0} → (List X → Type 0)
+    → Result (Option (Vec X Global)) ParsingError → Type 0
 ConvertsMaybe Fits (Ok (Some v)) = Fits v.items
 ConvertsMaybe {X} Fits (Ok None) = (xs : List X) → Fits xs → ⊥
 ConvertsMaybe Fits (Err e) = e ≡ parsing.OutOfMemory
 
 -- the reply is a value of one type, and the other value may be made of it
-abbrev pub OfMade : {T X : Type 0} → (Value → T → Type 0) → (T → X → Type 0) → Value → X → Type 0
-OfMade {T} Of Makes reply x = (t : T) × Of reply t × Makes t x
+pub record OfMade {T X : Type 0} (Of : Value → T → Type 0) (Makes : T → X → Type 0)
+    (reply : Value) (x : X) : Type 0 where
+  pub made_of : T
+  pub fits : Of reply made_of
+  pub makes : Makes made_of x
 
 -- what a conversion may answer that may take memory
 abbrev pub AnyError : Value → ParsingError → Type 0
@@ -43,24 +48,26 @@ AnyError reply e = Unit {0}
 abbrev pub AnyButMemory : Value → ParsingError → Type 0
 AnyButMemory reply e = e ≢ parsing.OutOfMemory
 
--- what a conversion of a borrowed reply may answer: `OutOfMemory` for its copy, or what the conversion of the copy answers
+-- what a conversion of a borrowed reply may answer: `OutOfMemory` for its copy, or what the
+-- conversion of the copy answers
 abbrev pub OrMemory : (ParsingError → Type 0) → ParsingError → Type 0
 OrMemory Answers e = (e ≡ parsing.OutOfMemory) ⊎ Answers e
 
--- the error is a refusal: neither out of memory nor a fault of framing
-abbrev pub IsRefusal : ParsingError → Type 0
-IsRefusal (parsing.Described text) = Unit {0}
-IsRefusal (parsing.Fault fault) = ⊥
-IsRefusal parsing.OutOfMemory = ⊥
+-- the error describes a refusal: it is neither out of memory nor a fault of framing
+abbrev pub IsDescribed : ParsingError → Type 0
+IsDescribed (parsing.Described text) = Unit {0}
+IsDescribed (parsing.Fault fault) = ⊥
+IsDescribed parsing.OutOfMemory = ⊥
 
 -- the value fits, or it is a refusal and none fits
 abbrev pub Decides : {X : Type 0} → (X → Type 0) → Result X ParsingError → Type 0
 Decides Fits (Ok x) = Fits x
-Decides {X} Fits (Err e) = IsRefusal e × ((x : X) → Fits x → ⊥)
+Decides {X} Fits (Err e) = IsDescribed e × ((x : X) → Fits x → ⊥)
 
--- the error of a whole call may be answered where the fact holds; out of memory in a call is `OutOfMemory` alone
+-- the error of a whole call may be answered where the fact holds; out of memory in a call is
+-- `OutOfMemory` alone
 abbrev pub CallRefusesIf : RedisError → Type 0 → Type 0
-CallRefusesIf (form.Parse e) P = IsRefusal e × P
+CallRefusesIf (form.Parse e) P = IsDescribed e × P
 CallRefusesIf form.OutOfMemory P = Unit {0}
 CallRefusesIf _ P = ⊥
 

@@ -5,15 +5,17 @@ use Rattle.std.specs.Str.{IsUtf8}
 use Rattle.std.specs.Str.Parse.{IsNumeral, digits_value, signed_digits_value, without_leading_plus, without_leading_sign}
 use Rattle.resp_value.specs.declared.value.Value.{Value, out-Value}
 use Rattle.resp_value.specs.declared.value.Value.TheOpen.{Value-F}
-use Rattle.resp_from.specs.Replies.{bare}
+use Rattle.resp_from.specs.Attributes.{bare}
 
 -- the number n is the integer x of the signed type of this width
 abbrev pub SignedNumber : Width → ℤ → ℤ → Type 0
 SignedNumber w n x = FitsSigned w n × (x ≡ n)
 
--- the text is an optional sign and digits, and writes the integer x of the signed type of this width
+-- the text is an optional sign and digits, and writes the integer x of the signed type of this
+-- width
 abbrev pub SignedText : Width → List ℕ → ℤ → Type 0
-SignedText w text x = IsNumeral 10 (without_leading_sign text) × SignedNumber w (signed_digits_value 10 text) x
+SignedText w text x =
+    IsNumeral 10 (without_leading_sign text) × SignedNumber w (signed_digits_value 10 text) x
 
 -- the number n is the integer x of the unsigned type of k bits
 abbrev pub UnsignedNumber : ℕ → ℤ → ℕ → Type 0
@@ -21,10 +23,13 @@ UnsignedNumber k n x = (x < 2 ^ k) × (n ≡ pos x)
 
 -- the text is an optional `+` and digits, and writes the integer x of the unsigned type of k bits
 abbrev pub UnsignedText : ℕ → List ℕ → ℕ → Type 0
-UnsignedText k text x = IsNumeral 10 (without_leading_plus text) × (x < 2 ^ k) × (x ≡ digits_value 10 (without_leading_plus text))
+UnsignedText k text x = IsNumeral 10 (without_leading_plus text) × (x < 2 ^ k)
+    × (x ≡ digits_value 10 (without_leading_plus text))
 
--- a reply without its attribute is the integer x: by its number, or by its text, as the type reads them
-abbrev pub IsInteger : {X : Type 0} → (ℤ → X → Type 0) → (List ℕ → X → Type 0) → Value-F Value → X → Type 0
+-- a reply without its attribute is the integer x: by its number, or by its text, as the type reads
+-- them
+abbrev pub IsInteger : {X : Type 0} → (ℤ → X → Type 0) → (List ℕ → X → Type 0) → Value-F Value → X
+    → Type 0
 IsInteger Number Writes (Value-F.Int n) x = Number n x
 IsInteger Number Writes (Value-F.SimpleString text) x = Writes text x
 IsInteger Number Writes (Value-F.BulkString bytes) x = IsUtf8 bytes × Writes bytes x

@@ -1,4 +1,5 @@
--- A reply is one value of a type at most; so two conversions of a reply that succeed give one value.
+-- A reply is one value of a type at most; so two conversions of a reply that succeed give one
+-- value.
 use Rattle.std.specs.Prelude.{◌≡◌}
 use Rattle.resp_value.specs.declared.value.Value.{Value}
 

@@ -1,9 +1,11 @@
+pub mod Attributes
+pub mod Booleans
 pub mod Conversion
 pub mod Integers
-pub mod Items
 pub mod Laws
 pub mod Lists
-pub mod Replies
-pub mod Single
+pub mod Results
+pub mod Rules
 pub mod Texts
 pub mod Tuples
+pub mod Wrappers

@@ -6,7 +6,7 @@ use Rattle.resp_value.specs.declared.errors.parsing_error.ParsingError.{ParsingE
 use Rattle.resp_value.specs.declared.value.Value.{Value, out-Value}
 use Rattle.resp_value.specs.declared.value.Value.TheOpen.{Value-F}
 use Rattle.resp_from.specs.Conversion.{RefusesIf}
-use Rattle.resp_from.specs.Replies.{bare}
+use Rattle.resp_from.specs.Attributes.{bare}
 
 -- each key before its value
 abbrev pub in_turn : List (Value × Value) → List Value
@@ -28,15 +28,16 @@ held n _ = None
 abbrev pub Holds : ℕ → Value → (List Value → Type 0) → Type 0
 Holds n reply Are = elim (held n (out-Value (bare reply))) [ Some values ↦ Are values | None ↦ ⊥ ]
 
--- the first value is this part, and the others are as the fact says
-abbrev pub First : {X : Type 0} → (Value → X → Type 0) → X → (List Value → Type 0) → List Value → Type 0
+-- the first value is this element, and the others are as the fact says
+abbrev pub First : {X : Type 0} → (Value → X → Type 0) → X → (List Value → Type 0) → List Value
+    → Type 0
 First Of x Rest [] = ⊥
 First Of x Rest (value ∷ values) = Of value x × Rest values
 
 -- there are no more values
-abbrev pub End : List Value → Type 0
-End [] = Unit {0}
-End (value ∷ values) = ⊥
+abbrev pub NoMore : List Value → Type 0
+NoMore [] = Unit {0}
+NoMore (value ∷ values) = ⊥
 
 -- finding the values that a reply holds: refused where it holds another number
 abbrev pub FindsHeld : Option (List Value) → Result (Vec Value Global) ParsingError → Type 0

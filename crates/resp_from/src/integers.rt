@@ -4,8 +4,8 @@ ghost use Rattle.std.specs.Prelude.{ℤ, ℕ, List, Bool, IfErr};
 ghost use Rattle.resp_from.specs.Conversion.{AnyButMemory, Converts, Decides};
 ghost use Rattle.resp_from.specs.Integers.{OfInteger};
 
-use crate::bare::strip_attribute_ref;
-use crate::convert::FromRedisValue;
+use crate::attributes::strip_attribute_ref;
+use crate::conversion::FromRedisValue;
 use resp_value::{ParsingError, Value};
 use std::alloc::Global;
 

@@ -2,18 +2,19 @@
 
 ghost use Rattle.std.specs.Prelude.{ℕ};
 ghost use Rattle.std.specs.Int.{Width};
+ghost use Rattle.resp_from.specs.Booleans.{OfBool};
 ghost use Rattle.resp_from.specs.Integers.{OfInteger, SignedNumber, SignedText, UnsignedNumber};
 ghost use Rattle.resp_from.specs.Integers.{UnsignedText};
-ghost use Rattle.resp_from.specs.Items.{OfItems};
 ghost use Rattle.resp_from.specs.Laws.{IsFunction};
-ghost use Rattle.resp_from.specs.Single.{OfBool, OfOption};
+ghost use Rattle.resp_from.specs.Lists.{OfVec};
 ghost use Rattle.resp_from.specs.Texts.{OfText};
+ghost use Rattle.resp_from.specs.Wrappers.{OfOption};
 
-use crate::convert::FromRedisValue;
+use crate::conversion::FromRedisValue;
 
 /// A reply is one integer of a type at most, one truth value and one text. So an owned and a
 /// borrowed conversion, which meet one contract, give equal values where both succeed.
-#[tactic(auto, using(crate::proofs::Functions::functions))]
+#[tactic(auto, using(crate::proofs::OneValueAtMost::functions))]
 pub fn law_of_one_value()
     ensures signed { (w : Width) → IsFunction (OfInteger (SignedNumber w) (SignedText w)) }
     ensures unsigned { (k : ℕ) → IsFunction (OfInteger (UnsignedNumber k) (UnsignedText k)) }
@@ -22,15 +23,15 @@ pub fn law_of_one_value()
 {}
 
 /// The same of an `Option`, where it holds of what is inside.
-#[tactic(auto, using(crate::proofs::Functions::option_function))]
+#[tactic(auto, using(crate::proofs::OneValueAtMost::option_function))]
 pub fn law_of_one_option<T: FromRedisValue>()
     requires inside { IsFunction T.of_value }
     ensures option { IsFunction (OfOption T.of_value) }
 {}
 
 /// The same of the items of a `Vec`, where it holds of each item.
-#[tactic(auto, using(crate::proofs::Functions::items_function))]
+#[tactic(auto, using(crate::proofs::OneValueAtMost::vec_function))]
 pub fn law_of_one_list<T: FromRedisValue>()
     requires inside { IsFunction T.of_value }
-    ensures items { IsFunction (OfItems T.WIDTH T.BYTES T.of_value) }
+    ensures items { IsFunction (OfVec T.WIDTH T.BYTES T.of_value) }
 {}

@@ -1,15 +1,17 @@
 //! Conversions of replies to Rust values.
 #![tactic(auto)]
 
-mod bare;
-mod convert;
+mod attributes;
+mod booleans;
+mod conversion;
 mod integers;
 pub mod laws;
 mod lists;
+mod results;
 mod rules;
-mod single;
 mod texts;
 mod tuples;
 mod values;
+mod wrappers;
 
-pub use convert::{FromRedisValue, from_redis_value, from_redis_value_by, from_redis_value_ref};
+pub use conversion::{FromRedisValue, from_redis_value, from_redis_value_by, from_redis_value_ref};

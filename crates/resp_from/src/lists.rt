@@ -1,9 +1,9 @@
 //! Replies as lists.
 
 ghost use Rattle.std.specs.Prelude.{◌≡◌, IfOk};
-ghost use Rattle.resp_from.specs.Items.{single_maps};
+ghost use Rattle.resp_from.specs.Lists.{single_maps};
 
-use crate::convert::FromRedisValue;
+use crate::conversion::FromRedisValue;
 use crate::rules::convert_each;
 use resp_value::{Items, ParsingError, Value};
 use std::alloc::{AllocError, Global};
@@ -24,13 +24,13 @@ fn maps_of_one(alloc: Global, pairs: Items<(Value, Value)>) -> Result<Vec<Value>
 /// each as a map of one pair; a bulk string, as `from_byte_vec` says; or nothing, which is empty.
 /// No attribute is removed.
 impl<T: FromRedisValue> FromRedisValue for Vec<T> {
-    ghost use Rattle.resp_from.specs.Items.{OfItems};
+    ghost use Rattle.resp_from.specs.Lists.{OfVec};
 
     const WIDTH: usize = 0;
 
     const BYTES: bool = false;
 
-    ghost of_value = { λ reply v. OfItems T.WIDTH T.BYTES T.of_value reply v.items };
+    ghost of_value = { λ reply v. OfVec T.WIDTH T.BYTES T.of_value reply v.items };
 
     fn from_redis_value(alloc: Global, value: Value) -> Result<Vec<T>, ParsingError> {
         match value {

@@ -5,9 +5,9 @@ ghost use Rattle.std.specs.List.{AllZip, list_all};
 ghost use Rattle.resp_value.specs.declared.errors.parsing_error.ParsingError.TheVariants as parsing;
 ghost use Rattle.resp_value.specs.declared.value.Value.{Int, out-Value};
 ghost use Rattle.resp_from.specs.Conversion.{ConvertsList, Decides};
-ghost use Rattle.resp_from.specs.Lists.{AreGroups, ArePieces, holds};
+ghost use Rattle.resp_from.specs.Rules.{AreGroups, ArePieces, has_values};
 
-use crate::convert::FromRedisValue;
+use crate::conversion::FromRedisValue;
 use resp_value::{Items, ParsingError, Value};
 use std::alloc::{AllocError, Global};
 
@@ -125,13 +125,13 @@ fn groups_of(alloc: Global, width: usize, replies: Vec<Value>) -> Result<Vec<Val
 }
 
 fn all_hold(replies: &[Value], width: usize) -> bool
-    ensures { result ≡ list_all (λ reply. holds width (out-Value reply)) replies.now }
+    ensures { result ≡ list_all (λ reply. has_values width (out-Value reply)) replies.now }
 {
     replies.iter().all(|reply| holds_values(reply, width))
 }
 
 fn holds_values(reply: &Value, width: usize) -> bool
-    ensures { result ≡ holds width (out-Value reply.now) }
+    ensures { result ≡ has_values width (out-Value reply.now) }
 {
     match reply {
         Value::Array(items) => items.len() == width,

@@ -1,7 +1,7 @@
 //! Texts of replies.
 
-use crate::bare::strip_attribute;
-use crate::convert::FromRedisValue;
+use crate::attributes::strip_attribute;
+use crate::conversion::FromRedisValue;
 use itoa::Buffer;
 use resp_value::{ParsingError, Value};
 use std::alloc::Global;

@@ -4,11 +4,11 @@ ghost use Rattle.std.specs.Prelude.{◌≡◌, List, IfOk};
 ghost use Rattle.std.specs.Vec.Iter.{into_iter_items};
 ghost use Rattle.resp_value.specs.declared.value.Value.{Value, out-Value};
 ghost use Rattle.resp_from.specs.Conversion.{Converts};
-ghost use Rattle.resp_from.specs.Replies.{bare};
+ghost use Rattle.resp_from.specs.Attributes.{bare};
 ghost use Rattle.resp_from.specs.Tuples.{FindsHeld, Holds, held, in_turn, of_length};
 
-use crate::bare::strip_attribute;
-use crate::convert::FromRedisValue;
+use crate::attributes::strip_attribute;
+use crate::conversion::FromRedisValue;
 use resp_value::{Items, ParsingError, Value};
 use std::alloc::{AllocError, Global};
 use std::vec::IntoIter;
@@ -47,9 +47,9 @@ fn held_values(alloc: Global, width: usize, reply: Value) -> Result<Vec<Value>, 
     }
 }
 
-/// What is left of a tuple's parts: none, or one and what is left then.
-pub trait Parts: Sized + Drop {
-    // Holds of values and the parts that they are.
+/// What is left of a tuple's elements: none, or one and what is left then.
+pub trait Elements: Sized + Drop {
+    // Holds of values and the elements that they are.
     ghost of_values: { List Value → Self → Type 0 };
 
     /// Converts all values that are left.
@@ -57,10 +57,10 @@ pub trait Parts: Sized + Drop {
         ensures converts { Converts (of_values (into_iter_items values.old)) result };
 }
 
-impl Parts for () {
-    ghost use Rattle.resp_from.specs.Tuples.{End};
+impl Elements for () {
+    ghost use Rattle.resp_from.specs.Tuples.{NoMore};
 
-    ghost of_values = { λ values _. End values };
+    ghost of_values = { λ values _. NoMore values };
 
     fn take(_alloc: Global, values: &mut IntoIter<Value>) -> Result<(), ParsingError> {
         match values.next() {
@@ -70,7 +70,7 @@ impl Parts for () {
     }
 }
 
-impl<A: FromRedisValue, R: Parts> Parts for (A, R) {
+impl<A: FromRedisValue, R: Elements> Elements for (A, R) {
     ghost use Rattle.resp_from.specs.Tuples.{First};
 
     ghost of_values = { λ values x. First A.of_value x.0 (λ rest. R.of_values rest x.1) values };
@@ -87,18 +87,18 @@ impl<A: FromRedisValue, R: Parts> Parts for (A, R) {
     }
 }
 
-/// All parts of a tuple of this width.
-fn parts_of<P: Parts>(alloc: Global, width: usize, reply: Value) -> Result<P, ParsingError>
-    ensures converts { Converts (λ parts. Holds width reply (λ values. P.of_values values parts))
-        result }
+/// All elements of a tuple of this width.
+fn elements_of<P: Elements>(alloc: Global, width: usize, reply: Value) -> Result<P, ParsingError>
+    ensures converts { Converts
+        (λ elements. Holds width reply (λ values. P.of_values values elements)) result }
 {
     P::take(alloc, &mut held_values(alloc, width, reply)?.into_iter())
 }
 
-/// A tuple is an array or a set of as many values, or a map of half as many pairs, part by part,
-/// each key before its value. At most one attribute is removed.
+/// A tuple is an array or a set of as many values, or a map of half as many pairs, element by
+/// element, each key before its value. At most one attribute is removed.
 impl<A: FromRedisValue> FromRedisValue for (A,) {
-    ghost use Rattle.resp_from.specs.Tuples.{Holds, First, End};
+    ghost use Rattle.resp_from.specs.Tuples.{Holds, First, NoMore};
 
     const WIDTH: usize = 1;
 
@@ -106,16 +106,16 @@ impl<A: FromRedisValue> FromRedisValue for (A,) {
 
     ghost WIDTH = { 1 };
 
-    ghost of_value = { λ reply x. Holds 1 reply (First A.of_value x.0 End) };
+    ghost of_value = { λ reply x. Holds 1 reply (First A.of_value x.0 NoMore) };
 
     fn from_redis_value(alloc: Global, value: Value) -> Result<(A,), ParsingError> {
-        let (a, ()) = parts_of(alloc, 1, value)?;
+        let (a, ()) = elements_of(alloc, 1, value)?;
         Ok((a,))
     }
 }
 
 impl<A: FromRedisValue, B: FromRedisValue> FromRedisValue for (A, B) {
-    ghost use Rattle.resp_from.specs.Tuples.{Holds, First, End};
+    ghost use Rattle.resp_from.specs.Tuples.{Holds, First, NoMore};
 
     const WIDTH: usize = 2;
 
@@ -123,16 +123,17 @@ impl<A: FromRedisValue, B: FromRedisValue> FromRedisValue for (A, B) {
 
     ghost WIDTH = { 2 };
 
-    ghost of_value = { λ reply x. Holds 2 reply (First A.of_value x.0 (First B.of_value x.1 End)) };
+    ghost of_value = { λ reply x. Holds 2 reply
+        (First A.of_value x.0 (First B.of_value x.1 NoMore)) };
 
     fn from_redis_value(alloc: Global, value: Value) -> Result<(A, B), ParsingError> {
-        let (a, (b, ())) = parts_of(alloc, 2, value)?;
+        let (a, (b, ())) = elements_of(alloc, 2, value)?;
         Ok((a, b))
     }
 }
 
 impl<A: FromRedisValue, B: FromRedisValue, C: FromRedisValue> FromRedisValue for (A, B, C) {
-    ghost use Rattle.resp_from.specs.Tuples.{Holds, First, End};
+    ghost use Rattle.resp_from.specs.Tuples.{Holds, First, NoMore};
 
     const WIDTH: usize = 3;
 
@@ -141,17 +142,17 @@ impl<A: FromRedisValue, B: FromRedisValue, C: FromRedisValue> FromRedisValue for
     ghost WIDTH = { 3 };
 
     ghost of_value = { λ reply x. Holds 3 reply
-        (First A.of_value x.0 (First B.of_value x.1 (First C.of_value x.2 End))) };
+        (First A.of_value x.0 (First B.of_value x.1 (First C.of_value x.2 NoMore))) };
 
     fn from_redis_value(alloc: Global, value: Value) -> Result<(A, B, C), ParsingError> {
-        let (a, (b, (c, ()))) = parts_of(alloc, 3, value)?;
+        let (a, (b, (c, ()))) = elements_of(alloc, 3, value)?;
         Ok((a, b, c))
     }
 }
 
 impl<A: FromRedisValue, B: FromRedisValue, C: FromRedisValue, D: FromRedisValue> FromRedisValue
     for (A, B, C, D) {
-    ghost use Rattle.resp_from.specs.Tuples.{Holds, First, End};
+    ghost use Rattle.resp_from.specs.Tuples.{Holds, First, NoMore};
 
     const WIDTH: usize = 4;
 
@@ -161,10 +162,10 @@ impl<A: FromRedisValue, B: FromRedisValue, C: FromRedisValue, D: FromRedisValue>
 
     ghost of_value = { λ reply x. Holds 4 reply
         (First A.of_value x.0 (First B.of_value x.1
-        (First C.of_value x.2 (First D.of_value x.3 End)))) };
+        (First C.of_value x.2 (First D.of_value x.3 NoMore)))) };
 
     fn from_redis_value(alloc: Global, value: Value) -> Result<(A, B, C, D), ParsingError> {
-        let (a, (b, (c, (d, ())))) = parts_of(alloc, 4, value)?;
+        let (a, (b, (c, (d, ())))) = elements_of(alloc, 4, value)?;
         Ok((a, b, c, d))
     }
 }
@@ -176,7 +177,7 @@ impl<
     D: FromRedisValue,
     E: FromRedisValue,
 > FromRedisValue for (A, B, C, D, E) {
-    ghost use Rattle.resp_from.specs.Tuples.{Holds, First, End};
+    ghost use Rattle.resp_from.specs.Tuples.{Holds, First, NoMore};
 
     const WIDTH: usize = 5;
 
@@ -186,10 +187,10 @@ impl<
 
     ghost of_value = { λ reply x. Holds 5 reply
         (First A.of_value x.0 (First B.of_value x.1
-        (First C.of_value x.2 (First D.of_value x.3 (First E.of_value x.4 End))))) };
+        (First C.of_value x.2 (First D.of_value x.3 (First E.of_value x.4 NoMore))))) };
 
     fn from_redis_value(alloc: Global, value: Value) -> Result<(A, B, C, D, E), ParsingError> {
-        let (a, (b, (c, (d, (e, ()))))) = parts_of(alloc, 5, value)?;
+        let (a, (b, (c, (d, (e, ()))))) = elements_of(alloc, 5, value)?;
         Ok((a, b, c, d, e))
     }
 }
@@ -202,7 +203,7 @@ impl<
     E: FromRedisValue,
     F: FromRedisValue,
 > FromRedisValue for (A, B, C, D, E, F) {
-    ghost use Rattle.resp_from.specs.Tuples.{Holds, First, End};
+    ghost use Rattle.resp_from.specs.Tuples.{Holds, First, NoMore};
 
     const WIDTH: usize = 6;
 
@@ -213,10 +214,10 @@ impl<
     ghost of_value = { λ reply x. Holds 6 reply
         (First A.of_value x.0 (First B.of_value x.1
         (First C.of_value x.2 (First D.of_value x.3
-        (First E.of_value x.4 (First F.of_value x.5 End)))))) };
+        (First E.of_value x.4 (First F.of_value x.5 NoMore)))))) };
 
     fn from_redis_value(alloc: Global, value: Value) -> Result<(A, B, C, D, E, F), ParsingError> {
-        let (a, (b, (c, (d, (e, (f, ())))))) = parts_of(alloc, 6, value)?;
+        let (a, (b, (c, (d, (e, (f, ())))))) = elements_of(alloc, 6, value)?;
         Ok((a, b, c, d, e, f))
     }
 }
@@ -230,7 +231,7 @@ impl<
     F: FromRedisValue,
     G: FromRedisValue,
 > FromRedisValue for (A, B, C, D, E, F, G) {
-    ghost use Rattle.resp_from.specs.Tuples.{Holds, First, End};
+    ghost use Rattle.resp_from.specs.Tuples.{Holds, First, NoMore};
 
     const WIDTH: usize = 7;
 
@@ -241,13 +242,13 @@ impl<
     ghost of_value = { λ reply x. Holds 7 reply
         (First A.of_value x.0 (First B.of_value x.1
         (First C.of_value x.2 (First D.of_value x.3
-        (First E.of_value x.4 (First F.of_value x.5 (First G.of_value x.6 End))))))) };
+        (First E.of_value x.4 (First F.of_value x.5 (First G.of_value x.6 NoMore))))))) };
 
     fn from_redis_value(
         alloc: Global,
         value: Value,
     ) -> Result<(A, B, C, D, E, F, G), ParsingError> {
-        let (a, (b, (c, (d, (e, (f, (g, ()))))))) = parts_of(alloc, 7, value)?;
+        let (a, (b, (c, (d, (e, (f, (g, ()))))))) = elements_of(alloc, 7, value)?;
         Ok((a, b, c, d, e, f, g))
     }
 }
@@ -262,7 +263,7 @@ impl<
     G: FromRedisValue,
     H: FromRedisValue,
 > FromRedisValue for (A, B, C, D, E, F, G, H) {
-    ghost use Rattle.resp_from.specs.Tuples.{Holds, First, End};
+    ghost use Rattle.resp_from.specs.Tuples.{Holds, First, NoMore};
 
     const WIDTH: usize = 8;
 
@@ -274,13 +275,13 @@ impl<
         (First A.of_value x.0 (First B.of_value x.1
         (First C.of_value x.2 (First D.of_value x.3
         (First E.of_value x.4 (First F.of_value x.5
-        (First G.of_value x.6 (First H.of_value x.7 End)))))))) };
+        (First G.of_value x.6 (First H.of_value x.7 NoMore)))))))) };
 
     fn from_redis_value(
         alloc: Global,
         value: Value,
     ) -> Result<(A, B, C, D, E, F, G, H), ParsingError> {
-        let (a, (b, (c, (d, (e, (f, (g, (h, ())))))))) = parts_of(alloc, 8, value)?;
+        let (a, (b, (c, (d, (e, (f, (g, (h, ())))))))) = elements_of(alloc, 8, value)?;
         Ok((a, b, c, d, e, f, g, h))
     }
 }
@@ -296,7 +297,7 @@ impl<
     H: FromRedisValue,
     I: FromRedisValue,
 > FromRedisValue for (A, B, C, D, E, F, G, H, I) {
-    ghost use Rattle.resp_from.specs.Tuples.{Holds, First, End};
+    ghost use Rattle.resp_from.specs.Tuples.{Holds, First, NoMore};
 
     const WIDTH: usize = 9;
 
@@ -308,13 +309,13 @@ impl<
         (First A.of_value x.0 (First B.of_value x.1
         (First C.of_value x.2 (First D.of_value x.3
         (First E.of_value x.4 (First F.of_value x.5
-        (First G.of_value x.6 (First H.of_value x.7 (First I.of_value x.8 End))))))))) };
+        (First G.of_value x.6 (First H.of_value x.7 (First I.of_value x.8 NoMore))))))))) };
 
     fn from_redis_value(
         alloc: Global,
         value: Value,
     ) -> Result<(A, B, C, D, E, F, G, H, I), ParsingError> {
-        let (a, (b, (c, (d, (e, (f, (g, (h, (i, ()))))))))) = parts_of(alloc, 9, value)?;
+        let (a, (b, (c, (d, (e, (f, (g, (h, (i, ()))))))))) = elements_of(alloc, 9, value)?;
         Ok((a, b, c, d, e, f, g, h, i))
     }
 }
@@ -331,7 +332,7 @@ impl<
     I: FromRedisValue,
     J: FromRedisValue,
 > FromRedisValue for (A, B, C, D, E, F, G, H, I, J) {
-    ghost use Rattle.resp_from.specs.Tuples.{Holds, First, End};
+    ghost use Rattle.resp_from.specs.Tuples.{Holds, First, NoMore};
 
     const WIDTH: usize = 10;
 
@@ -344,13 +345,13 @@ impl<
         (First C.of_value x.2 (First D.of_value x.3
         (First E.of_value x.4 (First F.of_value x.5
         (First G.of_value x.6 (First H.of_value x.7
-        (First I.of_value x.8 (First J.of_value x.9 End)))))))))) };
+        (First I.of_value x.8 (First J.of_value x.9 NoMore)))))))))) };
 
     fn from_redis_value(
         alloc: Global,
         value: Value,
     ) -> Result<(A, B, C, D, E, F, G, H, I, J), ParsingError> {
-        let (a, (b, (c, (d, (e, (f, (g, (h, (i, (j, ())))))))))) = parts_of(alloc, 10, value)?;
+        let (a, (b, (c, (d, (e, (f, (g, (h, (i, (j, ())))))))))) = elements_of(alloc, 10, value)?;
         Ok((a, b, c, d, e, f, g, h, i, j))
     }
 }
@@ -368,7 +369,7 @@ impl<
     J: FromRedisValue,
     K: FromRedisValue,
 > FromRedisValue for (A, B, C, D, E, F, G, H, I, J, K) {
-    ghost use Rattle.resp_from.specs.Tuples.{Holds, First, End};
+    ghost use Rattle.resp_from.specs.Tuples.{Holds, First, NoMore};
 
     const WIDTH: usize = 11;
 
@@ -381,13 +382,15 @@ impl<
         (First C.of_value x.2 (First D.of_value x.3
         (First E.of_value x.4 (First F.of_value x.5
         (First G.of_value x.6 (First H.of_value x.7
-        (First I.of_value x.8 (First J.of_value x.9 (First K.of_value x.10 End))))))))))) };
+        (First I.of_value x.8 (First J.of_value x.9 (First K.of_value x.10 NoMore))))))))))) };
 
     fn from_redis_value(
         alloc: Global,
         value: Value,
     ) -> Result<(A, B, C, D, E, F, G, H, I, J, K), ParsingError> {
-        let (a, (b, (c, (d, (e, (f, (g, (h, (i, (j, (k, ()))))))))))) = parts_of(alloc, 11, value)?;
+        let (a, (b, (c, (d, (e, (f, (g, (h, (i, (j, (k, ()))))))))))) = elements_of(
+            alloc, 11, value,
+        )?;
         Ok((a, b, c, d, e, f, g, h, i, j, k))
     }
 }
@@ -406,7 +409,7 @@ impl<
     K: FromRedisValue,
     L: FromRedisValue,
 > FromRedisValue for (A, B, C, D, E, F, G, H, I, J, K, L) {
-    ghost use Rattle.resp_from.specs.Tuples.{Holds, First, End};
+    ghost use Rattle.resp_from.specs.Tuples.{Holds, First, NoMore};
 
     const WIDTH: usize = 12;
 
@@ -420,13 +423,13 @@ impl<
         (First E.of_value x.4 (First F.of_value x.5
         (First G.of_value x.6 (First H.of_value x.7
         (First I.of_value x.8 (First J.of_value x.9
-        (First K.of_value x.10 (First L.of_value x.11 End)))))))))))) };
+        (First K.of_value x.10 (First L.of_value x.11 NoMore)))))))))))) };
 
     fn from_redis_value(
         alloc: Global,
         value: Value,
     ) -> Result<(A, B, C, D, E, F, G, H, I, J, K, L), ParsingError> {
-        let (a, (b, (c, (d, (e, (f, (g, (h, (i, (j, (k, (l, ())))))))))))) = parts_of(
+        let (a, (b, (c, (d, (e, (f, (g, (h, (i, (j, (k, (l, ())))))))))))) = elements_of(
             alloc, 12, value,
         )?;
         Ok((a, b, c, d, e, f, g, h, i, j, k, l))

@@ -1,6 +1,6 @@
 //! Replies as they are.
 
-use crate::convert::FromRedisValue;
+use crate::conversion::FromRedisValue;
 use resp_value::{ParsingError, Value};
 use std::alloc::Global;
 

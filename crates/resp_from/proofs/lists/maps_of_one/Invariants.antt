@@ -1,6 +1,6 @@
 use Rattle.std.proofs.Common.{◌≡◌, ◌++◌}
 use Rattle.std.specs.Vec.Iter.{into_iter_items}
-use Rattle.resp_from.specs.Items.{single_maps}
+use Rattle.resp_from.specs.Lists.{single_maps}
 use Rattle.resp_from.proofs.lists.maps_of_one.Given as goal
 
 abbrev pub invariant-loop-pair : goal.invariant-loop-pair

@@ -3,8 +3,8 @@ use Rattle.std.proofs.lemmas.List.{append-nil, nil_from_length}
 use Rattle.std.specs.Vec.Iter.{into_iter_items}
 use Rattle.resp_value.specs.declared.value.Value.{Value, Array}
 use Rattle.resp_from.specs.Conversion.{RefusesIf}
-use Rattle.resp_from.specs.Lists.{AreGroups}
-use Rattle.resp_from.proofs.Cuts.{IsCutting-group, IsCutting-short, length-positive}
+use Rattle.resp_from.specs.Rules.{AreGroups}
+use Rattle.resp_from.proofs.Groups.{IsCutting-group, IsCutting-short, length-positive}
 use Rattle.resp_from.proofs.rules.groups_of.Goals as goal
 
 pub loop-reply-preserved-then-len-width : goal.loop-reply-preserved-then-len-width

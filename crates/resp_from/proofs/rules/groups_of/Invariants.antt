@@ -1,6 +1,6 @@
 use Rattle.std.proofs.Common.{◌≡◌, ◌++◌}
 use Rattle.std.specs.Vec.Iter.{into_iter_items}
-use Rattle.resp_from.proofs.Cuts.{IsCutting}
+use Rattle.resp_from.proofs.Groups.{IsCutting}
 use Rattle.resp_from.proofs.rules.groups_of.Given as goal
 
 abbrev pub invariant-loop-reply : goal.invariant-loop-reply

@@ -1,6 +1,6 @@
 use Rattle.std.proofs.Common.{◌≡◌, false, rules}
-use Rattle.resp_from.specs.Lists.{is_one_each}
-use Rattle.resp_from.proofs.Cuts.{ArePieces-groups}
+use Rattle.resp_from.specs.Rules.{is_one_each}
+use Rattle.resp_from.proofs.Groups.{ArePieces-groups}
 use Rattle.resp_from.proofs.rules.pieces_of.Goals as goal
 
 pub returns : goal.returns

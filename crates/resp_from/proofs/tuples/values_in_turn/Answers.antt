@@ -1,7 +1,7 @@
 use Rattle.std.proofs.Common.{◌∷◌, [], ◌++◌, sym, ap, ◌∙◌, append_assoc}
 use Rattle.std.specs.Vec.Iter.{into_iter_items}
 use Rattle.resp_value.specs.declared.value.Value.{Value}
-use Rattle.resp_from.proofs.Pairs.{in_turn-push}
+use Rattle.resp_from.proofs.InTurn.{in_turn-push}
 use Rattle.resp_from.proofs.tuples.values_in_turn.Goals as goal
 
 pub loop-key-preserved : goal.loop-key-preserved

@@ -2,18 +2,18 @@ use Rattle.std.proofs.Common.{subst, ap, ◌∙◌}
 use Rattle.resp_value.specs.declared.value.Value.{out-Value}
 use Rattle.resp_value.specs.declared.value.Value.TheOpen.{Value-F}
 use Rattle.resp_from.specs.Conversion.{ConvertsList}
-use Rattle.resp_from.specs.Lists.{OfList}
-use Rattle.resp_from.proofs.Layers.{out-Array, out-Set, OfItems-layer}
+use Rattle.resp_from.specs.Rules.{OfList}
+use Rattle.resp_from.proofs.TopLayer.{out-Array, out-Set, OfVec-layer}
 use Rattle.resp_from.proofs.lists.VecFromRedisValue.from_redis_value.Goals as goal
 
 pub returns-in-Array-clause-converts : goal.returns-in-Array-clause-converts
 returns-in-Array-clause-converts g c =
     let items = c.in-Array.items in
-    OfItems-layer g.T.FromRedisValue.WIDTH g.T.FromRedisValue.BYTES g.T.FromRedisValue.of_value c.args.value (Value-F.Array items) c.from_redis_values.result (ap out-Value c.in-Array.is ∙ out-Array items)
+    OfVec-layer g.T.FromRedisValue.WIDTH g.T.FromRedisValue.BYTES g.T.FromRedisValue.of_value c.args.value (Value-F.Array items) c.from_redis_values.result (ap out-Value c.in-Array.is ∙ out-Array items)
     (subst (λ vs. ConvertsList (OfList g.T.FromRedisValue.WIDTH g.T.FromRedisValue.of_value vs) c.from_redis_values.result) c.into_vec.ensures c.from_redis_values.ensures.converts)
 
 pub returns-in-Set-clause-converts : goal.returns-in-Set-clause-converts
 returns-in-Set-clause-converts g c =
     let items = c.in-Set.items in
-    OfItems-layer g.T.FromRedisValue.WIDTH g.T.FromRedisValue.BYTES g.T.FromRedisValue.of_value c.args.value (Value-F.Set items) c.from_redis_values-in-Set.result (ap out-Value c.in-Set.is ∙ out-Set items)
+    OfVec-layer g.T.FromRedisValue.WIDTH g.T.FromRedisValue.BYTES g.T.FromRedisValue.of_value c.args.value (Value-F.Set items) c.from_redis_values-in-Set.result (ap out-Value c.in-Set.is ∙ out-Set items)
     (subst (λ vs. ConvertsList (OfList g.T.FromRedisValue.WIDTH g.T.FromRedisValue.of_value vs) c.from_redis_values-in-Set.result) c.into_vec-in-Set.ensures c.from_redis_values-in-Set.ensures.converts)

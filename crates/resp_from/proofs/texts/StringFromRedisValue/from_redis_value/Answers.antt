@@ -3,7 +3,7 @@ use Rattle.std.specs.Str.{IsUtf8}
 use Rattle.std.proofs.lemmas.Str.{IsUtf8-string_bytes}
 use Rattle.resp_value.specs.declared.value.Value.{out-Value}
 use Rattle.resp_from.specs.Texts.{IsText}
-use Rattle.resp_from.proofs.Layers.{out-BulkString}
+use Rattle.resp_from.proofs.TopLayer.{out-BulkString}
 use Rattle.resp_from.proofs.texts.StringFromRedisValue.from_redis_value.Goals as goal
 
 pub returns-in-Ok-clause-converts : goal.returns-in-Ok-clause-converts

@@ -1,7 +1,7 @@
 //! Replies without their attribute.
 
 ghost use Rattle.std.specs.Prelude.{◌≡◌};
-ghost use Rattle.resp_from.specs.Replies.{bare};
+ghost use Rattle.resp_from.specs.Attributes.{bare};
 
 use resp_value::Value;
 

@@ -1,7 +1,7 @@
 use Rattle.std.proofs.Common.{subst}
-use Rattle.resp_from.specs.Lists.{ArePieces}
-use Rattle.resp_from.proofs.Cuts.{OfList-pieces}
-use Rattle.resp_from.proofs.convert.FromRedisValue.from_redis_values.Goals as goal
+use Rattle.resp_from.specs.Rules.{ArePieces}
+use Rattle.resp_from.proofs.Groups.{OfList-pieces}
+use Rattle.resp_from.proofs.conversion.FromRedisValue.from_redis_values.Goals as goal
 
 pub returns : goal.returns
 returns g c =

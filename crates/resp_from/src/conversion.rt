@@ -6,7 +6,7 @@ ghost use Rattle.resp_value.specs.declared.errors.parsing_error.ParsingError.{Pa
 ghost use Rattle.resp_value.specs.declared.errors.parsing_error.ParsingError.TheVariants as parsing;
 ghost use Rattle.resp_from.specs.Conversion.{AnyError, OfMade, OrMemory, Converts, ConvertsList};
 ghost use Rattle.resp_from.specs.Conversion.{ConvertsMaybe};
-ghost use Rattle.resp_from.specs.Lists.{OfList, OfEach, OfBytes};
+ghost use Rattle.resp_from.specs.Rules.{OfList, OfEach, OfBytes};
 
 use crate::rules::{answer_each, convert_bytes, convert_each, convert_one, copies_of, pieces_of};
 use resp_value::{Items, ParsingError, Value};
@@ -54,7 +54,7 @@ pub trait FromRedisValue: Sized + Drop {
     /// The values of a list of replies.
     ///
     /// Each reply is one value. Of a tuple, whose replies don't all hold as many values as it has
-    /// parts, each group of that many replies is one value; a short last group is refused.
+    /// elements, each group of that many replies is one value; a short last group is refused.
     ///
     /// Refused where a reply or a group is no value of the type, or on `OutOfMemory`.
     final fn from_redis_values(alloc: Global, values: Vec<Value>) -> Result<Vec<Self>, ParsingError>
@@ -174,6 +174,6 @@ pub fn from_redis_value_by<T: FromRedisValue, X: From<T>>(
     ensures converts { Converts (OfMade T.of_value X.from_gives value) result }
     ensures errors { IfErr result (T.error_of_value value) }
 {
-    let part = T::from_redis_value(alloc, value)?;
-    Ok(X::from(part))
+    let made_of = T::from_redis_value(alloc, value)?;
+    Ok(X::from(made_of))
 }

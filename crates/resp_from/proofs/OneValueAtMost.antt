@@ -5,14 +5,15 @@ use Rattle.std.specs.Int.{Width}
 use Rattle.std.specs.List.{AllZip}
 use Rattle.resp_value.specs.declared.value.Value.{Value, out-Value}
 use Rattle.resp_value.specs.declared.value.Value.TheOpen.{Value-F}
+use Rattle.resp_from.specs.Booleans.{IsTruth, TruthText, OfBool}
 use Rattle.resp_from.specs.Integers.{IsInteger, OfInteger, SignedNumber, SignedText, UnsignedNumber, UnsignedText}
-use Rattle.resp_from.specs.Items.{IsItems, OfItems, single_maps}
+use Rattle.resp_from.specs.Lists.{IsVec, OfVec, single_maps}
 use Rattle.resp_from.specs.Laws.{IsFunction}
-use Rattle.resp_from.specs.Lists.{OfList, byte_replies}
-use Rattle.resp_from.specs.Replies.{bare}
-use Rattle.resp_from.specs.Single.{IsTruth, TruthText, OfBool, OfOption}
+use Rattle.resp_from.specs.Rules.{OfList, byte_replies}
+use Rattle.resp_from.specs.Attributes.{bare}
 use Rattle.resp_from.specs.Texts.{IsText, OfText}
-use Rattle.resp_from.proofs.Cuts.{one_list_of_pieces}
+use Rattle.resp_from.specs.Wrappers.{OfOption}
+use Rattle.resp_from.proofs.Groups.{one_list_of_pieces}
 
 integer_function : {X : Type 0} (Number : ℤ → X → Type 0) (Writes : List ℕ → X → Type 0) → ((n : ℤ) (x y : X) → Number n x → Number n y → x ≡ y) → ((t : List ℕ) (x y : X) → Writes t x → Writes t y → x ≡ y) → (layer : Value-F Value) (x y : X) → IsInteger Number Writes layer x → IsInteger Number Writes layer y → x ≡ y
 integer_function Number Writes f g (Value-F.Int n) x y h k = f n x y h k
@@ -85,17 +86,17 @@ AllZip-function Of f (r ∷ rs) (x ∷ xs) (y ∷ ys) h k =
     cc
 
 list_function : {X : Type 0} (n : ℕ) (Of : Value → X → Type 0) → IsFunction Of → (replies : List Value) (xs ys : List X) → OfList n Of replies xs → OfList n Of replies ys → xs ≡ ys
-list_function n Of f replies xs ys h k = AllZip-function Of f h.0 xs ys h.2 (subst (λ pieces. AllZip Of pieces ys) (one_list_of_pieces n replies k.0 h.0 k.1 h.1) k.2)
+list_function n Of f replies xs ys h k = AllZip-function Of f h.pieces xs ys h.each (subst (λ pieces. AllZip Of pieces ys) (one_list_of_pieces n replies k.pieces h.pieces k.cut h.cut) k.each)
 
-items_layer_function : {X : Type 0} (n : ℕ) (each : Bool) (Of : Value → X → Type 0) → IsFunction Of → (layer : Value-F Value) (xs ys : List X) → IsItems n each Of layer xs → IsItems n each Of layer ys → xs ≡ ys
-items_layer_function n each Of f (Value-F.Array items) xs ys h k = list_function n Of f items xs ys h k
-items_layer_function n each Of f (Value-F.Set items) xs ys h k = list_function n Of f items xs ys h k
-items_layer_function n each Of f (Value-F.Map pairs) xs ys h k = AllZip-function Of f (single_maps pairs) xs ys h k
-items_layer_function n each Of f (Value-F.BulkString bytes) xs ys h k = AllZip-function Of f (byte_replies each bytes) xs ys h k
-items_layer_function n each Of f Value-F.Nil xs ys h k = h ∙ sym k
-items_layer_function n each Of f _ xs ys h k = absurd h
+vec_layer_function : {X : Type 0} (n : ℕ) (each : Bool) (Of : Value → X → Type 0) → IsFunction Of → (layer : Value-F Value) (xs ys : List X) → IsVec n each Of layer xs → IsVec n each Of layer ys → xs ≡ ys
+vec_layer_function n each Of f (Value-F.Array items) xs ys h k = list_function n Of f items xs ys h k
+vec_layer_function n each Of f (Value-F.Set items) xs ys h k = list_function n Of f items xs ys h k
+vec_layer_function n each Of f (Value-F.Map pairs) xs ys h k = AllZip-function Of f (single_maps pairs) xs ys h k
+vec_layer_function n each Of f (Value-F.BulkString bytes) xs ys h k = AllZip-function Of f (byte_replies each bytes) xs ys h k
+vec_layer_function n each Of f Value-F.Nil xs ys h k = h ∙ sym k
+vec_layer_function n each Of f _ xs ys h k = absurd h
 
-pub items_function : {X : Type 0} (n : ℕ) (each : Bool) (Of : Value → X → Type 0) → IsFunction Of → IsFunction (OfItems n each Of)
-items_function n each Of f reply xs ys h k = items_layer_function n each Of f (out-Value reply) xs ys h k
+pub vec_function : {X : Type 0} (n : ℕ) (each : Bool) (Of : Value → X → Type 0) → IsFunction Of → IsFunction (OfVec n each Of)
+vec_function n each Of f reply xs ys h k = vec_layer_function n each Of f (out-Value reply) xs ys h k
 
 pub ruleset functions = (signed_function, unsigned_function, bool_function, text_function)

@@ -1,5 +1,5 @@
 -- Lists that are cut in groups of one length.
-use Rattle.std.proofs.Common.{◌≡◌, ◌≢◌, ℕ, ◌+◌, ◌*◌, ◌%◌, ◌<◌, zero, suc, Bool, true, false, List, [], ◌∷◌, ◌++◌, length, map, take, drop, Vec, Global, Result, Ok, Err, refl, sym, ap, ◌∙◌, subst, arith, append_assoc, length-append}
+use Rattle.std.proofs.Common.{◌≡◌, ℕ, ◌+◌, ◌*◌, ◌%◌, ◌<◌, zero, suc, Bool, true, false, List, [], ◌∷◌, ◌++◌, length, map, take, drop, Vec, Global, Result, Ok, Err, refl, sym, ap, ◌∙◌, subst, arith, append_assoc, length-append}
 use Rattle.std.proofs.Math.Seq.{take-append_seam, drop-append_seam}
 use Rattle.std.proofs.Math.Nat.{mul-mod_left}
 use Rattle.std.proofs.lemmas.Nat.{mod-mul-add}
@@ -9,8 +9,8 @@ use Rattle.std.specs.Bool.{MatchBool}
 use Rattle.std.specs.List.{AllZip, AllByRecursion, flat_map}
 use Rattle.resp_value.specs.declared.value.Value.{Value, Array}
 use Rattle.resp_value.specs.declared.errors.parsing_error.ParsingError.{ParsingError}
-use Rattle.resp_from.specs.Conversion.{RefusesIf, ConvertsList}
-use Rattle.resp_from.specs.Lists.{AreGroups, ArePieces, OfList, is_one_each}
+use Rattle.resp_from.specs.Conversion.{ConvertsList}
+use Rattle.resp_from.specs.Rules.{AreGroups, ArePieces, OfList, is_one_each}
 use Rattle.resp_from.proofs.Conversions.{RefusesIf-along}
 
 abbrev joined : List (List Value) → List Value
@@ -54,18 +54,6 @@ pub record IsCutting (n : ℕ) (replies pieces group : List Value) : Type 0 wher
   pub whole : flat_map (λ g. g) groups ++ group ≡ replies
   pub short : length group < n
 
-pub IsCutting-start : (n : ℕ) → 0 < n → IsCutting n [] [] []
-IsCutting-start n p = record { groups = []; made = refl; each = tt; whole = refl; short = p }
-
-pub IsCutting-more : (n : ℕ) (replies pieces group : List Value) (v : Value) → IsCutting n replies pieces group → length (group ++ v ∷ []) ≢ n → IsCutting n (replies ++ v ∷ []) pieces (group ++ v ∷ [])
-IsCutting-more n replies pieces group v h ne = record {
-  groups = h.groups;
-  made = h.made;
-  each = h.each;
-  whole = sym (append_assoc (joined h.groups) group (v ∷ [])) ∙ ap (λ vs. vs ++ v ∷ []) h.whole;
-  short = omega (arith, h.short, length-append group (v ∷ []), ne);
-}
-
 pub IsCutting-group : (n : ℕ) (replies pieces group : List Value) (v : Value) → IsCutting n replies pieces group → length (group ++ v ∷ []) ≡ n → 0 < n → IsCutting n (replies ++ v ∷ []) (pieces ++ Array (group ++ v ∷ []) ∷ []) []
 IsCutting-group n replies pieces group v h e p = record {
   groups = h.groups ++ (group ++ v ∷ []) ∷ [];
@@ -75,16 +63,13 @@ IsCutting-group n replies pieces group v h e p = record {
   short = p;
 }
 
-pub IsCutting-end : (n : ℕ) (replies pieces group : List Value) → IsCutting n replies pieces group → group ≡ [] → AreGroups n replies pieces
-IsCutting-end n replies pieces group h e = (h.groups, record { whole = sym (append-nil (joined h.groups)) ∙ (ap (λ g. joined h.groups ++ g) (sym e) ∙ h.whole); each = h.each }, h.made)
-
 pub IsCutting-short : (n : ℕ) (replies pieces group : List Value) → IsCutting n replies pieces group → 0 < length group → (others : List Value) → AreGroups n replies others → ⊥
-IsCutting-short n replies pieces group h p others k = no_cut n h.groups k.0 group h.each k.1.each p h.short (h.whole ∙ sym k.1.whole)
+IsCutting-short n replies pieces group h p others k = no_cut n h.groups k.groups group h.each k.each p h.short (h.whole ∙ sym k.whole)
 
 -- a list has one list of pieces
 one_each : (n : ℕ) (replies ps qs : List Value) (b : Bool) → (b ≡ false → 0 < n) → MatchBool b (ps ≡ replies) (AreGroups n replies ps) → MatchBool b (qs ≡ replies) (AreGroups n replies qs) → ps ≡ qs
 one_each n replies ps qs true p g h = g ∙ sym h
-one_each n replies ps qs false p g h = g.2 ∙ (ap (map Array) (one_cut n g.0 h.0 (p refl) g.1.each h.1.each (g.1.whole ∙ sym h.1.whole)) ∙ sym h.2)
+one_each n replies ps qs false p g h = g.made ∙ (ap (map Array) (one_cut n g.groups h.groups (p refl) g.each h.each (g.whole ∙ sym h.whole)) ∙ sym h.made)
 
 is_one_each-false : (n : ℕ) (replies : List Value) → is_one_each n replies ≡ false → 0 < n
 is_one_each-false zero replies e = absurd (let f : true ≡ false = e in cc)
@@ -99,12 +84,8 @@ ArePieces-groups n replies r e h = subst (λ b. ConvertsList (λ pieces. MatchBo
 
 -- the list rule, once the list is cut
 pub OfList-pieces : {X : Type 0} (n : ℕ) (Of : Value → X → Type 0) (replies pieces : List Value) (r : Result (Vec X Global) ParsingError) → ArePieces n replies pieces → ConvertsList (AllZip Of pieces) r → ConvertsList (OfList n Of replies) r
-OfList-pieces n Of replies pieces (Ok v) p h = (pieces, p, h)
-OfList-pieces n Of replies pieces (Err e) p h = RefusesIf-along e (λ none xs k. none xs (subst (λ qs. AllZip Of qs xs) (one_list_of_pieces n replies k.0 pieces k.1 p) k.2)) h
-
--- a list without pieces has no values
-pub OfList-none : {X : Type 0} (n : ℕ) (Of : Value → X → Type 0) (replies : List Value) (e : ParsingError) → RefusesIf e ((pieces : List Value) → ArePieces n replies pieces → ⊥) → RefusesIf e ((xs : List X) → OfList n Of replies xs → ⊥)
-OfList-none n Of replies e h = RefusesIf-along e (λ none xs k. none k.0 k.1) h
+OfList-pieces n Of replies pieces (Ok v) p h = record { pieces = pieces; cut = p; each = h }
+OfList-pieces n Of replies pieces (Err e) p h = RefusesIf-along e (λ none xs k. none xs (subst (λ qs. AllZip Of qs xs) (one_list_of_pieces n replies k.pieces pieces k.cut p) k.each)) h
 
 pub length-positive : {A : Type 0} (xs : List A) → (xs ≡ [] → ⊥) → 0 < length xs
 length-positive [] f = absurd (f refl)

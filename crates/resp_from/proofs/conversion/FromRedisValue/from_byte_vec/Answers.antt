@@ -1,7 +1,7 @@
 use Rattle.std.proofs.Common.{◌≡◌, true, rules, subst, sym}
 use Rattle.resp_from.specs.Conversion.{ConvertsList}
-use Rattle.resp_from.specs.Lists.{OfBytes}
-use Rattle.resp_from.proofs.convert.FromRedisValue.from_byte_vec.Goals as goal
+use Rattle.resp_from.specs.Rules.{OfBytes}
+use Rattle.resp_from.proofs.conversion.FromRedisValue.from_byte_vec.Goals as goal
 
 pub returns-then-BYTES : goal.returns-then-BYTES
 returns-then-BYTES g c =

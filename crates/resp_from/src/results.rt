@@ -1,0 +1,56 @@
+//! Replies as results: a value, or an error of the server.
+
+ghost use Rattle.resp_from.specs.Results.{OfResult};
+
+use crate::conversion::FromRedisValue;
+use resp_value::{ParsingError, RedisError, Value};
+use std::alloc::Global;
+
+/// An error of the server is an `Err`; any other reply is converted.
+impl<T: FromRedisValue> FromRedisValue for Result<T, RedisError> {
+    const WIDTH: usize = 0;
+
+    const BYTES: bool = false;
+
+    ghost of_value = { OfResult T.of_value };
+
+    fn from_redis_value(
+        alloc: Global,
+        value: Value,
+    ) -> Result<Result<T, RedisError>, ParsingError> {
+        match value {
+            Value::ServerError(error) => Ok(Err(RedisError::Server(error))),
+            value => Ok(Ok(T::from_redis_value(alloc, value)?)),
+        }
+    }
+
+    fn from_redis_value_ref(
+        alloc: Global,
+        value: &Value,
+    ) -> Result<Result<T, RedisError>, ParsingError> {
+        match value {
+            Value::ServerError(error) => Ok(Err(RedisError::Server(error.try_clone(alloc)?))),
+            value => Ok(Ok(T::from_redis_value_ref(alloc, value)?)),
+        }
+    }
+}
+
+/// Every reply but an error of the server, whose text the refusal carries.
+impl FromRedisValue for () {
+    ghost use Rattle.resp_from.specs.Results.{ErrorOfUnit, OfUnit};
+
+    const WIDTH: usize = 0;
+
+    const BYTES: bool = false;
+
+    ghost of_value = { λ reply _. OfUnit reply };
+
+    ghost error_of_value = { ErrorOfUnit };
+
+    fn from_redis_value(alloc: Global, value: Value) -> Result<(), ParsingError> {
+        match value {
+            Value::ServerError(error) => Err(ParsingError::from(format!(in alloc; "{error}")?)),
+            _ => Ok(()),
+        }
+    }
+}
