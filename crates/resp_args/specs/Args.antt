@@ -1,5 +1,5 @@
--- Arguments of a command (RESP, "Sending commands to a Redis server"): a client sends a command as an array
--- of bulk strings, so every argument is a list of bytes.
+-- Arguments of a command (RESP, "Sending commands to a Redis server"): a client sends a command as
+-- an array of bulk strings, so every argument is a list of bytes.
 use Rattle.std.specs.Prelude.{◌<◌, ◌≡◌, ℕ, Bool, true, false, List, [], ◌∷◌, ◌++◌, map, Result, Ok, Err, IfErr, Vec, nat_le, ◌⊎◌, Option, None, Some, ◌+◌, if◌then◌else◌, codes, length}
 use Rattle.std.specs.Global.{Global}
 use Rattle.std.specs.List.{Any, AllZip, flat_map}
@@ -37,8 +37,8 @@ Appends Gives old new = (more : Args) × (new ≡ old ++ more) × Gives more
 abbrev pub IsRefusal : Type 0 → RedisError → Type 0
 IsRefusal Refused e = (e ≡ OutOfMemory) ⊎ ((kind_of e ≡ Client) × Refused)
 
--- what writing a value leaves and answers: at Ok, arguments that it gives were appended, and it is none that is
--- refused; at Err, the old arguments come first
+-- what writing a value leaves and answers: at Ok, arguments that it gives were appended, and it is
+-- none that is refused; at Err, the old arguments come first
 abbrev pub Writes : (Args → Type 0) → Type 0 → Args → Args → Result (Unit {0}) RedisError → Type 0
 Writes Gives Refused old new (Ok _) = Appends Gives old new × (Refused → ⊥)
 Writes Gives Refused old new (Err e) = IsPrefix old new × IsRefusal Refused e
@@ -51,9 +51,10 @@ IsOnly arg args = args ≡ arg ∷ []
 abbrev pub GivesOne : {X : Type 0} → (X → List ℕ) → X → Args → Type 0
 GivesOne bytes x args = IsOnly (bytes x) args
 
--- parts that the items give, one each, joined in order
+-- argument lists that the items give, one each, joined in order
 abbrev pub GivesEach : {X : Type 0} → (X → Args → Type 0) → List X → Args → Type 0
-GivesEach Gives items args = (parts : List Args) × AllZip Gives items parts × (args ≡ flat_map (λ part. part) parts)
+GivesEach Gives items args =
+    (lists : List Args) × AllZip Gives items lists × (args ≡ flat_map (λ given. given) lists)
 
 -- no value is refused
 abbrev pub Never : {X : Type 0} → X → Type 0
@@ -65,8 +66,8 @@ is_single count [] = false
 is_single count (item ∷ []) = nat_le (count item) 1
 is_single count (item ∷ next ∷ items) = false
 
--- a rule for slices of a type: which arguments one gives, whether it is refused, and whether it counts as a single
--- argument
+-- a rule for slices of a type: which arguments one gives, whether it is refused, and whether it
+-- counts as a single argument
 pub record SliceRule (X : Type 0) : Type 1 where
   pub Gives : List X → Args → Type 0
   pub Refuses : List X → Type 0
@@ -93,15 +94,16 @@ abbrev pub is_single_slice : {X : Type 0} → Slices X → (X → ℕ) → List 
 is_single_slice by_item count items = is_single count items
 is_single_slice (by_rule rule) count items = rule.is_single items
 
--- how many arguments a slice counts for: one where it counts as a single argument, as many as its item where it has
--- one, and else its length
+-- how many arguments a slice counts for: one where it counts as a single argument, as many as its
+-- item where it has one, and else its length
 abbrev pub count_of_items : {X : Type 0} → (X → ℕ) → List X → ℕ
 count_of_items count [] = 0
 count_of_items count (item ∷ []) = count item
 count_of_items count (item ∷ next ∷ items) = length items + 2
 
 abbrev pub count_of_slice : {X : Type 0} → Slices X → (X → ℕ) → List X → ℕ
-count_of_slice slices count items = if is_single_slice slices count items then 1 else count_of_items count items
+count_of_slice slices count items =
+    if is_single_slice slices count items then 1 else count_of_items count items
 
 -- an optional value gives nothing, or what its item gives
 abbrev pub GivesOption : {X : Type 0} → (X → Args → Type 0) → Option X → Args → Type 0
@@ -125,12 +127,13 @@ abbrev pub digit_of : Bool → List ℕ
 digit_of true = codes "1"
 digit_of false = codes "0"
 
--- what one part gives, and then what another gives
+-- what one value gives, and then what another gives
 abbrev pub GivesBoth : (Args → Type 0) → (Args → Type 0) → Args → Type 0
 GivesBoth First Second args = (a b : Args) × First a × Second b × (args ≡ a ++ b)
 
 -- a pair gives what its key gives, and then what its value gives
-abbrev pub GivesPair : {K V : Type 0} → (K → Args → Type 0) → (V → Args → Type 0) → K × V → Args → Type 0
+abbrev pub GivesPair : {K V : Type 0} → (K → Args → Type 0) → (V → Args → Type 0) → K × V → Args
+    → Type 0
 GivesPair GivesKey GivesValue pair = GivesBoth (GivesKey pair.0) (GivesValue pair.1)
 
 -- a pair's key or value counts for more than one argument
@@ -142,7 +145,8 @@ abbrev pub RefusesPart : {K V : Type 0} → (K → Type 0) → (V → Type 0) �
 RefusesPart RefusesKey RefusesValue pair = RefusesKey pair.0 ⊎ RefusesValue pair.1
 
 -- a pair of a map can't be written
-abbrev pub RefusesPair : {K V : Type 0} → (K → ℕ) → (V → ℕ) → (K → Type 0) → (V → Type 0) → K × V → Type 0
+abbrev pub RefusesPair : {K V : Type 0} → (K → ℕ) → (V → ℕ) → (K → Type 0) → (V → Type 0) → K × V
+    → Type 0
 RefusesPair count_key count_value RefusesKey RefusesValue pair =
     IsWide count_key count_value pair ⊎ RefusesPart RefusesKey RefusesValue pair
 
@@ -173,11 +177,12 @@ pub record RefusedWithin (Wide Refuses : Type 0) (old new : Args) (e : RedisErro
 
 -- how a pair of a map is refused
 abbrev pub RefusedPair : Type 0 → Type 0 → Args → Args → RedisError → Type 0
-RefusedPair Wide Refuses old new e = RefusedAsWide Wide old new e ⊎ RefusedWithin Wide Refuses old new e
+RefusedPair Wide Refuses old new e =
+    RefusedAsWide Wide old new e ⊎ RefusedWithin Wide Refuses old new e
 
 -- pairs are refused at one of them: those before it are none that is refused and were written whole
-pub record RefusedAt {X : Type 0} (Gives : X → Args → Type 0) (Wide Refuses : X → Type 0) (pairs : List X)
-    (old new : Args) (e : RedisError) : Type 0 where
+pub record RefusedAt {X : Type 0} (Gives : X → Args → Type 0) (Wide Refuses : X → Type 0)
+    (pairs : List X) (old new : Args) (e : RedisError) : Type 0 where
   pub before : List X
   pub pair : X
   pub after : List X
@@ -188,6 +193,7 @@ pub record RefusedAt {X : Type 0} (Gives : X → Args → Type 0) (Wide Refuses 
   pub refused : RefusedPair (Wide pair) (Refuses pair) reached new e
 
 -- pairs are refused at one of them, in some order
-abbrev pub RefusedInSomeOrder : {X : Type 0} → (X → Args → Type 0) → (X → Type 0) → (X → Type 0) → List X
-    → Args → Args → RedisError → Type 0
-RefusedInSomeOrder Gives Wide Refuses pairs old new e = InSomeOrder pairs (λ order. RefusedAt Gives Wide Refuses order old new e)
+abbrev pub RefusedInSomeOrder : {X : Type 0} → (X → Args → Type 0) → (X → Type 0) → (X → Type 0)
+    → List X → Args → Args → RedisError → Type 0
+RefusedInSomeOrder Gives Wide Refuses pairs old new e =
+    InSomeOrder pairs (λ order. RefusedAt Gives Wide Refuses order old new e)

@@ -1,3 +1,3 @@
 pub mod Args
 pub mod Options
-pub mod Single
+pub mod SingleArg

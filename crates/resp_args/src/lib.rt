@@ -5,7 +5,7 @@ mod arg_list;
 mod args;
 mod impls;
 mod options;
-mod single;
+mod single_arg;
 mod write;
 
 pub use arg_list::ArgList;
@@ -14,5 +14,5 @@ pub use options::{
     ExistenceCheck, ExpireOption, Expiry, FieldExistenceCheck, ProtocolVersion, SetExpiry,
     is_valid_16_bytes_hex_digest,
 };
-pub use single::ToSingleRedisArg;
+pub use single_arg::ToSingleRedisArg;
 pub use write::RedisWrite;

@@ -1,3 +1,3 @@
 -- What the contracts of arguments cite, given out for the crates of users.
 pub use Rattle.resp_args.specs.Args.{Args, args_of, Appends, Writes, GivesOne, GivesEach, GivesPair, Never, IsRefusal, Slices, by_item, by_rule}
-pub use Rattle.resp_args.specs.Single.{IsSingle, one_argument, single_through}
+pub use Rattle.resp_args.specs.SingleArg.{IsSingle, one_argument, single_through}

@@ -208,7 +208,7 @@ impl<K: ToRedisArgs + Eq + Hash, V: ToRedisArgs> ToRedisArgs for HashMap<K, V> {
 
     ghost count = { λ m. length m.entries };
 
-    #[tactic(auto, using(crate::proofs::Lists::some_order))]
+    #[tactic(auto, using(crate::proofs::GrowingArgs::some_order))]
     fn write_redis_args<W: RedisWrite>(&self, out: &mut W) -> RedisResult<()>
         ensures written { Writes (GivesInSomeOrder (GivesPair K.gives V.gives) self.now.entries)
             (Any (RefusesPair K.count V.count K.refuses V.refuses) self.now.entries)

@@ -1,4 +1,4 @@
-//! Tuples are written as their parts, in order.
+//! Tuples are written as their elements, in order.
 
 ghost use Rattle.std.specs.Prelude.{◌≡◌, ◌⊎◌};
 ghost use Rattle.resp_args.specs.Args.{GivesBoth};

@@ -1,7 +1,7 @@
 use Rattle.std.proofs.Common.{◌≡◌, ◌<◌, ◌+◌, get_or, [], ◌∷◌, ◌++◌, length, arith, sym, ap, ◌∙◌, subst, take}
 use Rattle.std.proofs.lemmas.List.{take_more, get_or_default}
 use borrow.Author.Count.{below_more}
-use Rattle.resp_args.proofs.Lists.{GivesEach-append, Appends-trans}
+use Rattle.resp_args.proofs.GrowingArgs.{GivesEach-append, Appends-trans}
 use Rattle.resp_args.proofs.args.ToRedisArgs.write_each_arg.Goals as goal
 
 pub loop-item-preserved : goal.loop-item-preserved

@@ -1,4 +1,4 @@
-use Rattle.resp_args.proofs.Lists.{progress_start, progress_step, progress_end, progress_fails}
+use Rattle.resp_args.proofs.GrowingArgs.{progress_start, progress_step, progress_end, progress_fails}
 use Rattle.resp_args.proofs.impls.collections.write_hashed_members.Goals as goal
 
 pub loop-member-init : goal.loop-member-init

@@ -1,4 +1,4 @@
-use Rattle.resp_args.proofs.Lists.{Progress}
+use Rattle.resp_args.proofs.GrowingArgs.{Progress}
 use Rattle.resp_args.proofs.impls.collections.write_sorted_members.Given as goal
 
 abbrev pub invariant-loop-member : goal.invariant-loop-member

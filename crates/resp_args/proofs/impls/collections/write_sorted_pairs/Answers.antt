@@ -1,4 +1,4 @@
-use Rattle.resp_args.proofs.Lists.{progress_start, progress_step, progress_end, progress_fails, progress_refused}
+use Rattle.resp_args.proofs.GrowingArgs.{progress_start, progress_step, progress_end, progress_fails, progress_refused}
 use Rattle.resp_args.proofs.impls.collections.write_sorted_pairs.Goals as goal
 
 pub loop-key-init : goal.loop-key-init

@@ -1,5 +1,5 @@
 use Rattle.resp_args.specs.Args.{GivesPair, RefusesPair}
-use Rattle.resp_args.proofs.Lists.{Progress}
+use Rattle.resp_args.proofs.GrowingArgs.{Progress}
 use Rattle.resp_args.proofs.impls.collections.write_sorted_pairs.Given as goal
 
 abbrev pub invariant-loop-key : goal.invariant-loop-key

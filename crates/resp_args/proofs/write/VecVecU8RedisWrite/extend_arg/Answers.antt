@@ -1,7 +1,7 @@
 use Rattle.std.proofs.Common.{◌<◌, ◌++◌, ◌-◌, ◌∙◌, ap, arith, length, Result, Ok, Err}
 use Rattle.std.proofs.lemmas.List.{length-map}
 use Rattle.std.specs.Result.{OnErr}
-use Rattle.resp_args.proofs.Lists.{args_of-set_last, args_of-set_same}
+use Rattle.resp_args.proofs.GrowingArgs.{args_of-set_last, args_of-set_same}
 use Rattle.resp_args.proofs.write.VecVecU8RedisWrite.extend_arg.Goals as goal
 
 at_err : {A E : Type 0} {P : Type 0} (r : Result A E) → P → OnErr r P

@@ -1,4 +1,4 @@
-use Rattle.resp_args.proofs.Lists.{writes_both}
+use Rattle.resp_args.proofs.GrowingArgs.{writes_both}
 use Rattle.resp_args.proofs.impls.tuples.Tuple10ToRedisArgs.write_redis_args.Goals as goal
 
 pub returns : goal.returns

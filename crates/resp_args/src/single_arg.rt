@@ -1,7 +1,7 @@
 //! What gives exactly one argument.
 
 ghost use Rattle.std.specs.Fmt.{decimal, signed_decimal};
-ghost use Rattle.resp_args.specs.Single.{IsSingle, one_argument, single_through};
+ghost use Rattle.resp_args.specs.SingleArg.{IsSingle, one_argument, single_through};
 
 use crate::args::ToRedisArgs;
 use std::borrow::{CowSlice, CowStr};

@@ -50,7 +50,7 @@ Any-last P xs x any =
 Any-amid : {X : Type 0} (P : X → Type 0) (xs : List X) (x : X) (rest : List X) → P x → Any P (xs ++ x ∷ rest)
 Any-amid P xs x rest p = (length xs, x, omega (arith, length-append xs (x ∷ rest)), get_or-append_seam xs x rest x, p)
 
--- some items are written, and the rest are to come
+-- some items are written, and the rest are not
 pub record Progress {X : Type 0} (Gives : X → Args → Type 0) (Refuses : X → Type 0) (all rest : List X) (old new : Args) : Type 0 where
   pub done : List X
   pub split : all ≡ done ++ rest
@@ -95,7 +95,7 @@ in_some_order Gives items Refused old new (Ok x) written =
     ((written.0.0, written.0.1, standing items (λ order. GivesEach Gives order written.0.0) written.0.2), written.1)
 in_some_order Gives items Refused old new (Err e) written = written
 
--- one part was written, and then another
+-- one value was written, and then another
 pub writes_both : (P Q : Args → Type 0) (R S : Type 0) (old mid new : Args) (r : Result (Unit {0}) RedisError) → Appends P old mid × (R → ⊥) → Writes Q S mid new r → Writes (GivesBoth P Q) (R ⊎ S) old new r
 writes_both P Q R S old mid new (Ok x) first second =
     (Appends-trans P Q (GivesBoth P Q) old mid new first.0 second.0 (λ a b p q. (a, b, p, q, refl)), λ refused. ⊎_elim first.1 second.1 refused)
