@@ -10,6 +10,7 @@ abbrev pub bytes_of : Wording → List ℕ
 bytes_of (Fixed text) = inline_text text
 bytes_of (Made text) = string_bytes text
 
--- a fixed text as an error keeps it: whole where it has 64 bytes at most, else the characters that fit before three dots
+-- a fixed text as an error keeps it: whole where it has 64 bytes at most, else the characters that
+-- fit before three dots
 abbrev pub fitting : List ℕ → List ℕ
 fitting text = if nat_le (length text) 64 then text else cut_to 64 text

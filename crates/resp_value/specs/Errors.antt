@@ -30,7 +30,8 @@ category_of_server_kind CrossSlot = codes "cross-slot"
 category_of_server_kind MasterDown = codes "master down"
 category_of_server_kind ReadOnly = codes "read-only"
 category_of_server_kind NotBusy = codes "not busy"
-category_of_server_kind NoSub = codes "Server declined unsubscribe related command in non-subscribed mode"
+category_of_server_kind NoSub =
+    codes "Server declined unsubscribe related command in non-subscribed mode"
 category_of_server_kind NoPerm = []
 
 abbrev pub category_of_kind : ErrorKind → List ℕ
@@ -101,13 +102,13 @@ kind_of_known None = kind.Extension
 -- a pipeline's kind is that of its first error
 abbrev pub kind_of_list : List (ℕ × ServerError) → ErrorKind
 kind_of_list [] = kind.Extension
-kind_of_list (first ∷ rest) = kind_of_known (server.kind_of first.1)
+kind_of_list (first ∷ rest) = kind_of_known (server.server_kind_of first.1)
 
 abbrev pub kind_of : RedisError → ErrorKind
 kind_of (form.General k text detail) = k
 kind_of (form.Io k) = kind.Io
 kind_of (form.Parse e) = kind.Parse
-kind_of (form.Server e) = kind_of_known (server.kind_of e)
+kind_of (form.Server e) = kind_of_known (server.server_kind_of e)
 kind_of (form.Pipeline errors) = kind_of_list errors
 kind_of (form.Aborted errors) = kind.Server ExecAbort
 kind_of form.OutOfMemory = kind.OutOfMemory
@@ -115,11 +116,11 @@ kind_of form.OutOfMemory = kind.OutOfMemory
 abbrev pub detail_of : RedisError → Option (List ℕ)
 detail_of (form.General k text detail) = detail
 detail_of (form.Parse e) = Some (description_of e)
-detail_of (form.Server e) = server.details_of e
+detail_of (form.Server e) = server.server_details_of e
 detail_of _ = None
 
 abbrev pub own_code : RedisError → Option (List ℕ)
-own_code (form.Server e) = Some (server.code_of e)
+own_code (form.Server e) = Some (server.server_code_of e)
 own_code _ = None
 
 abbrev pub code_or : Option (List ℕ) → ErrorKind → Option (List ℕ)

@@ -1,5 +1,5 @@
--- The first server error of a reply, its leaves read in order: parts in order, a key before its value, an
--- attribute's data before its pairs.
+-- The first server error of a reply, its leaves read in order: elements in order, a key before its
+-- value, an attribute's data before its pairs.
 use Rattle.std.specs.Prelude.{List, [], ◌∷◌, Option, None, Some}
 use Rattle.resp_value.specs.declared.value.Value.{Value, fold-Value}
 use Rattle.resp_value.specs.declared.value.Value.TheOpen.{Value-F}
@@ -17,10 +17,10 @@ abbrev pub first_of_pairs : {A : Type 0} → List (Option A × Option A) → Opt
 first_of_pairs [] = None
 first_of_pairs (p ∷ ps) = or_else p.0 (or_else p.1 (first_of_pairs ps))
 
--- what a value answers whose parts answered this
+-- what a value answers whose elements answered this
 abbrev pub error_step : Value-F (Option ServerError) → Option ServerError
-error_step (Value-F.Array parts) = first_some parts
-error_step (Value-F.Set parts) = first_some parts
+error_step (Value-F.Array elements) = first_some elements
+error_step (Value-F.Set elements) = first_some elements
 error_step (Value-F.Push kind payload) = first_some payload
 error_step (Value-F.Map pairs) = first_of_pairs pairs
 error_step (Value-F.Attribute payload attributes) = or_else payload (first_of_pairs attributes)

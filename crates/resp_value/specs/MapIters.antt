@@ -5,7 +5,7 @@ use Rattle.resp_value.specs.declared.value.Value.{Value}
 use Rattle.resp_value.specs.declared.map_iter.MapIter.{MapIter}
 use Rattle.resp_value.specs.declared.map_iter.OwnedMapIter.{OwnedMapIter}
 use Rattle.resp_value.specs.declared.map_iter.Rest.{Rest}
-use Rattle.resp_value.specs.declared.map_iter.Rest.TheVariants.{Entries, Parts}
+use Rattle.resp_value.specs.declared.map_iter.Rest.TheVariants.{Entries, Elements}
 use Rattle.std.specs.Vec.Iter.{into_iter_items}
 use Rattle.resp_value.specs.declared.map_iter.OwnedRest.{OwnedRest}
 use Rattle.resp_value.specs.declared.map_iter.OwnedRest.TheVariants as owned
@@ -13,7 +13,7 @@ use Rattle.resp_value.specs.Views.{pairs}
 
 abbrev rest_of : Rest → List (Value × Value)
 rest_of (Entries entries) = entries.now
-rest_of (Parts parts) = pairs parts.now
+rest_of (Elements elements) = pairs elements.now
 
 -- the pairs that are left
 abbrev pub pairs_left : MapIter → List (Value × Value)
@@ -25,7 +25,7 @@ seen pair = (pair.0.now, pair.1.now)
 
 abbrev owned_rest_of : OwnedRest → List (Value × Value)
 owned_rest_of (owned.Entries entries) = into_iter_items entries
-owned_rest_of (owned.Parts parts) = pairs (into_iter_items parts)
+owned_rest_of (owned.Elements elements) = pairs (into_iter_items elements)
 
 -- the pairs that are left
 abbrev pub owned_pairs_left : OwnedMapIter → List (Value × Value)

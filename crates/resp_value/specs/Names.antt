@@ -22,19 +22,19 @@ kind_named name =
     (push.Other name))))))))))
 
 -- the name of a kind
-abbrev pub name_of_kind : PushKind → List ℕ
-name_of_kind push.Disconnection = codes "disconnection"
-name_of_kind (push.Other name) = name
-name_of_kind push.Invalidate = codes "invalidate"
-name_of_kind push.Message = codes "message"
-name_of_kind push.PMessage = codes "pmessage"
-name_of_kind push.SMessage = codes "smessage"
-name_of_kind push.Unsubscribe = codes "unsubscribe"
-name_of_kind push.PUnsubscribe = codes "punsubscribe"
-name_of_kind push.SUnsubscribe = codes "sunsubscribe"
-name_of_kind push.Subscribe = codes "subscribe"
-name_of_kind push.PSubscribe = codes "psubscribe"
-name_of_kind push.SSubscribe = codes "ssubscribe"
+abbrev pub name_of_push_kind : PushKind → List ℕ
+name_of_push_kind push.Disconnection = codes "disconnection"
+name_of_push_kind (push.Other name) = name
+name_of_push_kind push.Invalidate = codes "invalidate"
+name_of_push_kind push.Message = codes "message"
+name_of_push_kind push.PMessage = codes "pmessage"
+name_of_push_kind push.SMessage = codes "smessage"
+name_of_push_kind push.Unsubscribe = codes "unsubscribe"
+name_of_push_kind push.PUnsubscribe = codes "punsubscribe"
+name_of_push_kind push.SUnsubscribe = codes "sunsubscribe"
+name_of_push_kind push.Subscribe = codes "subscribe"
+name_of_push_kind push.PSubscribe = codes "psubscribe"
+name_of_push_kind push.SSubscribe = codes "ssubscribe"
 
 -- the format of a verbatim text with this name
 unfoldable pub format_named : List ℕ → VerbatimFormat

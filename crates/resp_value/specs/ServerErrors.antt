@@ -45,7 +45,10 @@ kind_of_code code =
 
 -- an error of this code and detail
 abbrev pub error_with : List ℕ → Option (List ℕ) → ServerError
-error_with code detail = elim (kind_of_code code) [ Some kind ↦ Known kind detail | None ↦ Extension code detail ]
+error_with code detail = elim (kind_of_code code) [
+  | Some kind ↦ Known kind detail
+  | None ↦ Extension code detail
+]
 
 abbrev pub is_space : ℕ → Bool
 is_space byte = byte == 32
@@ -56,17 +59,17 @@ server_error text = cond (position_or_len is_space text == length text)
     (error_with text None)
     (error_with (before_first is_space text) (Some (after_first is_space text)))
 
-abbrev pub kind_of : ServerError → Option ServerErrorKind
-kind_of (Known kind detail) = Some kind
-kind_of (Extension code detail) = None
+abbrev pub server_kind_of : ServerError → Option ServerErrorKind
+server_kind_of (Known kind detail) = Some kind
+server_kind_of (Extension code detail) = None
 
-abbrev pub code_of : ServerError → List ℕ
-code_of (Known kind detail) = code_of_kind kind
-code_of (Extension code detail) = code
+abbrev pub server_code_of : ServerError → List ℕ
+server_code_of (Known kind detail) = code_of_kind kind
+server_code_of (Extension code detail) = code
 
-abbrev pub details_of : ServerError → Option (List ℕ)
-details_of (Known kind detail) = detail
-details_of (Extension code detail) = detail
+abbrev pub server_details_of : ServerError → Option (List ℕ)
+server_details_of (Known kind detail) = detail
+server_details_of (Extension code detail) = detail
 
 abbrev pub after_code : Option (List ℕ) → List ℕ
 after_code None = []
@@ -74,28 +77,29 @@ after_code (Some detail) = 32 ∷ detail
 
 -- the text of an error: its code, and where there is a detail a space and the detail
 abbrev pub text_of : ServerError → List ℕ
-text_of error = code_of error ++ after_code (details_of error)
+text_of error = server_code_of error ++ after_code (server_details_of error)
 
 -- the name of each known kind
-abbrev pub name_of_kind : ServerErrorKind → List ℕ
-name_of_kind ResponseError = codes "ResponseError"
-name_of_kind ExecAbort = codes "ExecAbort"
-name_of_kind BusyLoading = codes "BusyLoading"
-name_of_kind NoScript = codes "NoScript"
-name_of_kind Moved = codes "Moved"
-name_of_kind Ask = codes "Ask"
-name_of_kind TryAgain = codes "TryAgain"
-name_of_kind ClusterDown = codes "ClusterDown"
-name_of_kind CrossSlot = codes "CrossSlot"
-name_of_kind MasterDown = codes "MasterDown"
-name_of_kind ReadOnly = codes "ReadOnly"
-name_of_kind NotBusy = codes "NotBusy"
-name_of_kind NoSub = codes "NoSub"
-name_of_kind NoPerm = codes "NoPerm"
+abbrev pub name_of_server_kind : ServerErrorKind → List ℕ
+name_of_server_kind ResponseError = codes "ResponseError"
+name_of_server_kind ExecAbort = codes "ExecAbort"
+name_of_server_kind BusyLoading = codes "BusyLoading"
+name_of_server_kind NoScript = codes "NoScript"
+name_of_server_kind Moved = codes "Moved"
+name_of_server_kind Ask = codes "Ask"
+name_of_server_kind TryAgain = codes "TryAgain"
+name_of_server_kind ClusterDown = codes "ClusterDown"
+name_of_server_kind CrossSlot = codes "CrossSlot"
+name_of_server_kind MasterDown = codes "MasterDown"
+name_of_server_kind ReadOnly = codes "ReadOnly"
+name_of_server_kind NotBusy = codes "NotBusy"
+name_of_server_kind NoSub = codes "NoSub"
+name_of_server_kind NoPerm = codes "NoPerm"
 
--- what stands for the code when an error is shown: a known kind's name, else the code in quotes; known of ASCII codes
+-- what stands for the code when an error is shown: a known kind's name, else the code in quotes;
+-- known of ASCII codes
 abbrev pub shown_code : ServerError → Option (List ℕ)
-shown_code (Known kind detail) = Some (name_of_kind kind)
+shown_code (Known kind detail) = Some (name_of_server_kind kind)
 shown_code (Extension code detail) = debug_str code
 
 -- the details, behind a colon and a space
@@ -105,4 +109,4 @@ shown_details (Some detail) = codes ": " ++ detail
 
 -- the text of an error when it is shown, where it is known
 abbrev pub display_of : ServerError → Option (List ℕ)
-display_of error = shown_code error ++? Some (shown_details (details_of error))
+display_of error = shown_code error ++? Some (shown_details (server_details_of error))

@@ -12,8 +12,8 @@ pairs (key ∷ value ∷ rest) = (key, value) ∷ pairs rest
 -- the values of an array, of a set, or of nothing
 abbrev pub sequence_of : Value → Option (List Value)
 sequence_of value = elim (out-Value value) [
-  | Value-F.Array parts ↦ Some parts
-  | Value-F.Set parts ↦ Some parts
+  | Value-F.Array elements ↦ Some elements
+  | Value-F.Set elements ↦ Some elements
   | Value-F.Nil ↦ Some []
   | _ ↦ None
 ]
@@ -22,7 +22,7 @@ sequence_of value = elim (out-Value value) [
 abbrev pub pairs_of : Value → Option (List (Value × Value))
 pairs_of value = elim (out-Value value) [
   | Value-F.Map entries ↦ Some entries
-  | Value-F.Array parts ↦ cond (length parts % 2 == 0) (Some (pairs parts)) None
+  | Value-F.Array elements ↦ cond (length elements % 2 == 0) (Some (pairs elements)) None
   | _ ↦ None
 ]
 
@@ -30,7 +30,7 @@ abbrev pub is_bulk_string : Value → Bool
 is_bulk_string value = elim (out-Value value) [ Value-F.BulkString bytes ↦ true | _ ↦ false ]
 
 abbrev pub is_array : Value → Bool
-is_array value = elim (out-Value value) [ Value-F.Array parts ↦ true | _ ↦ false ]
+is_array value = elim (out-Value value) [ Value-F.Array elements ↦ true | _ ↦ false ]
 
 abbrev pub is_cursor_list : List Value → Bool
 is_cursor_list (cursor ∷ items ∷ []) = cond (is_bulk_string cursor) (is_array items) false
@@ -38,4 +38,7 @@ is_cursor_list _ = false
 
 -- an array of exactly a bulk string and an array
 abbrev pub is_cursor : Value → Bool
-is_cursor value = elim (out-Value value) [ Value-F.Array parts ↦ is_cursor_list parts | _ ↦ false ]
+is_cursor value = elim (out-Value value) [
+  | Value-F.Array elements ↦ is_cursor_list elements
+  | _ ↦ false
+]

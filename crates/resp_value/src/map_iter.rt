@@ -14,7 +14,7 @@ pub struct MapIter<'a> {
 #[derive(Drop)]
 pub(crate) enum Rest<'a> {
     Entries(&'a [(Value, Value)]),
-    Parts(&'a [Value]),
+    Elements(&'a [Value]),
 }
 
 impl<'a> MapIter<'a> {
@@ -44,17 +44,17 @@ impl<'a> Iterator for MapIter<'a> {
                 self.rest = Rest::Entries(others);
                 Some((&entry.0, &entry.1))
             }
-            Rest::Parts(parts) => {
-                let (key, others) = parts.split_first()?;
+            Rest::Elements(elements) => {
+                let (key, others) = elements.split_first()?;
                 let (value, others) = others.split_first()?;
-                self.rest = Rest::Parts(others);
+                self.rest = Rest::Elements(others);
                 Some((key, value))
             }
         }
     }
 
     /// Exactly as many pairs as there are left.
-    #[tactic(auto, using(crate::proofs::Pairs::pairs_counted))]
+    #[tactic(auto, using(crate::proofs::PairsCounted::pairs_counted))]
     fn size_hint(&self) -> (usize, Option<usize>)
         ensures lower { IsWithinCount result.0 (at_most (length (pairs_left self.now))) }
         ensures upper { IfSome result.1 (UpTo (at_most (length (pairs_left self.now)))) }
@@ -63,7 +63,7 @@ impl<'a> Iterator for MapIter<'a> {
     {
         let pairs = match self.rest {
             Rest::Entries(entries) => entries.len(),
-            Rest::Parts(parts) => parts.len() / 2,
+            Rest::Elements(elements) => elements.len() / 2,
         };
         (pairs, Some(pairs))
     }
@@ -78,7 +78,7 @@ pub struct OwnedMapIter {
 #[derive(Drop)]
 pub(crate) enum OwnedRest {
     Entries(IntoIter<(Value, Value)>),
-    Parts(IntoIter<Value>),
+    Elements(IntoIter<Value>),
 }
 
 impl OwnedMapIter {
@@ -104,16 +104,16 @@ impl Iterator for OwnedMapIter {
     fn next(&mut self) -> Option<(Value, Value)> {
         match &mut self.rest {
             OwnedRest::Entries(entries) => entries.next(),
-            OwnedRest::Parts(parts) => {
-                let key = parts.next()?;
-                let value = parts.next()?;
+            OwnedRest::Elements(elements) => {
+                let key = elements.next()?;
+                let value = elements.next()?;
                 Some((key, value))
             }
         }
     }
 
     /// Exactly as many pairs as there are left.
-    #[tactic(auto, using(crate::proofs::Pairs::pairs_counted))]
+    #[tactic(auto, using(crate::proofs::PairsCounted::pairs_counted))]
     fn size_hint(&self) -> (usize, Option<usize>)
         ensures lower { IsWithinCount result.0 (at_most (length (owned_pairs_left self.now))) }
         ensures upper { IfSome result.1 (UpTo (at_most (length (owned_pairs_left self.now)))) }
@@ -122,7 +122,7 @@ impl Iterator for OwnedMapIter {
     {
         let pairs = match &self.rest {
             OwnedRest::Entries(entries) => entries.len(),
-            OwnedRest::Parts(parts) => parts.len() / 2,
+            OwnedRest::Elements(elements) => elements.len() / 2,
         };
         (pairs, Some(pairs))
     }

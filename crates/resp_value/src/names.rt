@@ -1,7 +1,8 @@
 //! Names inside replies: kinds of push messages and formats of verbatim texts.
 
 ghost use Rattle.std.specs.Prelude.{◌≡◌, IfOk, Some, string_bytes};
-ghost use Rattle.resp_value.specs.Names.{kind_named, name_of_kind, format_named, name_of_format};
+ghost use Rattle.resp_value.specs.Names.{kind_named, name_of_push_kind};
+ghost use Rattle.resp_value.specs.Names.{format_named, name_of_format};
 
 use crate::text::Text;
 use std::alloc::{AllocError, Global};
@@ -40,7 +41,7 @@ pub enum PushKind {
 #[tactic(auto, unfolding(crate::specs::Names::kind_named))]
 pub fn get_push_kind(name: String) -> PushKind
     ensures kind { result ≡ kind_named (string_bytes name) }
-    ensures named { name_of_kind result ≡ string_bytes name }
+    ensures named { name_of_push_kind result ≡ string_bytes name }
 {
     match name.as_str() {
         "invalidate" => PushKind::Invalidate,
@@ -60,7 +61,7 @@ pub fn get_push_kind(name: String) -> PushKind
 impl PushKind {
     /// The name of the kind, as a server sends it.
     pub fn name(&self) -> &str
-        ensures { result.now ≡ name_of_kind self.now }
+        ensures { result.now ≡ name_of_push_kind self.now }
     {
         match self {
             PushKind::Disconnection => "disconnection",
@@ -100,7 +101,7 @@ impl PushKind {
 }
 
 impl fmt::Display for PushKind {
-    ghost output = { λ k. Some (name_of_kind k) };
+    ghost output = { λ k. Some (name_of_push_kind k) };
 
     fn fmt<W: fmt::Write>(&self, f: &mut fmt::Formatter<W>) -> fmt::Result {
         let name = self.name();

@@ -84,7 +84,7 @@ impl PushInfo {
         let alloc = self.payload.allocator();
         Ok(PushInfo {
             kind: self.kind.try_clone(alloc)?,
-            payload: clone_parts(alloc, &self.payload)?,
+            payload: clone_elements(alloc, &self.payload)?,
         })
     }
 }
@@ -111,7 +111,7 @@ impl Value {
             Value::BulkString(bytes) => {
                 Ok(Value::BulkString(Items::from_slice(alloc, bytes.as_slice())?))
             }
-            Value::Array(parts) => Ok(Value::Array(clone_parts(alloc, parts)?)),
+            Value::Array(elements) => Ok(Value::Array(clone_elements(alloc, elements)?)),
             Value::Map(pairs) => Ok(Value::Map(clone_pairs(alloc, pairs)?)),
             Value::Attribute {
                 payload,
@@ -126,21 +126,21 @@ impl Value {
             Value::BigNumber(bytes) => {
                 Ok(Value::BigNumber(Items::from_slice(alloc, bytes.as_slice())?))
             }
-            Value::Set(parts) => Ok(Value::Set(clone_parts(alloc, parts)?)),
+            Value::Set(elements) => Ok(Value::Set(clone_elements(alloc, elements)?)),
             Value::VerbatimString { format, text } => Ok(Value::VerbatimString {
                 format: format.try_clone(alloc)?,
                 text: text.try_clone(alloc)?,
             }),
             Value::Push { kind, payload } => Ok(Value::Push {
                 kind: kind.try_clone(alloc)?,
-                payload: clone_parts(alloc, payload)?,
+                payload: clone_elements(alloc, payload)?,
             }),
         }
     }
 
     /// The value, or the first server error in it.
     ///
-    /// The leaves are looked at in order: parts in order, a key before its value, an attribute's
+    /// The leaves are looked at in order: elements in order, a key before its value, an attribute's
     /// data before its pairs. Takes no memory.
     pub fn extract_error(self) -> RedisResult<Value>
         ensures { MatchOption (first_error self) (result ≡ Ok self) (λ e. result
@@ -162,7 +162,7 @@ impl Value {
     {
         match self {
             Value::ServerError(_) => true,
-            Value::Array(parts) | Value::Set(parts) => any_has_error(parts.as_slice()),
+            Value::Array(elements) | Value::Set(elements) => any_has_error(elements.as_slice()),
             Value::Push { payload, .. } => any_has_error(payload.as_slice()),
             Value::Map(pairs) => any_pair_has_error(pairs.as_slice()),
             Value::Attribute {
@@ -179,7 +179,7 @@ impl Value {
     {
         match self {
             Value::ServerError(error) => Some(error),
-            Value::Array(parts) | Value::Set(parts) => first_error_in(parts),
+            Value::Array(elements) | Value::Set(elements) => first_error_in(elements),
             Value::Push { payload, .. } => first_error_in(payload),
             Value::Map(pairs) => first_error_in_pairs(pairs),
             Value::Attribute {
@@ -195,11 +195,11 @@ impl Value {
 }
 
 #[cycle(look)]
-fn any_has_error(parts: &[Value]) -> bool
-    ensures { result ≡ is_some (first_some (map first_error parts.now)) }
+fn any_has_error(elements: &[Value]) -> bool
+    ensures { result ≡ is_some (first_some (map first_error elements.now)) }
 {
-    for part in parts {
-        if part.has_error() {
+    for element in elements {
+        if element.has_error() {
             return true;
         }
     }
@@ -220,11 +220,11 @@ fn any_pair_has_error(pairs: &[(Value, Value)]) -> bool
 }
 
 #[cycle(find)]
-fn first_error_in(parts: Items<Value>) -> Option<ServerError>
-    ensures { result ≡ first_some (map first_error parts) }
+fn first_error_in(elements: Items<Value>) -> Option<ServerError>
+    ensures { result ≡ first_some (map first_error elements) }
 {
-    for part in parts.into_vec() {
-        if let Some(error) = part.into_first_error() {
+    for element in elements.into_vec() {
+        if let Some(error) = element.into_first_error() {
             return Some(error);
         }
     }
@@ -247,12 +247,12 @@ fn first_error_in_pairs(pairs: Items<(Value, Value)>) -> Option<ServerError>
 }
 
 #[cycle(clone)]
-fn clone_parts(alloc: Global, parts: &Items<Value>) -> Result<Items<Value>, AllocError>
-    ensures { IfOk result (λ copies. copies ≡ parts.now) }
+fn clone_elements(alloc: Global, elements: &Items<Value>) -> Result<Items<Value>, AllocError>
+    ensures { IfOk result (λ copies. copies ≡ elements.now) }
 {
     let mut copies = Items::new(alloc);
-    for part in parts.as_slice() {
-        copies.push(part.try_clone(alloc)?)?;
+    for element in elements.as_slice() {
+        copies.push(element.try_clone(alloc)?)?;
     }
     Ok(copies)
 }
@@ -282,14 +282,14 @@ impl fmt::Debug for Value {
                 Ok(text) => write!(f, "bulk-string('{text:?}')"),
                 Err(_) => write!(f, "binary-data({bytes:?})"),
             },
-            Value::Array(parts) => write!(f, "array({parts:?})"),
+            Value::Array(elements) => write!(f, "array({elements:?})"),
             Value::Map(pairs) => write!(f, "map({pairs:?})"),
             Value::Attribute { payload, .. } => write!(f, "attribute({payload:?})"),
             Value::ServerError(error) => write_server_error(f, error),
             Value::Boolean(truth) => write!(f, "boolean({truth})"),
             Value::Double(text) => write!(f, "double({text})"),
             Value::BigNumber(bytes) => write!(f, "big-number({bytes:?})"),
-            Value::Set(parts) => write!(f, "set({parts:?})"),
+            Value::Set(elements) => write!(f, "set({elements:?})"),
             Value::VerbatimString { format, text } => {
                 write!(f, "verbatim-string({format:?},{text:?})")
             }

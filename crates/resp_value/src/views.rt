@@ -15,8 +15,8 @@ impl Value {
         ensures { result ≡ is_cursor self.now }
     {
         match self {
-            Value::Array(parts) => matches!(
-                parts.as_slice(),
+            Value::Array(elements) => matches!(
+                elements.as_slice(),
                 [Value::BulkString(_), Value::Array(_)]
             ),
             _ => false,
@@ -28,7 +28,7 @@ impl Value {
         ensures { option_copied result ≡ sequence_of self.now }
     {
         match self {
-            Value::Array(parts) | Value::Set(parts) => Some(parts.as_slice()),
+            Value::Array(elements) | Value::Set(elements) => Some(elements.as_slice()),
             Value::Nil => Some(&[]),
             _ => None,
         }
@@ -38,10 +38,10 @@ impl Value {
     /// the `Err`. Takes no memory.
     pub fn into_sequence(self, alloc: Global) -> Result<Vec<Value>, Value>
         ensures { MatchOption (sequence_of self) (result
-            ≡ Err self) (λ parts. IsOkAnd result (λ v. v.items ≡ parts)) }
+            ≡ Err self) (λ elements. IsOkAnd result (λ v. v.items ≡ elements)) }
     {
         match self {
-            Value::Array(parts) | Value::Set(parts) => Ok(parts.into_vec()),
+            Value::Array(elements) | Value::Set(elements) => Ok(elements.into_vec()),
             Value::Nil => Ok(Vec::new(alloc)),
             other => Err(other),
         }
@@ -53,9 +53,9 @@ impl Value {
     {
         match self {
             Value::Map(entries) => Some(MapIter::over(Rest::Entries(entries.as_slice()))),
-            Value::Array(parts) => {
-                if parts.len() % 2 == 0 {
-                    Some(MapIter::over(Rest::Parts(parts.as_slice())))
+            Value::Array(elements) => {
+                if elements.len() % 2 == 0 {
+                    Some(MapIter::over(Rest::Elements(elements.as_slice())))
                 } else {
                     None
                 }
@@ -74,11 +74,11 @@ impl Value {
             Value::Map(entries) => Ok(OwnedMapIter::over(OwnedRest::Entries(
                 entries.into_vec().into_iter(),
             ))),
-            Value::Array(parts) => {
-                if parts.len() % 2 == 0 {
-                    Ok(OwnedMapIter::over(OwnedRest::Parts(parts.into_vec().into_iter())))
+            Value::Array(elements) => {
+                if elements.len() % 2 == 0 {
+                    Ok(OwnedMapIter::over(OwnedRest::Elements(elements.into_vec().into_iter())))
                 } else {
-                    Err(Value::Array(parts))
+                    Err(Value::Array(elements))
                 }
             }
             other => Err(other),

@@ -2,8 +2,10 @@
 
 ghost use Rattle.std.specs.Prelude.{◌≡◌, ◌++◌, IfOk};
 ghost use Rattle.std.specs.Option.{option_copied};
-ghost use Rattle.resp_value.specs.ServerErrors.{kind_of, code_of, details_of, text_of, after_code};
-ghost use Rattle.resp_value.specs.ServerErrors.{server_error, error_with, name_of_kind, display_of};
+ghost use Rattle.resp_value.specs.ServerErrors.{server_kind_of, server_code_of};
+ghost use Rattle.resp_value.specs.ServerErrors.{server_details_of, text_of, after_code};
+ghost use Rattle.resp_value.specs.ServerErrors.{server_error, error_with, name_of_server_kind};
+ghost use Rattle.resp_value.specs.ServerErrors.{display_of};
 ghost use Rattle.resp_value.specs.Memory.{OnlyMemory};
 
 use crate::errors::{RedisResult, ServerErrorKind};
@@ -37,8 +39,8 @@ pub enum ServerError {
 impl ServerError {
     /// The error of an error reply's text: the code up to the first space, then the detail.
     ///
-    /// Without a space the whole text is the code and there is no detail. Fails only for want of
-    /// memory.
+    /// Without a space the whole text is the code and there is no detail. Fails only with
+    /// `OutOfMemory`.
     #[tactic(auto, unfolding(crate::specs::ServerErrors::server_error))]
     pub fn from_text(alloc: Global, text: &str) -> RedisResult<ServerError>
         ensures read { IfOk result (λ e. e ≡ server_error text.now) }
@@ -70,7 +72,7 @@ impl ServerError {
 
     /// The kind, if the code is a known one.
     pub fn kind(&self) -> Option<ServerErrorKind>
-        ensures { result ≡ kind_of self.now }
+        ensures { result ≡ server_kind_of self.now }
     {
         match self {
             ServerError::Known { kind, .. } => Some(*kind),
@@ -80,7 +82,7 @@ impl ServerError {
 
     /// The code, as `ERR`.
     pub fn code(&self) -> &str
-        ensures { result.now ≡ code_of self.now }
+        ensures { result.now ≡ server_code_of self.now }
     {
         match self {
             ServerError::Known { kind, .. } => kind.code(),
@@ -90,7 +92,7 @@ impl ServerError {
 
     /// What the server says after the code, if it says anything.
     pub fn details(&self) -> Option<&str>
-        ensures { option_copied result ≡ details_of self.now }
+        ensures { option_copied result ≡ server_details_of self.now }
     {
         match self {
             ServerError::Known { detail, .. } | ServerError::Extension { detail, .. } => {
@@ -130,7 +132,7 @@ fn clone_detail(alloc: Global, detail: &Option<Text>) -> Result<Option<Text>, Al
 
 impl ServerErrorKind {
     fn name(self) -> &'static str
-        ensures { result.now ≡ name_of_kind self }
+        ensures { result.now ≡ name_of_server_kind self }
     {
         match self {
             ServerErrorKind::ResponseError => "ResponseError",

@@ -5,7 +5,7 @@ use Rattle.resp_value.specs.contracts.errors.redis_error.RedisErrorPartialEq.The
 use Rattle.resp_value.specs.contracts.errors.redis_error.RedisErrorEq.TheImpl.Laws as equal_errors
 use Rattle.resp_value.specs.contracts.errors.kinds.ErrorKindEq.TheImpl.Laws as equal_kinds
 use Rattle.resp_value.specs.Equality.{without_words}
-use Rattle.resp_value.proofs.Equal.{tells_kind, tells_io_kind, tells_parsing, tells_server, tells_entries}
+use Rattle.resp_value.proofs.EqualErrors.{tells_kind, tells_io_kind, tells_parsing, tells_server, tells_entries}
 use Rattle.resp_value.proofs.laws.law_of_equal_errors.Goals as goal
 
 sound : (a b : RedisError) → errors.ghosts.eq a b ≡ true → without_words a ≡ without_words b

@@ -3,11 +3,11 @@ use Rattle.std.specs.Vec.Iter.{into_iter_items}
 use Rattle.resp_value.specs.FirstError.{first_error, first_some, first_of_pairs}
 use Rattle.resp_value.proofs.value.+find.Given as goal
 
-abbrev pub invariant-first_error_in-loop-part : goal.invariant-first_error_in-loop-part
-invariant-first_error_in-loop-part l =
-    (goal.iterator-first_error_in-loop-part).can_next l.part-iterator ×
-    (goal.iterator-first_error_in-loop-part).is_finite l.part-iterator ×
-    (first_some (map first_error (into_iter_items l.part-iterator)) ≡ first_some (map first_error l.fn.parts))
+abbrev pub invariant-first_error_in-loop-element : goal.invariant-first_error_in-loop-element
+invariant-first_error_in-loop-element l =
+    (goal.iterator-first_error_in-loop-element).can_next l.element-iterator ×
+    (goal.iterator-first_error_in-loop-element).is_finite l.element-iterator ×
+    (first_some (map first_error (into_iter_items l.element-iterator)) ≡ first_some (map first_error l.fn.elements))
 
 abbrev pub invariant-first_error_in_pairs-loop-key : goal.invariant-first_error_in_pairs-loop-key
 invariant-first_error_in_pairs-loop-key l =

@@ -1,5 +1,5 @@
--- How `Boxed` stores its value, so that a recursive type may refer to itself through it: it does so as the
--- `Box` inside does.
+-- How `Boxed` stores its value, so that a recursive type may refer to itself through it: it does so
+-- as the `Box` inside does.
 use mathlib.Core.Path.{refl}
 use mathlib.Core.Former.{Former, this, const, pair, via}
 use base.Stored.{gnil}
@@ -31,8 +31,10 @@ the_weighed weighed = weighed
 
 -- the one field, a `Box`: its address and allocator, and its value
 abbrev stored : Former {0}
-stored = via (pair (const (Ptr × Global)) this) Inside (λ X b. ((b.inner.ptr, b.inner.alloc), b.inner.value))
-    (λ X v. record { inner = record { ptr = v.0.0; alloc = v.0.1; value = v.1 } }) (λ X b. refl) (λ X v. refl)
+stored = via (pair (const (Ptr × Global)) this) Inside
+    (λ X b. ((b.inner.ptr, b.inner.alloc), b.inner.value))
+    (λ X v. record { inner = record { ptr = v.0.0; alloc = v.0.1; value = v.1 } })
+    (λ X b. refl) (λ X v. refl)
 
 -- the same box with another value
 abbrev holding : {X Y : Type 0} → Box X Global → Y → Box Y Global
@@ -45,16 +47,27 @@ module _ (R S : RattleType) (along : R.Denot → S.Denot) where
   box_places : Alike R S along → Alike (box_row R) (box_row S) (λ b. holding b (along b.value))
   unfolding part_of
   box_places alike = record {
-    mir_same = λ i. (box_row (one_value R (alike.mir_same i) (λ _. ftrue) (λ _ _. nothing) gnil)).mir;
-    own_same = λ b i. (box_row (one_value R (alike.mir_same i) (alike.own_same b.value i) (alike.shr_same b.value i) gnil)).own_val (holding b tt);
-    shr_same = λ b i. (box_row (one_value R (alike.mir_same i) (alike.own_same b.value i) (alike.shr_same b.value i) gnil)).shr_at (holding b tt);
+    mir_same = λ i.
+        (box_row (one_value R (alike.mir_same i) (λ _. ftrue) (λ _ _. nothing) gnil)).mir;
+    own_same = λ b i.
+        (box_row (one_value R (alike.mir_same i) (alike.own_same b.value i)
+        (alike.shr_same b.value i) gnil)).own_val (holding b tt);
+    shr_same = λ b i.
+        (box_row (one_value R (alike.mir_same i) (alike.own_same b.value i)
+        (alike.shr_same b.value i) gnil)).shr_at (holding b tt);
   }
 
-  pub the_places : Alike R S along → Alike (seen.the_row R) (seen.the_row S) ((the_former this).map R.Denot S.Denot along)
-  the_places alike = view_places stored this view (λ X Y k b. refl) (λ X b. refl) R.Denot S.Denot along (seen.the_row R).coded (seen.the_row S).coded
-      (invariant R.Denot) (invariant S.Denot) (λ b p q. refl) (λ b p q. refl) (λ b p. tt) (λ b p. tt)
+  pub the_places : Alike R S along
+      → Alike (seen.the_row R) (seen.the_row S) ((the_former this).map R.Denot S.Denot along)
+  the_places alike = view_places stored this view (λ X Y k b. refl) (λ X b. refl)
+      R.Denot S.Denot along (seen.the_row R).coded (seen.the_row S).coded
+      (invariant R.Denot) (invariant S.Denot)
+      (λ b p q. refl) (λ b p q. refl) (λ b p. tt) (λ b p. tt)
       (over (inside.the_row R)) (over (inside.the_row S))
-      (struct_places (inside.the_type R) (inside.the_type S) ((λ b. holding b (along b.value)), tt) _ (λ b. refl) refl (laid _ _ _ (box_places alike), tt))
+      (struct_places (inside.the_type R) (inside.the_type S)
+      ((λ b. holding b (along b.value)), tt) _ (λ b. refl) refl
+      (laid _ _ _ (box_places alike), tt))
 
-  pub the_codes_placed : Recodes R S along → Recodes (seen.the_row R) (seen.the_row S) ((the_former this).map R.Denot S.Denot along)
+  pub the_codes_placed : Recodes R S along
+      → Recodes (seen.the_row R) (seen.the_row S) ((the_former this).map R.Denot S.Denot along)
   the_codes_placed recodes value = recodes value
