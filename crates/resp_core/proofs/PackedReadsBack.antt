@@ -13,7 +13,10 @@ use Rattle.resp_args.specs.Args.{Args}
 use Rattle.resp_parse.specs.Lines.{crlf, NoBreak}
 use Rattle.resp_parse.specs.Laws.{LawOfPrefixes}
 use Rattle.resp_parse.specs.Reads.{Reads}
-use Rattle.resp_parse.specs.Grammar.{Good, Header, Joined, is_type, next, body, elements, wrong, or_nil}
+use Rattle.resp_parse.specs.declared.type_byte.TypeByte.{TypeByte}
+use Rattle.resp_parse.specs.declared.type_byte.TypeByte.TheVariants as type_byte
+use Rattle.resp_parse.specs.TypeBytes.{byte_of}
+use Rattle.resp_parse.specs.Grammar.{Good, Header, Joined, announced, body, elements, invalid, or_nil}
 use Rattle.resp_value.specs.declared.errors.kinds.FrameFault.TheVariants.{NotInteger}
 use Rattle.resp_core.specs.Packed.{length_line, bulk, packed, as_value}
 use Rattle.resp_core.specs.PackingLaw.{LawOfPacking}
@@ -31,34 +34,31 @@ digits_unbroken (c ∷ cs) h [] y e =
     omega arith
 digits_unbroken (c ∷ cs) h (x ∷ xs) y e = digits_unbroken cs (and_parts (is_ascii_digit c) (all_ascii_digits cs) h).1 xs y (cc)
 
--- a mark, a length and what follows are a header
-headed : (mark len : ℕ) (rest b : List ℕ) → len < 2 ^ 63 → is_type mark ≡ true → b ≡ length_line mark len ++ rest → Header b mark (decimal len) rest
-headed mark len rest b small known e = record {
-  bytes = e ∙ ap (λ l. mark ∷ l) (append_assoc (decimal len) crlf rest);
-  known = known;
+-- the byte of a type, a length and what follows are a header
+headed : (kind : TypeByte) (len : ℕ) (rest b : List ℕ) → len < 2 ^ 63 → b ≡ length_line (byte_of kind) len ++ rest → Header b kind (decimal len) rest
+headed kind len rest b small e = record {
+  bytes = e ∙ ap (λ l. byte_of kind ∷ l) (append_assoc (decimal len) crlf rest);
   unbroken = digits_unbroken (decimal len) (digits_decimal own len (omega arith));
 }
 
 text_of : (len : ℕ) → len < 2 ^ 63 → IsUtf8 (decimal len)
 text_of len small = IsUtf8-from_ascii (decimal len) (IsAscii-decimal len (omega arith))
 
-bulk_next : (len : ℕ) → len < 2 ^ 63 → next 36 (decimal len) ≡ body len (λ bytes. Ok (BulkString bytes))
-unfolding next
-bulk_next len small = ap (λ o. elim o [ Some n ↦ or_nil (λ k. body k (λ bytes. Ok (BulkString bytes))) n | None ↦ wrong NotInteger ]) (number-decimal len small)
+bulk_announced : (len : ℕ) → len < 2 ^ 63 → announced type_byte.BulkString (decimal len) ≡ body len (λ bytes. Ok (BulkString bytes))
+bulk_announced len small = ap (λ o. elim o [ Some n ↦ or_nil (λ k. body k (λ bytes. Ok (BulkString bytes))) n | None ↦ invalid NotInteger ]) (number-decimal len small)
 
-array_next : (len : ℕ) → len < 2 ^ 63 → next 42 (decimal len) ≡ elements len (λ values. Ok (Array values))
-unfolding next
-array_next len small = ap (λ o. elim o [ Some n ↦ or_nil (λ k. elements k (λ values. Ok (Array values))) n | None ↦ wrong NotInteger ]) (number-decimal len small)
+array_announced : (len : ℕ) → len < 2 ^ 63 → announced type_byte.Array (decimal len) ≡ elements len (λ values. Ok (Array values))
+array_announced len small = ap (λ o. elim o [ Some n ↦ or_nil (λ k. elements k (λ values. Ok (Array values))) n | None ↦ invalid NotInteger ]) (number-decimal len small)
 
 -- a frame spells its argument as a bulk string
 frame_good : (d : ℕ) (arg : List ℕ) → length arg < 2 ^ 63 → Good (suc d) (bulk arg) (BulkString arg)
 frame_good d arg small = (
-  36,
+  type_byte.BulkString,
   decimal (length arg),
   arg ++ crlf,
-  headed 36 (length arg) (arg ++ crlf) (bulk arg) small refl refl,
+  headed type_byte.BulkString (length arg) (arg ++ crlf) (bulk arg) small refl,
   text_of (length arg) small,
-  rw (bulk_next (length arg) small) (arg, refl, refl, refl),
+  rw (bulk_announced (length arg) small) (arg, refl, refl, refl),
 )
 
 -- each argument is short
@@ -76,12 +76,12 @@ length-map (arg ∷ args) = ap suc (length-map args)
 
 packed_good : (d : ℕ) (args : Args) → length args < 2 ^ 63 → AllShort args → Good (suc (suc d)) (packed args) (as_value args)
 packed_good d args few short = (
-  42,
+  type_byte.Array,
   decimal (length args),
   flat_map bulk args,
-  headed 42 (length args) (flat_map bulk args) (packed args) few refl refl,
+  headed type_byte.Array (length args) (flat_map bulk args) (packed args) few refl,
   text_of (length args) few,
-  rw (array_next (length args) few) (map BulkString args, length-map args, frames_joined d args short, refl),
+  rw (array_announced (length args) few) (map BulkString args, length-map args, frames_joined d args short, refl),
 )
 
 frame_longer : (arg : List ℕ) → length arg < length (bulk arg)
@@ -124,7 +124,7 @@ pub packed_reads_only : ((a x b y : List ℕ) → LawOfPrefixes 100 a x b y) →
 unfolding Reads
 packed_reads_only law args small =
     let body = flat_map bulk args in
-    let some : length body < 2 ^ 63 = omega (arith, length-append (length_line 42 (length args)) body) in
+    let some : length body < 2 ^ 63 = omega (arith, length-append (length_line (byte_of type_byte.Array) (length args)) body) in
     let good = packed_good 98 args (let n = few args in omega arith) (short args some) in
     let reads : Joined (Good 100) (packed args) (as_value args ∷ []) = (packed args, [], sym (append-nil (packed args)), good, refl) in
     record { reads = reads; only = λ vs h. joined_once 100 law (packed args) vs (as_value args ∷ []) h reads }

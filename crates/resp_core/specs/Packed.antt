@@ -3,6 +3,8 @@ use Rattle.std.specs.Prelude.{ℕ, List, [], ◌∷◌, ◌++◌, length, map, d
 use Rattle.std.specs.List.{flat_map}
 use Rattle.resp_value.specs.declared.value.Value.{Value, Array, BulkString}
 use Rattle.resp_args.specs.Args.{Args}
+use Rattle.resp_parse.specs.declared.type_byte.TypeByte.TheVariants as type_byte
+use Rattle.resp_parse.specs.TypeBytes.{byte_of}
 use Rattle.resp_parse.specs.Lines.{crlf}
 
 -- a mark, a length in decimal, CR LF
@@ -11,11 +13,11 @@ length_line mark len = mark ∷ (decimal len ++ crlf)
 
 -- an argument: `$`, its length, CR LF, its bytes, CR LF
 abbrev pub bulk : List ℕ → List ℕ
-bulk arg = length_line 36 (length arg) ++ (arg ++ crlf)
+bulk arg = length_line (byte_of type_byte.BulkString) (length arg) ++ (arg ++ crlf)
 
 -- a command: `*`, how many arguments, CR LF, and each argument
 abbrev pub packed : Args → List ℕ
-packed args = length_line 42 (length args) ++ flat_map bulk args
+packed args = length_line (byte_of type_byte.Array) (length args) ++ flat_map bulk args
 
 -- the same, but for no arguments no bytes
 abbrev pub packed_or_none : Args → List ℕ

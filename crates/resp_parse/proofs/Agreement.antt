@@ -1,14 +1,17 @@
 -- Reading gives exactly what the grammar says.
-use Rattle.std.proofs.Common.{◌≡◌, ℕ, zero, suc, Bool, true, false, cond, List, [], ◌∷◌, ◌++◌, refl, ap, sym, ◌∙◌, subst, append_assoc, inl, inr, Result, Ok, Err}
+use Rattle.std.proofs.Common.{◌≡◌, ℕ, zero, suc, Bool, true, false, cond, List, [], ◌∷◌, ◌++◌, refl, ap, sym, ◌∙◌, subst, append_assoc, inl, inr, Option, None, Some, Result, Ok, Err}
 use Rattle.std.specs.Str.{is_utf8}
 use Rattle.std.proofs.lemmas.Str.{IsUtf8-from_is_utf8, is_utf8-from_IsUtf8}
 use Rattle.resp_value.specs.declared.value.Value.{Value}
 use Rattle.resp_value.specs.declared.errors.kinds.FrameFault.{FrameFault}
 use Rattle.resp_value.specs.declared.errors.kinds.FrameFault.TheVariants.{TooDeep, UnknownType, LineNotUtf8}
 use Rattle.resp_parse.specs.Lines.{crlf}
-use Rattle.resp_parse.specs.Grammar.{Next, done, body, elements, wrong, next, is_type, Header, Follows, Good, FaultFollows, Faulty}
-use Rattle.resp_parse.specs.Reading.{Outcome, got, fault, then, line, read_body, read_elements, made, read_next, read}
+use Rattle.resp_parse.specs.declared.type_byte.TypeByte.{TypeByte}
+use Rattle.resp_parse.specs.TypeBytes.{byte_of, type_of}
+use Rattle.resp_parse.specs.Grammar.{Announcement, complete, body, elements, invalid, announced, Header, Follows, Good, FaultFollows, Faulty}
+use Rattle.resp_parse.specs.Reading.{Outcome, got, fault, then, line, read_body, read_elements, made, read_announced, read_line, read_typed, read}
 use Rattle.resp_parse.proofs.Bits.{not_true}
+use Rattle.resp_parse.proofs.TypeBytes.{type_of-byte_of, byte_of-from_type_of, type_of-none, no_byte_of}
 use Rattle.resp_parse.proofs.Then.{then-got, then-fault}
 use Rattle.resp_parse.proofs.LineReads.{line-reads, line-got, line-no_fault}
 use Rattle.resp_parse.proofs.BodyReads.{body-reads, body-fails, body-got, body-fault}
@@ -24,116 +27,117 @@ made-fault (Err g) mid rest f e = ((let i : g ≡ f = cc in ap (λ z. Err z) i),
 
 -- what a header announces
 module _ (R : List ℕ → Outcome Value) (G : List ℕ → Value → Type 0) (F : List ℕ → FrameFault → Type 0) where
-  next-reads : ReadsGood R G → (m : Next) (b rest : List ℕ) (v : Value) → Follows G m b v → read_next R m (b ++ rest) ≡ got v rest
-  next-reads good (done w) b rest v (e, f) = ap (λ s. got w (s ++ rest)) e ∙ ap (λ u. got u rest) (sym f)
-  next-reads good (body n make) b rest v (x, l, e, f) = rw (body-reads n b x rest l e, f) refl
-  next-reads good (elements n make) b rest v (vs, l, j, f) = rw (elements-reads R G F good n b rest vs l j, f) refl
-  next-reads good (wrong g) b rest v h = absurd h
+  announced-reads : ReadsGood R G → (a : Announcement) (b rest : List ℕ) (v : Value) → Follows G a b v → read_announced R a (b ++ rest) ≡ got v rest
+  announced-reads good (complete w) b rest v (e, f) = ap (λ s. got w (s ++ rest)) e ∙ ap (λ u. got u rest) (sym f)
+  announced-reads good (body n make) b rest v (x, l, e, f) = rw (body-reads n b x rest l e, f) refl
+  announced-reads good (elements n make) b rest v (vs, l, j, f) = rw (elements-reads R G F good n b rest vs l j, f) refl
+  announced-reads good (invalid g) b rest v h = absurd h
 
-  next-fails : ReadsGood R G → ReadsFaulty R F → (m : Next) (b rest : List ℕ) (f : FrameFault) → FaultFollows G F m b f → read_next R m (b ++ rest) ≡ fault f rest
-  next-fails good bad (done w) b rest f h = absurd h
-  next-fails good bad (body n make) b rest f (inl (k, w)) = rw (body-fails n b rest w, k) refl
-  next-fails good bad (body n make) b rest f (inr (x, l, e, k)) = rw (body-reads n b x rest l e, k) refl
-  next-fails good bad (elements n make) b rest f (inl w) = rw (elements-fail R G F good bad n b rest f w) refl
-  next-fails good bad (elements n make) b rest f (inr (vs, l, j, k)) = rw (elements-reads R G F good n b rest vs l j, k) refl
-  next-fails good bad (wrong g) b rest f (e, k) = ap (λ s. fault g (s ++ rest)) e ∙ ap (λ i. fault i rest) (sym k)
+  announced-fails : ReadsGood R G → ReadsFaulty R F → (a : Announcement) (b rest : List ℕ) (f : FrameFault) → FaultFollows G F a b f → read_announced R a (b ++ rest) ≡ fault f rest
+  announced-fails good bad (complete w) b rest f h = absurd h
+  announced-fails good bad (body n make) b rest f (inl (k, w)) = rw (body-fails n b rest w, k) refl
+  announced-fails good bad (body n make) b rest f (inr (x, l, e, k)) = rw (body-reads n b x rest l e, k) refl
+  announced-fails good bad (elements n make) b rest f (inl w) = rw (elements-fail R G F good bad n b rest f w) refl
+  announced-fails good bad (elements n make) b rest f (inr (vs, l, j, k)) = rw (elements-reads R G F good n b rest vs l j, k) refl
+  announced-fails good bad (invalid g) b rest f (e, k) = ap (λ s. fault g (s ++ rest)) e ∙ ap (λ i. fault i rest) (sym k)
 
-  next-got : GivesGood R G → (m : Next) (bs rest : List ℕ) (v : Value) → read_next R m bs ≡ got v rest → Prefix (Follows G m) bs rest v
-  next-got good (done w) bs rest v e = ([], (let k : bs ≡ rest = cc in k), (refl, (let k : v ≡ w = cc in k)))
-  next-got good (body n make) bs rest v e =
+  announced-got : GivesGood R G → (a : Announcement) (bs rest : List ℕ) (v : Value) → read_announced R a bs ≡ got v rest → Prefix (Follows G a) bs rest v
+  announced-got good (complete w) bs rest v e = ([], (let k : bs ≡ rest = cc in k), (refl, (let k : v ≡ w = cc in k)))
+  announced-got good (body n make) bs rest v e =
       let p = then-got (read_body n bs) (λ x r. made (make x) r) v rest e in
       let q = body-got n bs p.0 p.1 p.2 in
       let m = made-got (make p.0) p.1 rest v p.3 in
       (p.0 ++ crlf, append-prefix bs p.0 (crlf ++ p.1) crlf p.1 rest q.1 refl m.1, (p.0, q.0, refl, m.0))
-  next-got good (elements n make) bs rest v e =
+  announced-got good (elements n make) bs rest v e =
       let p = then-got (read_elements R n bs) (λ vs r. made (make vs) r) v rest e in
       let q = elements-got R G F good n bs p.0 p.1 p.2 in
       let m = made-got (make p.0) p.1 rest v p.3 in
       (q.0, q.1 ∙ ap (λ s. q.0 ++ s) m.1, (p.0, q.2, q.3, m.0))
-  next-got good (wrong g) bs rest v e = absurd (cc)
+  announced-got good (invalid g) bs rest v e = absurd (cc)
 
-  next-fault : GivesGood R G → GivesFaulty R F → (m : Next) (bs rest : List ℕ) (f : FrameFault) → read_next R m bs ≡ fault f rest → Prefix (FaultFollows G F m) bs rest f
-  next-fault good bad (done w) bs rest f e = absurd (cc)
-  next-fault good bad (body n make) bs rest f e = elim (then-fault (read_body n bs) (λ x r. made (make x) r) f rest e) [
+  announced-fault : GivesGood R G → GivesFaulty R F → (a : Announcement) (bs rest : List ℕ) (f : FrameFault) → read_announced R a bs ≡ fault f rest → Prefix (FaultFollows G F a) bs rest f
+  announced-fault good bad (complete w) bs rest f e = absurd (cc)
+  announced-fault good bad (body n make) bs rest f e = elim (then-fault (read_body n bs) (λ x r. made (make x) r) f rest e) [
     | inl h ↦ let w = body-fault n bs f rest h in (w.0, w.1, inl (w.2, w.3))
     | inr p ↦ let q = body-got n bs p.0 p.1 p.2 in let m = made-fault (make p.0) p.1 rest f p.3 in
         (p.0 ++ crlf, append-prefix bs p.0 (crlf ++ p.1) crlf p.1 rest q.1 refl m.1, inr (p.0, q.0, refl, m.0))
   ]
-  next-fault good bad (elements n make) bs rest f e = elim (then-fault (read_elements R n bs) (λ vs r. made (make vs) r) f rest e) [
+  announced-fault good bad (elements n make) bs rest f e = elim (then-fault (read_elements R n bs) (λ vs r. made (make vs) r) f rest e) [
     | inl h ↦ let w = elements-fault R G F good bad n bs rest f h in (w.0, w.1, inl w.2)
     | inr p ↦ let q = elements-got R G F good n bs p.0 p.1 p.2 in let m = made-fault (make p.0) p.1 rest f p.3 in
         (q.0, q.1 ∙ ap (λ s. q.0 ++ s) m.1, inr (p.0, q.2, q.3, m.0))
   ]
-  next-fault good bad (wrong g) bs rest f e = ([], (let k : bs ≡ rest = cc in k), (refl, (let k : f ≡ g = cc in k)))
+  announced-fault good bad (invalid g) bs rest f e = ([], (let k : bs ≡ rest = cc in k), (refl, (let k : f ≡ g = cc in k)))
 
 -- a header, and what follows it
-header-reads : (d : ℕ) (b text tail rest : List ℕ) (c : ℕ) → Header b c text tail →
-    read (suc d) (b ++ rest) ≡ cond (is_utf8 text) (read_next (read d) (next c text) (tail ++ rest)) (fault LineNotUtf8 (tail ++ rest))
-header-reads d b text tail rest c h =
-    let e : b ++ rest ≡ c ∷ (text ++ (crlf ++ (tail ++ rest))) = ap (λ s. s ++ rest) h.bytes ∙ ap (λ s. c ∷ s) (append_assoc text (crlf ++ tail) rest) in
+header-reads : (d : ℕ) (b text tail rest : List ℕ) (kind : TypeByte) → Header b kind text tail → read (suc d) (b ++ rest) ≡ read_line (read d) kind text (tail ++ rest)
+header-reads d b text tail rest kind h =
+    let e : b ++ rest ≡ byte_of kind ∷ (text ++ (crlf ++ (tail ++ rest))) = ap (λ s. s ++ rest) h.bytes ∙ ap (λ s. byte_of kind ∷ s) (append_assoc text (crlf ++ tail) rest) in
     let l : line (text ++ (crlf ++ (tail ++ rest))) ≡ got text (tail ++ rest) = line-reads text (tail ++ rest) h.unbroken in
-    ap (read (suc d)) e ∙ rw (h.known, l) refl
+    ap (read (suc d)) e ∙ rw (type_of-byte_of kind, l) refl
 
 pub good-reads : (d : ℕ) → ReadsGood (read d) (Good d)
 good-reads zero b rest v g = absurd g
-good-reads (suc d) b rest v (c, text, tail, h, u, w) =
-    header-reads d b text tail rest c h ∙ rw (is_utf8-from_IsUtf8 text u) (next-reads (read d) (Good d) (Faulty d) (good-reads d) (next c text) tail rest v w)
+good-reads (suc d) b rest v (kind, text, tail, h, u, w) =
+    header-reads d b text tail rest kind h ∙ rw (is_utf8-from_IsUtf8 text u) (announced-reads (read d) (Good d) (Faulty d) (good-reads d) (announced kind text) tail rest v w)
 
 pub faulty-reads : (d : ℕ) → ReadsFaulty (read d) (Faulty d)
 faulty-reads zero b rest f (c, e, k) = ap (λ s. read zero (s ++ rest)) e ∙ ap (λ i. fault i rest) (sym k)
-faulty-reads (suc d) b rest f (inl (c, e, n, k)) = ap (λ s. read (suc d) (s ++ rest)) e ∙ rw (n, k) refl
-faulty-reads (suc d) b rest f (inr (c, text, tail, h, inl (u, e, k))) =
+faulty-reads (suc d) b rest f (inl (c, e, n, k)) = ap (λ s. read (suc d) (s ++ rest)) e ∙ rw (type_of-none c n, k) refl
+faulty-reads (suc d) b rest f (inr (kind, text, tail, h, inl (u, e, k))) =
     let n : is_utf8 text ≡ false = not_true _ (λ t. u (IsUtf8-from_is_utf8 text t)) in
-    header-reads d b text tail rest c h ∙ rw (n, e, k) refl
-faulty-reads (suc d) b rest f (inr (c, text, tail, h, inr (u, w))) =
-    header-reads d b text tail rest c h ∙ rw (is_utf8-from_IsUtf8 text u) (next-fails (read d) (Good d) (Faulty d) (good-reads d) (faulty-reads d) (next c text) tail rest f w)
+    header-reads d b text tail rest kind h ∙ rw (n, e, k) refl
+faulty-reads (suc d) b rest f (inr (kind, text, tail, h, inr (u, w))) =
+    header-reads d b text tail rest kind h ∙ rw (is_utf8-from_IsUtf8 text u) (announced-fails (read d) (Good d) (Faulty d) (good-reads d) (faulty-reads d) (announced kind text) tail rest f w)
 
-Header-from_line : (c : ℕ) (bs text rest : List ℕ) → is_type c ≡ true → line bs ≡ got text rest → Header (c ∷ bs) c text rest
-Header-from_line c bs text rest k e = let p = line-got bs text rest e in record { bytes = ap (λ s. c ∷ s) p.0; known = k; unbroken = p.1 }
+Header-from_line : (c : ℕ) (kind : TypeByte) (bs text rest : List ℕ) → type_of c ≡ Some kind → line bs ≡ got text rest → Header (c ∷ bs) kind text rest
+Header-from_line c kind bs text rest k e =
+    let p = line-got bs text rest e in
+    record { bytes = ap (λ s. s ∷ bs) (byte_of-from_type_of c kind k) ∙ ap (λ s. byte_of kind ∷ s) p.0; unbroken = p.1 }
 
 -- a header of which less follows
-Header-cut : (b : List ℕ) (c : ℕ) (text x rest : List ℕ) → Header b c text (x ++ rest) → (b ≡ (c ∷ (text ++ (crlf ++ x))) ++ rest) × Header (c ∷ (text ++ (crlf ++ x))) c text x
-Header-cut b c text x rest h =
-    (h.bytes ∙ ap (λ s. c ∷ s) (sym (append_assoc text (crlf ++ x) rest)), record { bytes = refl; known = h.known; unbroken = h.unbroken })
+Header-cut : (b : List ℕ) (kind : TypeByte) (text x rest : List ℕ) → Header b kind text (x ++ rest) → (b ≡ (byte_of kind ∷ (text ++ (crlf ++ x))) ++ rest) × Header (byte_of kind ∷ (text ++ (crlf ++ x))) kind text x
+Header-cut b kind text x rest h =
+    (h.bytes ∙ ap (λ s. byte_of kind ∷ s) (sym (append_assoc text (crlf ++ x) rest)), record { bytes = refl; unbroken = h.unbroken })
 
 pub read-good : (d : ℕ) → GivesGood (read d) (Good d)
 read-good zero [] rest v e = absurd (cc)
 read-good zero (c ∷ bs) rest v e = absurd (cc)
 read-good (suc d) [] rest v e = absurd (cc)
-read-good (suc d) (c ∷ bs) rest v e = known (read-good d) (is_type c) refl e
+read-good (suc d) (c ∷ bs) rest v e = by_type (read-good d) (type_of c) refl e
   where
-    follows : GivesGood (read d) (Good d) → is_type c ≡ true → (text tail : List ℕ) → line bs ≡ got text tail → (u : Bool) → is_utf8 text ≡ u → cond u (read_next (read d) (next c text) tail) (fault LineNotUtf8 tail) ≡ got v rest → Prefix (Good (suc d)) (c ∷ bs) rest v
-    follows deeper t text tail l true u k =
-        let q = next-got (read d) (Good d) (Faulty d) deeper (next c text) tail rest v k in
-        let h = Header-cut (c ∷ bs) c text q.0 rest (subst (λ s. Header (c ∷ bs) c text s) q.1 (Header-from_line c bs text tail t l)) in
-        (c ∷ (text ++ (crlf ++ q.0)), h.0, (c, text, q.0, h.1, IsUtf8-from_is_utf8 text u, q.2))
-    follows deeper t text tail l false u k = absurd (cc)
+    follows : GivesGood (read d) (Good d) → (kind : TypeByte) → type_of c ≡ Some kind → (text tail : List ℕ) → line bs ≡ got text tail → (u : Bool) → is_utf8 text ≡ u → cond u (read_announced (read d) (announced kind text) tail) (fault LineNotUtf8 tail) ≡ got v rest → Prefix (Good (suc d)) (c ∷ bs) rest v
+    follows deeper kind t text tail l true u k =
+        let q = announced-got (read d) (Good d) (Faulty d) deeper (announced kind text) tail rest v k in
+        let h = Header-cut (c ∷ bs) kind text q.0 rest (subst (λ s. Header (c ∷ bs) kind text s) q.1 (Header-from_line c kind bs text tail t l)) in
+        (byte_of kind ∷ (text ++ (crlf ++ q.0)), h.0, (kind, text, q.0, h.1, IsUtf8-from_is_utf8 text u, q.2))
+    follows deeper kind t text tail l false u k = absurd (cc)
 
-    known : GivesGood (read d) (Good d) → (m : Bool) → is_type c ≡ m → cond m (then (line bs) (λ text tail. cond (is_utf8 text) (read_next (read d) (next c text) tail) (fault LineNotUtf8 tail))) (fault UnknownType bs) ≡ got v rest → Prefix (Good (suc d)) (c ∷ bs) rest v
-    known deeper true t k =
-        let p = then-got (line bs) (λ text tail. cond (is_utf8 text) (read_next (read d) (next c text) tail) (fault LineNotUtf8 tail)) v rest k in
-        follows deeper t p.0 p.1 p.2 (is_utf8 p.0) refl p.3
-    known deeper false t k = absurd (cc)
+    by_type : GivesGood (read d) (Good d) → (t : Option TypeByte) → type_of c ≡ t → read_typed (read d) t bs ≡ got v rest → Prefix (Good (suc d)) (c ∷ bs) rest v
+    by_type deeper (Some kind) t k =
+        let p = then-got (line bs) (read_line (read d) kind) v rest k in
+        follows deeper kind t p.0 p.1 p.2 (is_utf8 p.0) refl p.3
+    by_type deeper None t k = absurd (cc)
 
 pub read-faulty : (d : ℕ) → GivesFaulty (read d) (Faulty d)
 read-faulty zero [] rest f e = absurd (cc)
 read-faulty zero (c ∷ bs) rest f e = (c ∷ [], (let k : bs ≡ rest = cc in ap (λ s. c ∷ s) k), (c, refl, (let k : f ≡ TooDeep = cc in k)))
 read-faulty (suc d) [] rest f e = absurd (cc)
-read-faulty (suc d) (c ∷ bs) rest f e = known (read-faulty d) (is_type c) refl e
+read-faulty (suc d) (c ∷ bs) rest f e = by_type (read-faulty d) (type_of c) refl e
   where
-    follows : GivesFaulty (read d) (Faulty d) → is_type c ≡ true → (text tail : List ℕ) → line bs ≡ got text tail → (u : Bool) → is_utf8 text ≡ u → cond u (read_next (read d) (next c text) tail) (fault LineNotUtf8 tail) ≡ fault f rest → Prefix (Faulty (suc d)) (c ∷ bs) rest f
-    follows deeper t text tail l true u k =
-        let q = next-fault (read d) (Good d) (Faulty d) (read-good d) deeper (next c text) tail rest f k in
-        let h = Header-cut (c ∷ bs) c text q.0 rest (subst (λ s. Header (c ∷ bs) c text s) q.1 (Header-from_line c bs text tail t l)) in
-        (c ∷ (text ++ (crlf ++ q.0)), h.0, inr (c, text, q.0, h.1, inr (IsUtf8-from_is_utf8 text u, q.2)))
-    follows deeper t text tail l false u k =
+    follows : GivesFaulty (read d) (Faulty d) → (kind : TypeByte) → type_of c ≡ Some kind → (text tail : List ℕ) → line bs ≡ got text tail → (u : Bool) → is_utf8 text ≡ u → cond u (read_announced (read d) (announced kind text) tail) (fault LineNotUtf8 tail) ≡ fault f rest → Prefix (Faulty (suc d)) (c ∷ bs) rest f
+    follows deeper kind t text tail l true u k =
+        let q = announced-fault (read d) (Good d) (Faulty d) (read-good d) deeper (announced kind text) tail rest f k in
+        let h = Header-cut (c ∷ bs) kind text q.0 rest (subst (λ s. Header (c ∷ bs) kind text s) q.1 (Header-from_line c kind bs text tail t l)) in
+        (byte_of kind ∷ (text ++ (crlf ++ q.0)), h.0, inr (kind, text, q.0, h.1, inr (IsUtf8-from_is_utf8 text u, q.2)))
+    follows deeper kind t text tail l false u k =
         let er : tail ≡ rest = cc in
-        let h = Header-cut (c ∷ bs) c text [] rest (subst (λ s. Header (c ∷ bs) c text s) er (Header-from_line c bs text tail t l)) in
-        (c ∷ (text ++ (crlf ++ [])), h.0, inr (c, text, [], h.1, inl ((λ w. absurd (let z = is_utf8-from_IsUtf8 text w in cc)), refl, (let i : f ≡ LineNotUtf8 = cc in i))))
+        let h = Header-cut (c ∷ bs) kind text [] rest (subst (λ s. Header (c ∷ bs) kind text s) er (Header-from_line c kind bs text tail t l)) in
+        (byte_of kind ∷ (text ++ (crlf ++ [])), h.0, inr (kind, text, [], h.1, inl ((λ w. absurd (let z = is_utf8-from_IsUtf8 text w in cc)), refl, (let i : f ≡ LineNotUtf8 = cc in i))))
 
-    known : GivesFaulty (read d) (Faulty d) → (m : Bool) → is_type c ≡ m → cond m (then (line bs) (λ text tail. cond (is_utf8 text) (read_next (read d) (next c text) tail) (fault LineNotUtf8 tail))) (fault UnknownType bs) ≡ fault f rest → Prefix (Faulty (suc d)) (c ∷ bs) rest f
-    known deeper true t k = elim (then-fault (line bs) (λ text tail. cond (is_utf8 text) (read_next (read d) (next c text) tail) (fault LineNotUtf8 tail)) f rest k) [
+    by_type : GivesFaulty (read d) (Faulty d) → (t : Option TypeByte) → type_of c ≡ t → read_typed (read d) t bs ≡ fault f rest → Prefix (Faulty (suc d)) (c ∷ bs) rest f
+    by_type deeper (Some kind) t k = elim (then-fault (line bs) (read_line (read d) kind) f rest k) [
       | inl h ↦ absurd (line-no_fault bs rest f h)
-      | inr p ↦ follows deeper t p.0 p.1 p.2 (is_utf8 p.0) refl p.3
+      | inr p ↦ follows deeper kind t p.0 p.1 p.2 (is_utf8 p.0) refl p.3
     ]
-    known deeper false t k = (c ∷ [], (let i : bs ≡ rest = cc in ap (λ s. c ∷ s) i), inl (c, refl, t, (let i : f ≡ UnknownType = cc in i)))
+    by_type deeper None t k = (c ∷ [], (let i : bs ≡ rest = cc in ap (λ s. c ∷ s) i), inl (c, refl, no_byte_of c t, (let i : f ≡ UnknownType = cc in i)))

@@ -17,3 +17,4 @@ pub mod Prefixes
 pub mod Standing
 pub mod Stopping
 pub mod Then
+pub mod TypeBytes

@@ -10,40 +10,44 @@ use Rattle.resp_value.specs.declared.errors.kinds.FrameFault.TheVariants.{TooDee
 use Rattle.resp_value.specs.Names.{kind_named, format_named}
 use Rattle.resp_value.specs.ServerErrors.{server_error}
 use Rattle.resp_value.specs.Views.{pairs}
+use Rattle.resp_parse.specs.declared.type_byte.TypeByte.{TypeByte}
+use Rattle.resp_parse.specs.declared.type_byte.TypeByte.TheVariants as type_byte
+use Rattle.resp_parse.specs.TypeBytes.{byte_of}
 use Rattle.resp_parse.specs.Lines.{crlf, NoBreak}
 use Rattle.resp_parse.specs.Number.{number}
 use Rattle.resp_parse.specs.Double.{double}
 
--- what the line of a header announces: no more bytes; a body of n bytes; n elements; or it is at fault
-pub data Next : Type 0 where
-  done : Value → Next
-  body : ℕ → (List ℕ → Result Value FrameFault) → Next
-  elements : ℕ → (List Value → Result Value FrameFault) → Next
-  wrong : FrameFault → Next
+-- what the line of a header announces: a value that is complete with it; a body of n bytes; n elements; or nothing, since
+-- the line is invalid
+pub data Announcement : Type 0 where
+  complete : Value → Announcement
+  body : ℕ → (List ℕ → Result Value FrameFault) → Announcement
+  elements : ℕ → (List Value → Result Value FrameFault) → Announcement
+  invalid : FrameFault → Announcement
 
 -- an integer line
-abbrev pub with_number : List ℕ → (ℤ → Next) → Next
-with_number text follows = elim (number text) [ Some n ↦ follows n | None ↦ wrong NotInteger ]
+abbrev pub with_number : List ℕ → (ℤ → Announcement) → Announcement
+with_number text follows = elim (number text) [ Some n ↦ follows n | None ↦ invalid NotInteger ]
 
 -- a length, where a negative one stands for a null
-abbrev pub or_nil : (ℕ → Next) → ℤ → Next
+abbrev pub or_nil : (ℕ → Announcement) → ℤ → Announcement
 or_nil follows (pos n) = follows n
-or_nil follows (negsuc n) = done Nil
+or_nil follows (negsuc n) = complete Nil
 
 -- a length that may not be negative
-abbrev pub or_fault : (ℕ → Next) → ℤ → Next
+abbrev pub or_fault : (ℕ → Announcement) → ℤ → Announcement
 or_fault follows (pos n) = follows n
-or_fault follows (negsuc n) = wrong NegativeLength
+or_fault follows (negsuc n) = invalid NegativeLength
 
 -- a push without a kind and without data
 abbrev pub empty_push : Value
 empty_push = Push (kind_named []) []
 
 -- a length, where a negative one and 0 stand for an empty push
-abbrev pub or_empty_push : (ℕ → Next) → ℤ → Next
-or_empty_push follows (pos zero) = done empty_push
+abbrev pub or_empty_push : (ℕ → Announcement) → ℤ → Announcement
+or_empty_push follows (pos zero) = complete empty_push
 or_empty_push follows (pos (suc n)) = follows (suc n)
-or_empty_push follows (negsuc n) = done empty_push
+or_empty_push follows (negsuc n) = complete empty_push
 
 -- bytes as text, with U+FFFD for what is no UTF-8
 abbrev pub lossy : List ℕ → List ℕ
@@ -54,12 +58,12 @@ abbrev pub simple : List ℕ → Value
 simple text = cond (bytes_eq text (codes "OK")) Okay (SimpleString text)
 
 -- # a boolean: exactly t or f
-abbrev pub boolean : List ℕ → Next
-boolean text = cond (bytes_eq text (codes "t")) (done (Boolean true)) (cond (bytes_eq text (codes "f")) (done (Boolean false)) (wrong NotBoolean))
+abbrev pub boolean : List ℕ → Announcement
+boolean text = cond (bytes_eq text (codes "t")) (complete (Boolean true)) (cond (bytes_eq text (codes "f")) (complete (Boolean false)) (invalid NotBoolean))
 
 -- , a double
-abbrev pub double_line : List ℕ → Next
-double_line text = elim (double text) [ Some trimmed ↦ done (Double trimmed) | None ↦ wrong NotDouble ]
+abbrev pub double_line : List ℕ → Announcement
+double_line text = elim (double text) [ Some trimmed ↦ complete (Double trimmed) | None ↦ invalid NotDouble ]
 
 -- ! a bulk error
 abbrev pub bulk_error : List ℕ → Value
@@ -99,33 +103,27 @@ abbrev pub push : List Value → Result Value FrameFault
 push [] = Err BadPushKind
 push (first ∷ payload) = elim (push_kind first) [ Some kind ↦ Ok (Push kind payload) | None ↦ Err BadPushKind ]
 
--- the type bytes: + - : $ * _ # , ( ! = % ~ | >
-abbrev pub is_type : ℕ → Bool
-is_type c = (c == 43) || (c == 45) || (c == 58) || (c == 36) || (c == 42) || (c == 95) || (c == 35) || (c == 44) || (c == 40) || (c == 33) || (c == 61) || (c == 37) || (c == 126) || (c == 124) || (c == 62)
+-- what the line of a value of this type announces
+abbrev pub announced : TypeByte → List ℕ → Announcement
+announced type_byte.SimpleString text = complete (simple text)
+announced type_byte.SimpleError text = complete (ServerError (server_error text))
+announced type_byte.Integer text = with_number text (λ n. complete (Int n))
+announced type_byte.BulkString text = with_number text (or_nil (λ n. body n (λ bytes. Ok (BulkString bytes))))
+announced type_byte.Array text = with_number text (or_nil (λ n. elements n (λ values. Ok (Array values))))
+announced type_byte.Null text = complete Nil
+announced type_byte.Boolean text = boolean text
+announced type_byte.Double text = double_line text
+announced type_byte.BigNumber text = complete (BigNumber text)
+announced type_byte.BulkError text = with_number text (or_fault (λ n. body n (λ bytes. Ok (bulk_error bytes))))
+announced type_byte.VerbatimString text = with_number text (or_fault (λ n. body n verbatim))
+announced type_byte.Map text = with_number text (or_fault (λ n. elements (2 * n) (λ values. Ok (Map (pairs values)))))
+announced type_byte.Attribute text = with_number text (or_fault (λ n. elements (2 * n + 1) (λ values. Ok (attribute values))))
+announced type_byte.Set text = with_number text (or_nil (λ n. elements n (λ values. Ok (Set values))))
+announced type_byte.Push text = with_number text (or_empty_push (λ n. elements n push))
 
--- what the line of a type byte announces
-unfoldable pub next : ℕ → List ℕ → Next
-next c text =
-    cond (c == 43) (done (simple text))
-    (cond (c == 45) (done (ServerError (server_error text)))
-    (cond (c == 58) (with_number text (λ n. done (Int n)))
-    (cond (c == 36) (with_number text (or_nil (λ n. body n (λ bytes. Ok (BulkString bytes)))))
-    (cond (c == 42) (with_number text (or_nil (λ n. elements n (λ values. Ok (Array values)))))
-    (cond (c == 95) (done Nil)
-    (cond (c == 35) (boolean text)
-    (cond (c == 44) (double_line text)
-    (cond (c == 40) (done (BigNumber text))
-    (cond (c == 33) (with_number text (or_fault (λ n. body n (λ bytes. Ok (bulk_error bytes)))))
-    (cond (c == 61) (with_number text (or_fault (λ n. body n verbatim)))
-    (cond (c == 37) (with_number text (or_fault (λ n. elements (2 * n) (λ values. Ok (Map (pairs values))))))
-    (cond (c == 126) (with_number text (or_nil (λ n. elements n (λ values. Ok (Set values)))))
-    (cond (c == 124) (with_number text (or_fault (λ n. elements (2 * n + 1) (λ values. Ok (attribute values)))))
-    (with_number text (or_empty_push (λ n. elements n push))))))))))))))))
-
--- the bytes begin with a type byte and a line of this text, and the rest follows
-pub record Header (b : List ℕ) (c : ℕ) (text rest : List ℕ) : Type 0 where
-  pub bytes : b ≡ c ∷ (text ++ (crlf ++ rest))
-  pub known : is_type c ≡ true
+-- the bytes begin with the byte of this type and a line of this text, and the rest follows
+pub record Header (b : List ℕ) (kind : TypeByte) (text rest : List ℕ) : Type 0 where
+  pub bytes : b ≡ byte_of kind ∷ (text ++ (crlf ++ rest))
   pub unbroken : NoBreak text
 
 -- the bytes are values as P says, one after another
@@ -134,16 +132,16 @@ Joined P b [] = b ≡ []
 Joined P b (v ∷ vs) = (x : List ℕ) × (y : List ℕ) × (b ≡ x ++ y) × P x v × Joined P y vs
 
 -- the bytes after a header are all that it announces, of elements as P says, and make the value
-abbrev pub Follows : (List ℕ → Value → Type 0) → Next → List ℕ → Value → Type 0
-Follows P (done w) rest v = (rest ≡ []) × (v ≡ w)
+abbrev pub Follows : (List ℕ → Value → Type 0) → Announcement → List ℕ → Value → Type 0
+Follows P (complete w) rest v = (rest ≡ []) × (v ≡ w)
 Follows P (body n make) rest v = (x : List ℕ) × (length x ≡ n) × (rest ≡ x ++ crlf) × (make x ≡ Ok v)
 Follows P (elements n make) rest v = (vs : List Value) × (length vs ≡ n) × Joined P rest vs × (make vs ≡ Ok v)
-Follows P (wrong f) rest v = ⊥
+Follows P (invalid f) rest v = ⊥
 
 -- the bytes spell the value, where d levels are left
 abbrev pub Good : ℕ → List ℕ → Value → Type 0
 Good zero b v = ⊥
-Good (suc d) b v = (c : ℕ) × (text : List ℕ) × (rest : List ℕ) × Header b c text rest × IsUtf8 text × Follows (Good d) (next c text) rest v
+Good (suc d) b v = (kind : TypeByte) × (text : List ℕ) × (rest : List ℕ) × Header b kind text rest × IsUtf8 text × Follows (Good d) (announced kind text) rest v
 
 -- a body of n bytes, and then a byte that isn't CR, or CR and a byte that isn't LF
 pub data EndsWrong (n : ℕ) (rest : List ℕ) : Type 0 where
@@ -155,17 +153,17 @@ abbrev pub ElementWrong : (List ℕ → Value → Type 0) → (List ℕ → Fram
 ElementWrong P Q n rest f = (vs : List Value) × (x : List ℕ) × (y : List ℕ) × (length vs < n) × (rest ≡ x ++ y) × Joined P x vs × Q y f
 
 -- the bytes after a header end exactly where the fault shows
-abbrev pub FaultFollows : (List ℕ → Value → Type 0) → (List ℕ → FrameFault → Type 0) → Next → List ℕ → FrameFault → Type 0
-FaultFollows P Q (done w) rest f = ⊥
+abbrev pub FaultFollows : (List ℕ → Value → Type 0) → (List ℕ → FrameFault → Type 0) → Announcement → List ℕ → FrameFault → Type 0
+FaultFollows P Q (complete w) rest f = ⊥
 FaultFollows P Q (body n make) rest f = ((f ≡ BodyEnd) × EndsWrong n rest)
     ⊎ ((x : List ℕ) × (length x ≡ n) × (rest ≡ x ++ crlf) × (make x ≡ Err f))
 FaultFollows P Q (elements n make) rest f = ElementWrong P Q n rest f
     ⊎ ((vs : List Value) × (length vs ≡ n) × Joined P rest vs × (make vs ≡ Err f))
-FaultFollows P Q (wrong g) rest f = (rest ≡ []) × (f ≡ g)
+FaultFollows P Q (invalid g) rest f = (rest ≡ []) × (f ≡ g)
 
 -- the bytes are a value's beginning that ends exactly where the fault shows, where d levels are left
 abbrev pub Faulty : ℕ → List ℕ → FrameFault → Type 0
 Faulty zero b f = (c : ℕ) × (b ≡ c ∷ []) × (f ≡ TooDeep)
-Faulty (suc d) b f = ((c : ℕ) × (b ≡ c ∷ []) × (is_type c ≡ false) × (f ≡ UnknownType))
-    ⊎ ((c : ℕ) × (text : List ℕ) × (rest : List ℕ) × Header b c text rest
-    × (((IsUtf8 text → ⊥) × (rest ≡ []) × (f ≡ LineNotUtf8)) ⊎ (IsUtf8 text × FaultFollows (Good d) (Faulty d) (next c text) rest f)))
+Faulty (suc d) b f = ((c : ℕ) × (b ≡ c ∷ []) × ((kind : TypeByte) → c ≢ byte_of kind) × (f ≡ UnknownType))
+    ⊎ ((kind : TypeByte) × (text : List ℕ) × (rest : List ℕ) × Header b kind text rest
+    × (((IsUtf8 text → ⊥) × (rest ≡ []) × (f ≡ LineNotUtf8)) ⊎ (IsUtf8 text × FaultFollows (Good d) (Faulty d) (announced kind text) rest f)))

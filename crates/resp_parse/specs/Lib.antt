@@ -1,6 +1,7 @@
 pub mod Lines
 pub mod Number
 pub mod Double
+pub mod TypeBytes
 pub mod Grammar
 pub mod Reads
 pub mod Prefixes

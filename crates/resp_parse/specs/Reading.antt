@@ -1,11 +1,13 @@
 -- Reading a value from the start of bytes, as a function. The relations of `Grammar` say what it has to give; the proofs
 -- show that it does, and that the parser gives the same.
-use Rattle.std.specs.Prelude.{ℕ, zero, suc, cond, ◌&&◌, ◌==◌, List, [], ◌∷◌, Result, Ok, Err}
+use Rattle.std.specs.Prelude.{ℕ, zero, suc, cond, ◌&&◌, ◌==◌, List, [], ◌∷◌, Option, None, Some, Result, Ok, Err}
 use Rattle.std.specs.Str.{is_utf8}
 use Rattle.resp_value.specs.declared.value.Value.{Value}
 use Rattle.resp_value.specs.declared.errors.kinds.FrameFault.{FrameFault}
 use Rattle.resp_value.specs.declared.errors.kinds.FrameFault.TheVariants.{TooDeep, UnknownType, LineNotUtf8, BodyEnd}
-use Rattle.resp_parse.specs.Grammar.{Next, done, body, elements, wrong, next, is_type}
+use Rattle.resp_parse.specs.declared.type_byte.TypeByte.{TypeByte}
+use Rattle.resp_parse.specs.TypeBytes.{type_of}
+use Rattle.resp_parse.specs.Grammar.{Announcement, complete, body, elements, invalid, announced}
 
 -- what was read and what follows it; a fault and what follows the place where it shows; or neither yet
 pub data Outcome (A : Type 0) : Type 0 where
@@ -48,16 +50,23 @@ made (Ok v) rest = got v rest
 made (Err f) rest = fault f rest
 
 -- what a header announces
-abbrev pub read_next : (List ℕ → Outcome Value) → Next → List ℕ → Outcome Value
-read_next P (done v) bs = got v bs
-read_next P (body n make) bs = then (read_body n bs) (λ x rest. made (make x) rest)
-read_next P (elements n make) bs = then (read_elements P n bs) (λ vs rest. made (make vs) rest)
-read_next P (wrong f) bs = fault f bs
+abbrev pub read_announced : (List ℕ → Outcome Value) → Announcement → List ℕ → Outcome Value
+read_announced P (complete v) bs = got v bs
+read_announced P (body n make) bs = then (read_body n bs) (λ x rest. made (make x) rest)
+read_announced P (elements n make) bs = then (read_elements P n bs) (λ vs rest. made (make vs) rest)
+read_announced P (invalid f) bs = fault f bs
+
+-- what a line of this text announces, for a value of this type
+abbrev pub read_line : (List ℕ → Outcome Value) → TypeByte → List ℕ → List ℕ → Outcome Value
+read_line P kind text bs = cond (is_utf8 text) (read_announced P (announced kind text) bs) (fault LineNotUtf8 bs)
+
+-- a value of this type, from its line on; no type is a fault
+abbrev pub read_typed : (List ℕ → Outcome Value) → Option TypeByte → List ℕ → Outcome Value
+read_typed P (Some kind) bs = then (line bs) (read_line P kind)
+read_typed P None bs = fault UnknownType bs
 
 -- a value, where d levels are left
 abbrev pub read : ℕ → List ℕ → Outcome Value
 read d [] = unfinished
 read zero (c ∷ bs) = fault TooDeep bs
-read (suc d) (c ∷ bs) = cond (is_type c)
-    (then (line bs) (λ text rest. cond (is_utf8 text) (read_next (read d) (next c text) rest) (fault LineNotUtf8 rest)))
-    (fault UnknownType bs)
+read (suc d) (c ∷ bs) = read_typed (read d) (type_of c) bs

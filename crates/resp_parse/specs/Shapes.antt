@@ -10,7 +10,7 @@ use Rattle.resp_parse.specs.declared.shape.Shape.{Shape}
 use Rattle.resp_parse.specs.declared.shape.Shape.TheVariants.{Whole, Body, Elements}
 use Rattle.resp_parse.specs.declared.stop.Stop.{Stop}
 use Rattle.resp_parse.specs.declared.stop.Stop.TheVariants.{Memory, Unfinished, Fault}
-use Rattle.resp_parse.specs.Grammar.{Next, done, body, elements, wrong, bulk_error, verbatim, attribute, push}
+use Rattle.resp_parse.specs.Grammar.{Announcement, complete, body, elements, invalid, bulk_error, verbatim, attribute, push}
 use Rattle.resp_value.specs.Views.{pairs}
 
 -- what a body makes
@@ -27,14 +27,15 @@ elements_value elements_kind.Map = λ values. Ok (Map (pairs values))
 elements_value elements_kind.Attribute = λ values. Ok (attribute values)
 elements_value elements_kind.Push = push
 
-abbrev pub announced : Shape → Next
-announced (Whole v) = done v
-announced (Body kind n) = body n (body_value kind)
-announced (Elements kind n) = elements n (elements_value kind)
+-- what a shape stands for
+abbrev pub announcement_of : Shape → Announcement
+announcement_of (Whole v) = complete v
+announcement_of (Body kind n) = body n (body_value kind)
+announcement_of (Elements kind n) = elements n (elements_value kind)
 
 -- the shape is what the line announces, or the fault is; memory aside
-abbrev pub Announces : Result Shape Stop → Next → Type 0
-Announces (Ok shape) n = n ≡ announced shape
-Announces (Err Memory) n = Unit {0}
-Announces (Err Unfinished) n = ⊥
-Announces (Err (Fault f)) n = n ≡ wrong f
+abbrev pub Announces : Result Shape Stop → Announcement → Type 0
+Announces (Ok shape) a = a ≡ announcement_of shape
+Announces (Err Memory) a = Unit {0}
+Announces (Err Unfinished) a = ⊥
+Announces (Err (Fault f)) a = a ≡ invalid f

@@ -10,6 +10,7 @@ mod reading;
 mod shape;
 mod source;
 mod stop;
+mod type_byte;
 mod value_of;
 
 ghost use Rattle.std.specs.Prelude.{ℕ, List};

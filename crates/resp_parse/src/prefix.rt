@@ -1,14 +1,14 @@
 //! The value at the start of bytes.
 
-ghost use Rattle.std.specs.Prelude.{IsTrue};
-ghost use Rattle.resp_parse.specs.Grammar.{next, is_type};
-ghost use Rattle.resp_parse.specs.Reading.{read, read_next, read_elements};
+ghost use Rattle.resp_parse.specs.Grammar.{announced};
+ghost use Rattle.resp_parse.specs.Reading.{read, read_announced, read_elements};
 ghost use Rattle.resp_parse.specs.Shows.{Shows};
 ghost use Rattle.resp_parse.specs.Answers.{Answers, Finds};
 
 use crate::body::{body_of, line_of};
-use crate::shape::{Shape, is_type_byte, shape_of};
+use crate::shape::{Shape, shape_of};
 use crate::stop::Stop;
+use crate::type_byte::TypeByte;
 use resp_value::{FrameFault, IoKind, ParsingError, RedisError, RedisResult, Value};
 use std::alloc::Global;
 
@@ -20,34 +20,33 @@ const LEVELS: usize = 100;
 fn value_at(alloc: Global, bytes: &[u8], levels: usize) -> Result<(Value, &[u8]), Stop>
     ensures value { Shows (λ x. (x.0, x.1.now)) result (read levels bytes.now) }
 {
-    let Some((kind, after)) = bytes.split_first() else {
+    let Some((first, after)) = bytes.split_first() else {
         return Err(Stop::Unfinished);
     };
     if levels == 0 {
         return Err(Stop::Fault(FrameFault::TooDeep));
     }
-    if !is_type_byte(*kind) {
+    let Some(kind) = TypeByte::from_byte(*first) else {
         return Err(Stop::Fault(FrameFault::UnknownType));
-    }
+    };
     let (line, rest) = line_of(after)?;
     let Ok(text) = std::str::from_utf8(line) else {
         return Err(Stop::Fault(FrameFault::LineNotUtf8));
     };
-    announced_at(alloc, *kind, text, rest, levels - 1)
+    announced_at(alloc, kind, text, rest, levels - 1)
 }
 
 /// The value of a header, and what follows it; the bytes are those after the header's line.
 #[cycle(parser)]
 fn announced_at<'a>(
     alloc: Global,
-    kind: u8,
+    kind: TypeByte,
     text: &str,
     bytes: &'a [u8],
     levels: usize,
 ) -> Result<(Value, &'a [u8]), Stop>
-    requires { IsTrue (is_type kind) }
     ensures value { Shows (λ x. (x.0, x.1.now)) result
-        (read_next (read levels) (next kind text.now) bytes.now) }
+        (read_announced (read levels) (announced kind text.now) bytes.now) }
 {
     match shape_of(alloc, kind, text)? {
         Shape::Whole(value) => Ok((value, bytes)),

@@ -1,7 +1,6 @@
 //! What the line of a header announces.
 
-ghost use Rattle.std.specs.Prelude.{◌≡◌, IsTrue};
-ghost use Rattle.resp_parse.specs.Grammar.{next, is_type, boolean, double_line, with_number};
+ghost use Rattle.resp_parse.specs.Grammar.{announced, boolean, with_number};
 ghost use Rattle.resp_parse.specs.Grammar.{or_nil, or_empty_push, body as a_body};
 ghost use Rattle.resp_parse.specs.Grammar.{elements as some_elements, push};
 ghost use Rattle.resp_parse.specs.Shapes.{Announces, body_value, elements_value};
@@ -9,6 +8,7 @@ ghost use Rattle.resp_parse.specs.Shows.{Makes};
 
 use crate::number::{integer_of, length_of};
 use crate::stop::Stop;
+use crate::type_byte::TypeByte;
 use crate::value_of::{
     attribute_of, bulk_error_of, double_of, error_of, no_push, pairs_from, push_of, simple_of,
     verbatim_of,
@@ -73,51 +73,30 @@ pub(crate) enum Shape {
     Elements(ElementsKind, usize),
 }
 
-/// Whether a value begins with this byte.
-pub(crate) fn is_type_byte(byte: u8) -> bool
-    ensures known { result ≡ is_type byte }
-{
-    matches!(
-        byte,
-        b'+' | b'-'
-            | b':'
-            | b'$'
-            | b'*'
-            | b'_'
-            | b'#'
-            | b','
-            | b'('
-            | b'!'
-            | b'='
-            | b'%'
-            | b'~'
-            | b'|'
-            | b'>'
-    )
-}
-
-/// What the line of this text announces after a type byte.
-#[tactic(auto, unfolding(crate::specs::Grammar::next))]
-pub(crate) fn shape_of(alloc: Global, kind: u8, text: &str) -> Result<Shape, Stop>
-    requires { IsTrue (is_type kind) }
-    ensures announced { Announces result (next kind text.now) }
+/// What the line of this text announces, for a value of this type.
+pub(crate) fn shape_of(alloc: Global, kind: TypeByte, text: &str) -> Result<Shape, Stop>
+    ensures announced { Announces result (announced kind text.now) }
 {
     match kind {
-        b'+' => Ok(Shape::Whole(simple_of(alloc, text)?)),
-        b'-' => Ok(Shape::Whole(error_of(alloc, text)?)),
-        b':' => Ok(Shape::Whole(Value::Int(integer_of(text)?))),
-        b'$' => body_or_nil(text, BodyKind::Bulk),
-        b'*' => elements_or_nil(text, ElementsKind::Array),
-        b'_' => Ok(Shape::Whole(Value::Nil)),
-        b'#' => boolean_shape(text),
-        b',' => Ok(Shape::Whole(double_of(alloc, text)?)),
-        b'(' => Ok(Shape::Whole(Value::BigNumber(Items::from_slice(alloc, text.as_bytes())?))),
-        b'!' => Ok(Shape::Body(BodyKind::Error, length_of(text)?)),
-        b'=' => Ok(Shape::Body(BodyKind::Verbatim, length_of(text)?)),
-        b'%' => Ok(Shape::Elements(ElementsKind::Map, 2 * length_of(text)?)),
-        b'~' => elements_or_nil(text, ElementsKind::Set),
-        b'|' => Ok(Shape::Elements(ElementsKind::Attribute, 2 * length_of(text)? + 1)),
-        _ => push_shape(alloc, text),
+        TypeByte::SimpleString => Ok(Shape::Whole(simple_of(alloc, text)?)),
+        TypeByte::SimpleError => Ok(Shape::Whole(error_of(alloc, text)?)),
+        TypeByte::Integer => Ok(Shape::Whole(Value::Int(integer_of(text)?))),
+        TypeByte::BulkString => body_or_nil(text, BodyKind::Bulk),
+        TypeByte::Array => elements_or_nil(text, ElementsKind::Array),
+        TypeByte::Null => Ok(Shape::Whole(Value::Nil)),
+        TypeByte::Boolean => boolean_shape(text),
+        TypeByte::Double => Ok(Shape::Whole(double_of(alloc, text)?)),
+        TypeByte::BigNumber => {
+            Ok(Shape::Whole(Value::BigNumber(Items::from_slice(alloc, text.as_bytes())?)))
+        }
+        TypeByte::BulkError => Ok(Shape::Body(BodyKind::Error, length_of(text)?)),
+        TypeByte::VerbatimString => Ok(Shape::Body(BodyKind::Verbatim, length_of(text)?)),
+        TypeByte::Map => Ok(Shape::Elements(ElementsKind::Map, 2 * length_of(text)?)),
+        TypeByte::Attribute => {
+            Ok(Shape::Elements(ElementsKind::Attribute, 2 * length_of(text)? + 1))
+        }
+        TypeByte::Set => elements_or_nil(text, ElementsKind::Set),
+        TypeByte::Push => push_shape(alloc, text),
     }
 }
 

@@ -1,7 +1,6 @@
-use Rattle.std.proofs.Common.{◌≡◌, ◌+◌, ◌-◌, true, arith, ap, sym, ◌∙◌, ◌∷◌}
+use Rattle.std.proofs.Common.{◌≡◌, ◌+◌, ◌-◌, arith, ap, sym, ◌∙◌, ◌∷◌}
 use Rattle.std.proofs.lemmas.Result.{err_from_is_err_and}
 use Rattle.std.proofs.lemmas.List.{append-nil}
-use Rattle.resp_parse.specs.Grammar.{is_type}
 use Rattle.resp_parse.specs.Reading.{read_elements, read, then, got}
 use Rattle.resp_parse.proofs.ElementsSoFar.{with_prefix, element-next, element-read}
 use Rattle.resp_parse.proofs.Headers.{read-text, read-no_text}
@@ -10,13 +9,11 @@ use Rattle.resp_parse.proofs.prefix.+parser.Goals as goal
 
 pub value_at-returns-in_default-from_utf8 : goal.value_at-returns-in_default-from_utf8
 value_at-returns-in_default-from_utf8 t c =
-    let k : is_type c.in-Some.kind.now ≡ true = grind arith in
-    rw (read-no_text c.args.levels (c.args.levels - 1) c.args.bytes.now c.in-Some.after.now c.in_ok-line.line.now c.in_ok-line.rest.now c.in-Some.kind.now (omega arith) c.in-Some.ensures.cases.0 k c.in_ok-line.ensures.line c.in_default-from_utf8.ensures.cases.0) (search Rattle.std.proofs.Common.rules)
+    rw (read-no_text c.args.levels (c.args.levels - 1) c.args.bytes.now c.in-Some.after.now c.in_ok-line.line.now c.in_ok-line.rest.now c.in-Some.first.now c.in-Some-from_byte.kind (omega arith) c.in-Some.ensures.cases.0 (sym c.in-Some-from_byte.ensures.kind) c.in_ok-line.ensures.line c.in_default-from_utf8.ensures.cases.0) (search Rattle.std.proofs.Common.rules)
 
 pub value_at-returns : goal.value_at-returns
 value_at-returns t c =
-    let k : is_type c.in-Some.kind.now ≡ true = grind arith in
-    rw (read-text c.args.levels (c.args.levels - 1) c.args.bytes.now c.in-Some.after.now c.in_ok-line.line.now c.in_ok-line.rest.now c.in-Some.kind.now (omega arith) c.in-Some.ensures.cases.0 k c.in_ok-line.ensures.line c.in-Ok.ensures.cases.1, ← c.in-Ok.ensures.cases.0) c.announced_at.ensures
+    rw (read-text c.args.levels (c.args.levels - 1) c.args.bytes.now c.in-Some.after.now c.in_ok-line.line.now c.in_ok-line.rest.now c.in-Some.first.now c.in-Some-from_byte.kind (omega arith) c.in-Some.ensures.cases.0 (sym c.in-Some-from_byte.ensures.kind) c.in_ok-line.ensures.line c.in-Ok.ensures.cases.1, ← c.in-Ok.ensures.cases.0) c.announced_at.ensures
 
 pub elements_at-returns-in_err-element : goal.elements_at-returns-in_err-element
 elements_at-returns-in_err-element t c =
