@@ -1,5 +1,5 @@
 -- What a packed command spells.
-use Rattle.std.proofs.Common.{◌≡◌, ℕ, zero, suc, ◌<◌, ◌≤◌, ◌^◌, true, List, [], ◌∷◌, ◌++◌, length, map, Some, None, Ok, refl, sym, ap, ◌∙◌, arith, length-append, append_assoc, append-nil}
+use Rattle.std.proofs.Common.{◌≡◌, ℕ, zero, suc, ◌<◌, ◌≤◌, ◌^◌, true, List, [], ◌∷◌, ◌++◌, length, map, Some, None, Ok, Err, refl, sym, ap, ◌∙◌, arith, length-append, append_assoc, append-nil}
 use Rattle.std.proofs.lemmas.Fmt.{IsAscii-decimal, digits_decimal}
 use Rattle.std.proofs.lemmas.List.{append_cancel_left}
 use Rattle.std.proofs.lemmas.Str.{IsUtf8-from_ascii}
@@ -16,7 +16,7 @@ use Rattle.resp_parse.specs.Reads.{Reads}
 use Rattle.resp_parse.specs.declared.type_byte.TypeByte.{TypeByte}
 use Rattle.resp_parse.specs.declared.type_byte.TypeByte.TheVariants as type_byte
 use Rattle.resp_parse.specs.TypeBytes.{byte_of}
-use Rattle.resp_parse.specs.Grammar.{Good, Header, Joined, announced, body, elements, invalid, or_nil}
+use Rattle.resp_parse.specs.Grammar.{Good, Header, Joined, announced, body, elements, with_valid, or_nil}
 use Rattle.resp_value.specs.declared.errors.kinds.FrameFault.TheVariants.{NotInteger}
 use Rattle.resp_core.specs.Packed.{length_line, bulk, packed, as_value}
 use Rattle.resp_core.specs.PackingLaw.{LawOfPacking}
@@ -45,10 +45,10 @@ text_of : (len : ℕ) → len < 2 ^ 63 → IsUtf8 (decimal len)
 text_of len small = IsUtf8-from_ascii (decimal len) (IsAscii-decimal len (omega arith))
 
 bulk_announced : (len : ℕ) → len < 2 ^ 63 → announced type_byte.BulkString (decimal len) ≡ body len (λ bytes. Ok (BulkString bytes))
-bulk_announced len small = ap (λ o. elim o [ Some n ↦ or_nil (λ k. body k (λ bytes. Ok (BulkString bytes))) n | None ↦ invalid NotInteger ]) (number-decimal len small)
+bulk_announced len small = ap (λ o. with_valid (elim o [ Some n ↦ Ok n | None ↦ Err NotInteger ]) (or_nil (λ k. body k (λ bytes. Ok (BulkString bytes))))) (number-decimal len small)
 
 array_announced : (len : ℕ) → len < 2 ^ 63 → announced type_byte.Array (decimal len) ≡ elements len (λ values. Ok (Array values))
-array_announced len small = ap (λ o. elim o [ Some n ↦ or_nil (λ k. elements k (λ values. Ok (Array values))) n | None ↦ invalid NotInteger ]) (number-decimal len small)
+array_announced len small = ap (λ o. with_valid (elim o [ Some n ↦ Ok n | None ↦ Err NotInteger ]) (or_nil (λ k. elements k (λ values. Ok (Array values))))) (number-decimal len small)
 
 -- a frame spells its argument as a bulk string
 frame_good : (d : ℕ) (arg : List ℕ) → length arg < 2 ^ 63 → Good (suc d) (bulk arg) (BulkString arg)

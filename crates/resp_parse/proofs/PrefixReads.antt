@@ -7,7 +7,7 @@ use Rattle.resp_parse.specs.declared.stop.Stop.{Stop}
 use Rattle.resp_parse.specs.declared.stop.Stop.TheVariants.{Memory, Unfinished, Fault}
 use Rattle.resp_parse.specs.Reading.{Outcome, got, fault, unfinished, read}
 use Rattle.resp_parse.specs.Prefixes.{HasGoodPrefix, HasFaultyPrefix, IsUnfinished}
-use Rattle.resp_parse.specs.Shows.{Stops, fault_of}
+use Rattle.resp_parse.specs.Computes.{Stops, fault_of}
 use Rattle.resp_parse.specs.Answers.{Finds}
 use Rattle.resp_parse.proofs.Agreement.{read-good, read-faulty, good-reads, faulty-reads}
 

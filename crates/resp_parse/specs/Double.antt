@@ -1,7 +1,10 @@
 -- Double lines (RESP3, "Doubles").
-use Rattle.std.specs.Prelude.{ℕ, ◌+◌, Bool, cond, ◌&&◌, ◌||◌, ◌==◌, ◌++◌, List, take, drop, position, codes, Option, None, Some}
+use Rattle.std.specs.Prelude.{ℕ, ◌+◌, Bool, cond, ◌&&◌, ◌||◌, ◌==◌, ◌++◌, List, take, drop, position, codes, None, Some, Result, Ok, Err}
 use Rattle.std.specs.Str.{trim, bytes_eq, str_to_ascii_lowercase}
 use Rattle.std.specs.Str.Parse.{without_leading_sign}
+use Rattle.resp_value.specs.declared.value.Value.{Value, Double}
+use Rattle.resp_value.specs.declared.errors.kinds.FrameFault.{FrameFault}
+use Rattle.resp_value.specs.declared.errors.kinds.FrameFault.TheVariants.{NotDouble}
 use Rattle.resp_parse.specs.Number.{is_digits, is_decimal}
 
 abbrev pub is_point : ℕ → Bool
@@ -33,6 +36,6 @@ is_scientific text = elim (position is_e text) [
 abbrev pub is_double : List ℕ → Bool
 is_double text = is_word (without_leading_sign text) || is_scientific (without_leading_sign text)
 
--- the text without white space around it, if that is a double
-unfoldable pub double : List ℕ → Option (List ℕ)
-double text = cond (is_double (trim text)) (Some (trim text)) None
+-- the double of a line that must be one: the text without white space around it
+unfoldable pub double_in : List ℕ → Result Value FrameFault
+double_in text = cond (is_double (trim text)) (Ok (Double (trim text))) (Err NotDouble)

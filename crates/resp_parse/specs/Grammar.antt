@@ -3,10 +3,10 @@ use Rattle.std.specs.Prelude.{◌≡◌, ◌≢◌, ℕ, zero, suc, ◌+◌, ◌
 use Rattle.std.specs.List.{position_or_len, before_first, after_first}
 use Rattle.std.specs.Str.{IsUtf8, is_utf8, bytes_eq, encode_utf8_all}
 use Rattle.bstr.specs.Utf8.{lossy_chars}
-use Rattle.resp_value.specs.declared.value.Value.{Value, Nil, Okay, Int, SimpleString, BulkString, Array, Map, Attribute, ServerError, Boolean, Double, BigNumber, Set, VerbatimString, Push}
+use Rattle.resp_value.specs.declared.value.Value.{Value, Nil, Okay, Int, SimpleString, BulkString, Array, Map, Attribute, ServerError, Boolean, BigNumber, Set, VerbatimString, Push}
 use Rattle.resp_value.specs.declared.names.PushKind.{PushKind}
 use Rattle.resp_value.specs.declared.errors.kinds.FrameFault.{FrameFault}
-use Rattle.resp_value.specs.declared.errors.kinds.FrameFault.TheVariants.{TooDeep, UnknownType, LineNotUtf8, NotInteger, NegativeLength, BodyEnd, NotBoolean, NotDouble, NoVerbatimFormat, BadPushKind}
+use Rattle.resp_value.specs.declared.errors.kinds.FrameFault.TheVariants.{TooDeep, UnknownType, LineNotUtf8, BodyEnd, NotBoolean, NoVerbatimFormat, BadPushKind}
 use Rattle.resp_value.specs.Names.{kind_named, format_named}
 use Rattle.resp_value.specs.ServerErrors.{server_error}
 use Rattle.resp_value.specs.Views.{pairs}
@@ -14,8 +14,8 @@ use Rattle.resp_parse.specs.declared.type_byte.TypeByte.{TypeByte}
 use Rattle.resp_parse.specs.declared.type_byte.TypeByte.TheVariants as type_byte
 use Rattle.resp_parse.specs.TypeBytes.{byte_of}
 use Rattle.resp_parse.specs.Lines.{crlf, NoBreak}
-use Rattle.resp_parse.specs.Number.{number}
-use Rattle.resp_parse.specs.Double.{double}
+use Rattle.resp_parse.specs.Number.{integer_in, length_in}
+use Rattle.resp_parse.specs.Double.{double_in}
 
 -- what the line of a header announces: a value that is complete with it; a body of n bytes; n elements; or nothing, since
 -- the line is invalid
@@ -25,19 +25,15 @@ pub data Announcement : Type 0 where
   elements : ℕ → (List Value → Result Value FrameFault) → Announcement
   invalid : FrameFault → Announcement
 
--- an integer line
-abbrev pub with_number : List ℕ → (ℤ → Announcement) → Announcement
-with_number text follows = elim (number text) [ Some n ↦ follows n | None ↦ invalid NotInteger ]
+-- what a line announces by what it holds, or that it is invalid
+abbrev pub with_valid : {A : Type 0} → Result A FrameFault → (A → Announcement) → Announcement
+with_valid (Ok x) follows = follows x
+with_valid (Err f) follows = invalid f
 
 -- a length, where a negative one stands for a null
 abbrev pub or_nil : (ℕ → Announcement) → ℤ → Announcement
 or_nil follows (pos n) = follows n
 or_nil follows (negsuc n) = complete Nil
-
--- a length that may not be negative
-abbrev pub or_fault : (ℕ → Announcement) → ℤ → Announcement
-or_fault follows (pos n) = follows n
-or_fault follows (negsuc n) = invalid NegativeLength
 
 -- a push without a kind and without data
 abbrev pub empty_push : Value
@@ -58,12 +54,10 @@ abbrev pub simple : List ℕ → Value
 simple text = cond (bytes_eq text (codes "OK")) Okay (SimpleString text)
 
 -- # a boolean: exactly t or f
-abbrev pub boolean : List ℕ → Announcement
-boolean text = cond (bytes_eq text (codes "t")) (complete (Boolean true)) (cond (bytes_eq text (codes "f")) (complete (Boolean false)) (invalid NotBoolean))
-
--- , a double
-abbrev pub double_line : List ℕ → Announcement
-double_line text = elim (double text) [ Some trimmed ↦ complete (Double trimmed) | None ↦ invalid NotDouble ]
+abbrev pub boolean_in : List ℕ → Result Value FrameFault
+boolean_in text =
+    cond (bytes_eq text (codes "t")) (Ok (Boolean true))
+    (cond (bytes_eq text (codes "f")) (Ok (Boolean false)) (Err NotBoolean))
 
 -- ! a bulk error
 abbrev pub bulk_error : List ℕ → Value
@@ -107,19 +101,25 @@ push (first ∷ payload) = elim (push_kind first) [ Some kind ↦ Ok (Push kind 
 abbrev pub announced : TypeByte → List ℕ → Announcement
 announced type_byte.SimpleString text = complete (simple text)
 announced type_byte.SimpleError text = complete (ServerError (server_error text))
-announced type_byte.Integer text = with_number text (λ n. complete (Int n))
-announced type_byte.BulkString text = with_number text (or_nil (λ n. body n (λ bytes. Ok (BulkString bytes))))
-announced type_byte.Array text = with_number text (or_nil (λ n. elements n (λ values. Ok (Array values))))
+announced type_byte.Integer text = with_valid (integer_in text) (λ n. complete (Int n))
+announced type_byte.BulkString text =
+    with_valid (integer_in text) (or_nil (λ n. body n (λ bytes. Ok (BulkString bytes))))
+announced type_byte.Array text =
+    with_valid (integer_in text) (or_nil (λ n. elements n (λ values. Ok (Array values))))
 announced type_byte.Null text = complete Nil
-announced type_byte.Boolean text = boolean text
-announced type_byte.Double text = double_line text
+announced type_byte.Boolean text = with_valid (boolean_in text) complete
+announced type_byte.Double text = with_valid (double_in text) complete
 announced type_byte.BigNumber text = complete (BigNumber text)
-announced type_byte.BulkError text = with_number text (or_fault (λ n. body n (λ bytes. Ok (bulk_error bytes))))
-announced type_byte.VerbatimString text = with_number text (or_fault (λ n. body n verbatim))
-announced type_byte.Map text = with_number text (or_fault (λ n. elements (2 * n) (λ values. Ok (Map (pairs values)))))
-announced type_byte.Attribute text = with_number text (or_fault (λ n. elements (2 * n + 1) (λ values. Ok (attribute values))))
-announced type_byte.Set text = with_number text (or_nil (λ n. elements n (λ values. Ok (Set values))))
-announced type_byte.Push text = with_number text (or_empty_push (λ n. elements n push))
+announced type_byte.BulkError text =
+    with_valid (length_in text) (λ n. body n (λ bytes. Ok (bulk_error bytes)))
+announced type_byte.VerbatimString text = with_valid (length_in text) (λ n. body n verbatim)
+announced type_byte.Map text =
+    with_valid (length_in text) (λ n. elements (2 * n) (λ values. Ok (Map (pairs values))))
+announced type_byte.Attribute text =
+    with_valid (length_in text) (λ n. elements (2 * n + 1) (λ values. Ok (attribute values)))
+announced type_byte.Set text =
+    with_valid (integer_in text) (or_nil (λ n. elements n (λ values. Ok (Set values))))
+announced type_byte.Push text = with_valid (integer_in text) (or_empty_push (λ n. elements n push))
 
 -- the bytes begin with the byte of this type and a line of this text, and the rest follows
 pub record Header (b : List ℕ) (kind : TypeByte) (text rest : List ℕ) : Type 0 where

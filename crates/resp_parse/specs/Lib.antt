@@ -8,7 +8,7 @@ pub mod Prefixes
 pub mod Laws
 pub mod Reading
 pub mod Shapes
-pub mod Shows
+pub mod Computes
 pub mod Answers
 pub mod State
 pub mod Takes

@@ -1,9 +1,11 @@
 -- Integer lines (RESP, "Integers").
-use Rattle.std.specs.Prelude.{ℕ, ◌^◌, Bool, ◌&&◌, cond, nat_lt, nat_le, List, length, ℤ, Option, None, Some}
+use Rattle.std.specs.Prelude.{ℕ, ◌^◌, Bool, ◌&&◌, cond, nat_lt, nat_le, List, length, ℤ, pos, negsuc, Option, None, Some, Result, Ok, Err}
 use Rattle.std.specs.Char.{is_ascii_digit}
 use Rattle.std.specs.List.{list_all}
 use Rattle.std.specs.Str.{trim}
 use Rattle.std.specs.Str.Parse.{without_leading_sign, signed_digits_value, digits_value, starts_with_minus}
+use Rattle.resp_value.specs.declared.errors.kinds.FrameFault.{FrameFault}
+use Rattle.resp_value.specs.declared.errors.kinds.FrameFault.TheVariants.{NotInteger, NegativeLength}
 
 -- one or more digits
 abbrev pub is_digits : List ℕ → Bool
@@ -26,3 +28,16 @@ plain_number text = cond (is_decimal text && fits_i64 text) (Some (signed_digits
 -- the number that the text writes, if it writes one, white space around it aside
 unfoldable pub number : List ℕ → Option ℤ
 number text = plain_number (trim text)
+
+-- the number of a line that must be one
+abbrev pub integer_in : List ℕ → Result ℤ FrameFault
+integer_in text = elim (number text) [ Some n ↦ Ok n | None ↦ Err NotInteger ]
+
+-- a number that is a length: it isn't negative
+abbrev pub as_length : ℤ → Result ℕ FrameFault
+as_length (pos n) = Ok n
+as_length (negsuc n) = Err NegativeLength
+
+-- the length of a line that must be one
+abbrev pub length_in : List ℕ → Result ℕ FrameFault
+length_in text = elim (integer_in text) [ Ok n ↦ as_length n | Err f ↦ Err f ]

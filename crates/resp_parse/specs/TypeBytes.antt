@@ -1,5 +1,5 @@
 -- The first byte of a value says its type (RESP, "RESP protocol description").
-use Rattle.std.specs.Prelude.{ℕ, cond, ◌==◌, Option, None, Some}
+use Rattle.std.specs.Prelude.{ℕ, if◌then◌else◌, ◌==◌, Option, None, Some}
 use Rattle.resp_parse.specs.declared.type_byte.TypeByte.{TypeByte}
 use Rattle.resp_parse.specs.declared.type_byte.TypeByte.TheVariants.{SimpleString, SimpleError, Integer, BulkString, Array, Null, Boolean, Double, BigNumber, BulkError, VerbatimString, Map, Attribute, Set, Push}
 
@@ -24,18 +24,19 @@ byte_of Push = 62  -- >
 -- the type of a byte, if it is one's
 unfoldable pub type_of : ℕ → Option TypeByte
 type_of c =
-    cond (c == byte_of SimpleString) (Some SimpleString)
-    (cond (c == byte_of SimpleError) (Some SimpleError)
-    (cond (c == byte_of Integer) (Some Integer)
-    (cond (c == byte_of BulkString) (Some BulkString)
-    (cond (c == byte_of Array) (Some Array)
-    (cond (c == byte_of Null) (Some Null)
-    (cond (c == byte_of Boolean) (Some Boolean)
-    (cond (c == byte_of Double) (Some Double)
-    (cond (c == byte_of BigNumber) (Some BigNumber)
-    (cond (c == byte_of BulkError) (Some BulkError)
-    (cond (c == byte_of VerbatimString) (Some VerbatimString)
-    (cond (c == byte_of Map) (Some Map)
-    (cond (c == byte_of Attribute) (Some Attribute)
-    (cond (c == byte_of Set) (Some Set)
-    (cond (c == byte_of Push) (Some Push) None))))))))))))))
+    if c == byte_of SimpleString then Some SimpleString else
+    if c == byte_of SimpleError then Some SimpleError else
+    if c == byte_of Integer then Some Integer else
+    if c == byte_of BulkString then Some BulkString else
+    if c == byte_of Array then Some Array else
+    if c == byte_of Null then Some Null else
+    if c == byte_of Boolean then Some Boolean else
+    if c == byte_of Double then Some Double else
+    if c == byte_of BigNumber then Some BigNumber else
+    if c == byte_of BulkError then Some BulkError else
+    if c == byte_of VerbatimString then Some VerbatimString else
+    if c == byte_of Map then Some Map else
+    if c == byte_of Attribute then Some Attribute else
+    if c == byte_of Set then Some Set else
+    if c == byte_of Push then Some Push else
+    None

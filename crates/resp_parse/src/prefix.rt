@@ -2,7 +2,7 @@
 
 ghost use Rattle.resp_parse.specs.Grammar.{announced};
 ghost use Rattle.resp_parse.specs.Reading.{read, read_announced, read_elements};
-ghost use Rattle.resp_parse.specs.Shows.{Shows};
+ghost use Rattle.resp_parse.specs.Computes.{ComputesOutcome};
 ghost use Rattle.resp_parse.specs.Answers.{Answers, Finds};
 
 use crate::body::{body_of, line_of};
@@ -18,7 +18,7 @@ const LEVELS: usize = 100;
 /// The value at the start of the bytes, where d levels are left, and what follows it.
 #[cycle(parser)]
 fn value_at(alloc: Global, bytes: &[u8], levels: usize) -> Result<(Value, &[u8]), Stop>
-    ensures value { Shows (λ x. (x.0, x.1.now)) result (read levels bytes.now) }
+    ensures value { ComputesOutcome (λ x. (x.0, x.1.now)) result (read levels bytes.now) }
 {
     let Some((first, after)) = bytes.split_first() else {
         return Err(Stop::Unfinished);
@@ -45,7 +45,7 @@ fn announced_at<'a>(
     bytes: &'a [u8],
     levels: usize,
 ) -> Result<(Value, &'a [u8]), Stop>
-    ensures value { Shows (λ x. (x.0, x.1.now)) result
+    ensures value { ComputesOutcome (λ x. (x.0, x.1.now)) result
         (read_announced (read levels) (announced kind text.now) bytes.now) }
 {
     match shape_of(alloc, kind, text)? {
@@ -69,7 +69,7 @@ fn elements_at(
     count: usize,
     levels: usize,
 ) -> Result<(Vec<Value>, &[u8]), Stop>
-    ensures elements { Shows (λ x. (x.0.items, x.1.now)) result
+    ensures elements { ComputesOutcome (λ x. (x.0.items, x.1.now)) result
         (read_elements (read levels) count bytes.now) }
 {
     let mut elements = Vec::new(alloc);

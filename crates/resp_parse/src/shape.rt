@@ -1,10 +1,11 @@
 //! What the line of a header announces.
 
-ghost use Rattle.resp_parse.specs.Grammar.{announced, boolean, with_number};
-ghost use Rattle.resp_parse.specs.Grammar.{or_nil, or_empty_push, body as a_body};
+ghost use Rattle.resp_parse.specs.Grammar.{announced, boolean_in, with_valid};
+ghost use Rattle.resp_parse.specs.Grammar.{or_nil, or_empty_push, complete, body as a_body};
 ghost use Rattle.resp_parse.specs.Grammar.{elements as some_elements, push};
+ghost use Rattle.resp_parse.specs.Number.{integer_in};
 ghost use Rattle.resp_parse.specs.Shapes.{Announces, body_value, elements_value};
-ghost use Rattle.resp_parse.specs.Shows.{Makes};
+ghost use Rattle.resp_parse.specs.Computes.{Computes};
 
 use crate::number::{integer_of, length_of};
 use crate::stop::Stop;
@@ -27,7 +28,7 @@ pub(crate) enum BodyKind {
 impl BodyKind {
     /// The value of a body.
     pub(crate) fn value(self, alloc: Global, body: &[u8]) -> Result<Value, Stop>
-        ensures value { Makes result (body_value self body.now) }
+        ensures value { Computes result (body_value self body.now) }
     {
         match self {
             BodyKind::Bulk => Ok(Value::BulkString(Items::from_slice(alloc, body)?)),
@@ -50,14 +51,14 @@ pub(crate) enum ElementsKind {
 impl ElementsKind {
     /// The value of the elements.
     pub(crate) fn value(self, alloc: Global, elements: Vec<Value>) -> Result<Value, Stop>
-        ensures value { Makes result (elements_value self elements.items) }
+        ensures value { Computes result (elements_value self elements.items) }
     {
         match self {
             ElementsKind::Array => Ok(Value::Array(elements.into())),
             ElementsKind::Set => Ok(Value::Set(elements.into())),
             ElementsKind::Map => Ok(Value::Map(pairs_from(alloc, elements)?)),
             ElementsKind::Attribute => Ok(attribute_of(alloc, elements)?),
-            ElementsKind::Push => push_of(elements),
+            ElementsKind::Push => Ok(push_of(elements)?),
         }
     }
 }
@@ -101,7 +102,7 @@ pub(crate) fn shape_of(alloc: Global, kind: TypeByte, text: &str) -> Result<Shap
 }
 
 fn boolean_shape(text: &str) -> Result<Shape, Stop>
-    ensures announced { Announces result (boolean text.now) }
+    ensures announced { Announces result (with_valid (boolean_in text.now) complete) }
 {
     match text {
         "t" => Ok(Shape::Whole(Value::Boolean(true))),
@@ -111,7 +112,7 @@ fn boolean_shape(text: &str) -> Result<Shape, Stop>
 }
 
 fn body_or_nil(text: &str, kind: BodyKind) -> Result<Shape, Stop>
-    ensures announced { Announces result (with_number text.now
+    ensures announced { Announces result (with_valid (integer_in text.now)
         (or_nil (λ n. a_body n (body_value kind)))) }
 {
     let len = integer_of(text)?;
@@ -122,7 +123,7 @@ fn body_or_nil(text: &str, kind: BodyKind) -> Result<Shape, Stop>
 }
 
 fn elements_or_nil(text: &str, kind: ElementsKind) -> Result<Shape, Stop>
-    ensures announced { Announces result (with_number text.now
+    ensures announced { Announces result (with_valid (integer_in text.now)
         (or_nil (λ n. some_elements n (elements_value kind)))) }
 {
     let count = integer_of(text)?;
@@ -133,7 +134,7 @@ fn elements_or_nil(text: &str, kind: ElementsKind) -> Result<Shape, Stop>
 }
 
 fn push_shape(alloc: Global, text: &str) -> Result<Shape, Stop>
-    ensures announced { Announces result (with_number text.now
+    ensures announced { Announces result (with_valid (integer_in text.now)
         (or_empty_push (λ n. some_elements n push))) }
 {
     let count = integer_of(text)?;

@@ -1,7 +1,7 @@
 //! Why no value was read.
 
 ghost use Rattle.std.specs.Prelude.{◌≡◌};
-ghost use Rattle.resp_parse.specs.declared.stop.Stop.TheVariants.{Memory};
+ghost use Rattle.resp_parse.specs.declared.stop.Stop.TheVariants.{Fault, Memory};
 
 use resp_value::FrameFault;
 use std::alloc::{AllocError, AllocFailed};
@@ -30,5 +30,13 @@ impl<T: Drop> From<AllocFailed<T>> for Stop {
 
     fn from(_error: AllocFailed<T>) -> Stop {
         Stop::Memory
+    }
+}
+
+impl From<FrameFault> for Stop {
+    ghost from_gives = { λ f e. e ≡ Fault f };
+
+    fn from(fault: FrameFault) -> Stop {
+        Stop::Fault(fault)
     }
 }

@@ -1,13 +1,13 @@
 //! Values from the texts, bodies and elements that spell them.
 
-ghost use Rattle.std.specs.Prelude.{◌≡◌, [], string_bytes};
+ghost use Rattle.std.specs.Prelude.{◌≡◌, [], IfOk, string_bytes};
 ghost use Rattle.resp_value.specs.declared.value.Value.TheVariants as value;
 ghost use Rattle.resp_value.specs.ServerErrors.{server_error};
 ghost use Rattle.resp_value.specs.Views.{pairs as pairs_of};
 ghost use Rattle.resp_parse.specs.Grammar.{simple, bulk_error, lossy, verbatim, attribute};
 ghost use Rattle.resp_parse.specs.Grammar.{push_kind, push, empty_push};
-ghost use Rattle.resp_parse.specs.Double.{double};
-ghost use Rattle.resp_parse.specs.Shows.{IsOrMemory, Makes, DoubleOf};
+ghost use Rattle.resp_parse.specs.Double.{double_in};
+ghost use Rattle.resp_parse.specs.Computes.{Computes};
 
 use crate::double::is_double_text;
 use crate::stop::Stop;
@@ -15,11 +15,11 @@ use bstr::ByteSlice;
 use resp_value::{
     Boxed, FrameFault, Items, PushKind, ServerError, Text, Value, get_push_kind, verbatim_format,
 };
-use std::alloc::Global;
+use std::alloc::{AllocError, Global};
 
 /// The value of a simple string (RESP, "Simple strings").
-pub(crate) fn simple_of(alloc: Global, text: &str) -> Result<Value, Stop>
-    ensures value { IsOrMemory result (simple text.now) }
+pub(crate) fn simple_of(alloc: Global, text: &str) -> Result<Value, AllocError>
+    ensures value { IfOk result (λ made. made ≡ simple text.now) }
 {
     if text == "OK" {
         return Ok(Value::Okay);
@@ -28,19 +28,19 @@ pub(crate) fn simple_of(alloc: Global, text: &str) -> Result<Value, Stop>
 }
 
 /// The value of an error (RESP, "Simple errors").
-pub(crate) fn error_of(alloc: Global, text: &str) -> Result<Value, Stop>
-    ensures value { IsOrMemory result (value.ServerError (server_error text.now)) }
+pub(crate) fn error_of(alloc: Global, text: &str) -> Result<Value, AllocError>
+    ensures value { IfOk result (λ made. made ≡ value.ServerError (server_error text.now)) }
 {
     match ServerError::from_text(alloc, text) {
         Ok(error) => Ok(Value::ServerError(error)),
-        Err(_) => Err(Stop::Memory),
+        Err(_) => Err(AllocError),
     }
 }
 
 /// The value of a double line (RESP3, "Doubles").
-#[tactic(auto, unfolding(crate::specs::Double::double))]
+#[tactic(auto, unfolding(crate::specs::Double::double_in))]
 pub(crate) fn double_of(alloc: Global, text: &str) -> Result<Value, Stop>
-    ensures value { DoubleOf result (double text.now) }
+    ensures value { Computes result (double_in text.now) }
 {
     let text = text.trim();
     if !is_double_text(text) {
@@ -50,8 +50,8 @@ pub(crate) fn double_of(alloc: Global, text: &str) -> Result<Value, Stop>
 }
 
 /// Bytes as text, with U+FFFD for what is no UTF-8.
-fn lossy_text(alloc: Global, bytes: &[u8]) -> Result<Text, Stop>
-    ensures text { IsOrMemory result (lossy bytes.now) }
+fn lossy_text(alloc: Global, bytes: &[u8]) -> Result<Text, AllocError>
+    ensures text { IfOk result (λ made. made ≡ lossy bytes.now) }
 {
     let mut text = String::new(alloc);
     bytes.to_str_lossy_into(&mut text)?;
@@ -59,8 +59,8 @@ fn lossy_text(alloc: Global, bytes: &[u8]) -> Result<Text, Stop>
 }
 
 /// The value of a bulk error's body (RESP3, "Bulk errors").
-pub(crate) fn bulk_error_of(alloc: Global, body: &[u8]) -> Result<Value, Stop>
-    ensures value { IsOrMemory result (bulk_error body.now) }
+pub(crate) fn bulk_error_of(alloc: Global, body: &[u8]) -> Result<Value, AllocError>
+    ensures value { IfOk result (λ made. made ≡ bulk_error body.now) }
 {
     let text = lossy_text(alloc, body)?;
     error_of(alloc, text.as_str())
@@ -68,7 +68,7 @@ pub(crate) fn bulk_error_of(alloc: Global, body: &[u8]) -> Result<Value, Stop>
 
 /// The value of a verbatim string's body (RESP3, "Verbatim strings").
 pub(crate) fn verbatim_of(alloc: Global, body: &[u8]) -> Result<Value, Stop>
-    ensures value { Makes result (verbatim body.now) }
+    ensures value { Computes result (verbatim body.now) }
 {
     let text = lossy_text(alloc, body)?;
     match text.as_str().split_once(':') {
@@ -81,8 +81,11 @@ pub(crate) fn verbatim_of(alloc: Global, body: &[u8]) -> Result<Value, Stop>
 }
 
 /// The elements two by two.
-pub(crate) fn pairs_from(alloc: Global, elements: Vec<Value>) -> Result<Items<(Value, Value)>, Stop>
-    ensures pairs { IsOrMemory result (pairs_of elements.items) }
+pub(crate) fn pairs_from(
+    alloc: Global,
+    elements: Vec<Value>,
+) -> Result<Items<(Value, Value)>, AllocError>
+    ensures pairs { IfOk result (λ made. made ≡ pairs_of elements.items) }
 {
     let mut pairs = Items::new(alloc);
     let mut rest = elements.into_iter();
@@ -96,8 +99,8 @@ pub(crate) fn pairs_from(alloc: Global, elements: Vec<Value>) -> Result<Items<(V
 }
 
 /// The attribute of these elements: pairs, and then the data (RESP3, "Attributes").
-pub(crate) fn attribute_of(alloc: Global, mut elements: Vec<Value>) -> Result<Value, Stop>
-    ensures value { IsOrMemory result (attribute elements.items) }
+pub(crate) fn attribute_of(alloc: Global, mut elements: Vec<Value>) -> Result<Value, AllocError>
+    ensures value { IfOk result (λ made. made ≡ attribute elements.items) }
 {
     let payload = match elements.pop() {
         Some(value) => value,
@@ -124,18 +127,18 @@ fn kind_from(first: Value) -> Option<PushKind>
 }
 
 /// The push of these elements: its kind, and then its data (RESP3, "Pushes").
-pub(crate) fn push_of(mut elements: Vec<Value>) -> Result<Value, Stop>
-    ensures value { Makes result (push elements.items) }
+pub(crate) fn push_of(mut elements: Vec<Value>) -> Result<Value, FrameFault>
+    ensures value { result ≡ push elements.items }
 {
     if elements.is_empty() {
-        return Err(Stop::Fault(FrameFault::BadPushKind));
+        return Err(FrameFault::BadPushKind);
     }
     match kind_from(elements.remove(0)) {
         Some(kind) => Ok(Value::Push {
             kind,
             payload: elements.into(),
         }),
-        None => Err(Stop::Fault(FrameFault::BadPushKind)),
+        None => Err(FrameFault::BadPushKind),
     }
 }
 
