@@ -2,13 +2,13 @@
 use Rattle.std.specs.Prelude.{◌≡◌, ℕ, ◌&&◌, Bool, true, List, ◌++◌, if◌then◌else◌, Result, Ok}
 use Rattle.resp_value.specs.declared.value.Value.{Value}
 use Rattle.resp_value.specs.declared.errors.redis_error.RedisError.{RedisError}
-use Rattle.resp_parse.specs.Source.{End}
+use Rattle.resp_parse.specs.Source.{Source}
 use Rattle.resp_core.specs.Sink.{Sink}
 use Rattle.resp_core.specs.Connection.{Connection, SameKind, Exchange}
 use Rattle.resp_core.specs.Call.{AnswersReply}
 
 -- the link holds the bytes that were received and aren't taken
-abbrev pub connection_of : End → Sink → List ℕ → Bool → Connection
+abbrev pub connection_of : Source → Sink → List ℕ → Bool → Connection
 connection_of source sink unparsed broken = record {
   observable = source.observable && sink.observable;
   pipelines = true;

@@ -2,7 +2,7 @@
 
 ghost use Rattle.std.specs.Prelude.{◌≡◌, [], true, false, Ok};
 ghost use Rattle.resp_parse.specs.State.{IsBetweenValues, IsBetweenValues-prop};
-ghost use Rattle.resp_parse.specs.Source.{end_of};
+ghost use Rattle.resp_parse.specs.Source.{source_of};
 ghost use Rattle.resp_core.specs.Sink.{sink_of};
 ghost use Rattle.resp_core.specs.Connection.{Connection};
 ghost use Rattle.resp_core.specs.Call.{CommandCall};
@@ -54,7 +54,7 @@ impl<R: Read, W: Write> ByteLink<Reading<R>, Writing<W>> {
     /// A link over a reader and a writer.
     pub fn new(alloc: Global, reader: R, writer: W) -> ByteLink<Reading<R>, Writing<W>>
         ensures { ⟦<ByteLink<Reading<R>, Writing<W>> as ConnectionLike>⟧.connection result
-            ≡ connection_of (end_of (R.remaining reader) 0) (sink_of (W.contents writer) false 0)
+            ≡ connection_of (source_of (R.remaining reader) 0) (sink_of (W.contents writer) false 0)
             [] false }
     {
         ByteLink::over(alloc, Reading::new(reader), Writing::new(writer))

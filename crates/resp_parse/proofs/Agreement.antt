@@ -9,7 +9,7 @@ use Rattle.resp_parse.specs.Lines.{crlf}
 use Rattle.resp_parse.specs.declared.type_byte.TypeByte.{TypeByte}
 use Rattle.resp_parse.specs.TypeBytes.{byte_of, type_of}
 use Rattle.resp_parse.specs.Grammar.{Announcement, complete, body, elements, invalid, announced, Header, Follows, Good, FaultFollows, Faulty}
-use Rattle.resp_parse.specs.Reading.{Outcome, got, fault, then, line, read_body, read_elements, made, read_announced, read_line, read_typed, read}
+use Rattle.resp_parse.specs.PlainReading.{Outcome, got, fault, then, line, read_body, read_elements, made, read_announced, read_line, read_typed, read}
 use Rattle.resp_parse.proofs.Bits.{not_true}
 use Rattle.resp_parse.proofs.TypeBytes.{type_of-byte_of, byte_of-from_type_of, type_of-none, no_byte_of}
 use Rattle.resp_parse.proofs.Then.{then-got, then-fault}

@@ -4,8 +4,8 @@ use Rattle.resp_value.specs.declared.errors.kinds.IoKind.{IoKind}
 use Rattle.resp_value.specs.declared.errors.kinds.IoKind.TheVariants.{UnexpectedEof}
 use Rattle.resp_value.specs.declared.errors.redis_error.RedisError.TheVariants as form
 use Rattle.resp_parse.specs.State.{State, StandsAfter}
-use Rattle.resp_parse.specs.Source.{End, Fills}
-use Rattle.resp_parse.specs.Asks.{Filled, Asks, CannotFill, ended, broken, out_of_memory}
+use Rattle.resp_parse.specs.Source.{Source, Fills}
+use Rattle.resp_parse.specs.Calls.{Filled, Asks, CannotFill}
 use Rattle.resp_parse.proofs.Standing.{StandsAfter-works}
 use Rattle.resp_parse.proofs.Plain.{state_of, StandsAfter-plain, FailedAfter-plain, StandsAfter-unparsed, StandsAfter-fed}
 
@@ -27,19 +27,19 @@ module _ (now : State) (b buffer buffer' : List ℕ) (consumed : ℕ) (failed : 
   works : failed ≡ false
   works = ap (λ (s : State). s.failed) e ∙ StandsAfter-works now b h
 
-  pub Asks-memory : (s : End) → CannotFill b form.OutOfMemory (state_of buffer' consumed true) s s
-  Asks-memory s = out_of_memory refl (λ _. refl) refl (FailedAfter-plain (state_of buffer' consumed true) b refl unparsed)
+  pub Asks-memory : (s : Source) → CannotFill b form.OutOfMemory (state_of buffer' consumed true) s s
+  Asks-memory s = CannotFill.out_of_memory refl (λ _. refl) refl (FailedAfter-plain (state_of buffer' consumed true) b refl unparsed)
 
-  pub Asks-ended : (s t : End) (before after : List ℕ) (n : ℕ) → n ≡ 0 → 0 < length before → Fills s t before after (Ok n) → CannotFill b (form.Io UnexpectedEof) (state_of buffer' consumed true) s t
+  pub Asks-ended : (s t : Source) (before after : List ℕ) (n : ℕ) → n ≡ 0 → 0 < length before → Fills s t before after (Ok n) → CannotFill b (form.Io UnexpectedEof) (state_of buffer' consumed true) s t
   Asks-ended s t before after n z l f =
-      ended refl (λ told. (f.bytes told).0 ∙ ap (λ m. take m after ++ t.bytes) z) (λ told. (f.bytes told).1 z l) f.failures
+      CannotFill.ended refl (λ told. (f.bytes told).0 ∙ ap (λ m. take m after ++ t.bytes) z) (λ told. (f.bytes told).1 z l) f.failures
       (FailedAfter-plain (state_of buffer' consumed true) b refl unparsed)
 
-  pub Asks-broken : (s t : End) (before after : List ℕ) (kind : IoKind) → Fills s t before after (Err kind) → CannotFill b (form.Io kind) (state_of buffer' consumed failed) s t
+  pub Asks-broken : (s t : Source) (before after : List ℕ) (kind : IoKind) → Fills s t before after (Err kind) → CannotFill b (form.Io kind) (state_of buffer' consumed failed) s t
   Asks-broken s t before after kind f =
-      broken kind refl (λ told. sym (f.bytes told)) f.failures (StandsAfter-plain (state_of buffer' consumed failed) b works unparsed)
+      CannotFill.broken kind refl (λ told. sym (f.bytes told)) f.failures (StandsAfter-plain (state_of buffer' consumed failed) b works unparsed)
 
-  filled : (s t : End) (before after more : List ℕ) (n : ℕ) → consumed ≤ length buffer → more ≡ buffer' ++ take n after → Fills s t before after (Ok n) → Filled b (state_of more consumed failed) s t
+  filled : (s t : Source) (before after more : List ℕ) (n : ℕ) → consumed ≤ length buffer → more ≡ buffer' ++ take n after → Fills s t before after (Ok n) → Filled b (state_of more consumed failed) s t
   filled s t before after more n l m f = record {
     filled = take n after;
     came = λ told. (f.bytes told).0;
@@ -47,7 +47,7 @@ module _ (now : State) (b buffer buffer' : List ℕ) (consumed : ℕ) (failed : 
     failures = f.failures;
   }
 
-  pub Asks-filled : (s t : End) (before after more : List ℕ) (n : ℕ) → consumed ≤ length buffer → more ≡ buffer' ++ take n after → Fills s t before after (Ok n) → length before ≤ 4096 → 0 < length (take n after) → Asks b (state_of more consumed failed) s t (Ok tt)
+  pub Asks-filled : (s t : Source) (before after more : List ℕ) (n : ℕ) → consumed ≤ length buffer → more ≡ buffer' ++ take n after → Fills s t before after (Ok n) → length before ≤ 4096 → 0 < length (take n after) → Asks b (state_of more consumed failed) s t (Ok tt)
   unfolding filled
   Asks-filled s t before after more n l m f size some =
       let most : length (take n after) ≤ n = take-most n after in

@@ -1,7 +1,7 @@
 -- The CR LF of a body, by place, and bodies by their length.
 use Rattle.std.proofs.Common.{◌≡◌, ◌≢◌, ℕ, zero, suc, ◌<◌, ◌≤◌, List, [], ◌∷◌, ◌++◌, length, take, drop, get_or, refl, ap, ◌∙◌, arith}
 use Rattle.resp_value.specs.declared.errors.kinds.FrameFault.TheVariants.{BodyEnd}
-use Rattle.resp_parse.specs.Reading.{Outcome, got, fault, unfinished, then, end_of_body, read_body}
+use Rattle.resp_parse.specs.PlainReading.{Outcome, got, fault, unfinished, then, end_of_body, read_body}
 use Rattle.resp_parse.proofs.Bits.{eq_true, eq_false}
 
 pub end-empty : (bs : List ℕ) → length bs ≡ 0 → end_of_body bs ≡ unfinished

@@ -5,7 +5,7 @@ use Rattle.resp_value.specs.declared.errors.kinds.FrameFault.{FrameFault}
 use Rattle.resp_value.specs.declared.errors.kinds.FrameFault.TheVariants.{BodyEnd}
 use Rattle.resp_parse.specs.Lines.{crlf}
 use Rattle.resp_parse.specs.Grammar.{EndsWrong, no_cr, no_lf}
-use Rattle.resp_parse.specs.Reading.{Outcome, got, fault, unfinished, end_of_body, read_body}
+use Rattle.resp_parse.specs.PlainReading.{Outcome, got, fault, unfinished, end_of_body, read_body}
 use Rattle.resp_parse.proofs.Bits.{eq_true, eq_false}
 use Rattle.resp_parse.proofs.Then.{then-got, then-fault}
 

@@ -7,19 +7,15 @@ use Rattle.resp_value.specs.declared.errors.redis_error.RedisError.{RedisError}
 use Rattle.resp_value.specs.declared.errors.redis_error.RedisError.TheVariants as form
 use Rattle.resp_parse.specs.Prefixes.{HasGoodPrefix, HasFaultyPrefix, IsUnfinished}
 use Rattle.resp_parse.specs.State.{State, StandsAfter, FailedAfter}
-use Rattle.resp_parse.specs.Takes.{Takes, CannotTake}
-use Rattle.resp_parse.specs.Takes as takes
-use Rattle.resp_parse.specs.Source.{End, Came, end_of}
-use Rattle.resp_parse.specs.Asks.{Filled, Asks, CannotFill}
-use Rattle.resp_parse.specs.Asks as asks
-use Rattle.resp_parse.specs.Parses.{AsNeeded, Parses, ParsesReader, Parsed, Failed, CannotParse, faulty, early, interrupted, out_of_memory}
+use Rattle.resp_parse.specs.Source.{Source, Came, source_of}
+use Rattle.resp_parse.specs.Calls.{Takes, CannotTake, Filled, Asks, CannotFill, AsNeeded, Parses, ParsesReader, Parsed, Failed, CannotParse}
 
 -- what was filled since the parser stood after b
-pub record FilledAsNeeded (b : List ℕ) (p : State) (s t : End) : Type 0 where
+pub record FilledAsNeeded (b : List ℕ) (p : State) (s t : Source) : Type 0 where
   pub more : Filled b p s t
   pub needed : AsNeeded b more.filled
 
-pub FilledAsNeeded-none : (b : List ℕ) (p : State) (s : End) → StandsAfter p b → FilledAsNeeded b p s s
+pub FilledAsNeeded-none : (b : List ℕ) (p : State) (s : Source) → StandsAfter p b → FilledAsNeeded b p s s
 FilledAsNeeded-none b p s h = record {
   more = record { filled = []; came = λ _. refl; stands = subst (StandsAfter p) (sym (append-nil b)) h; failures = refl };
   needed = record { before = []; last = []; whole = refl; size = omega arith; unfinished = λ some. absurd (some refl) };
@@ -35,7 +31,7 @@ unfolding HasFaultyPrefix
 HasFaultyPrefix-longer b more f (x, rest, e, g) = (x, rest ++ more, ap (λ z. z ++ more) e ∙ append_assoc x rest more, g)
 
 -- after b, the source has filled some bytes, and the parser stands after them
-module _ (b : List ℕ) (p : State) (s t : End) (k : FilledAsNeeded b p s t) where
+module _ (b : List ℕ) (p : State) (s t : Source) (k : FilledAsNeeded b p s t) where
   pub Parsed-taken : (new : State) (v : Value) → Takes (b ++ k.more.filled) new (Ok (Some v)) → Parsed b v new s t
   Parsed-taken new v w = record { filled = k.more.filled; came = k.more.came; needed = k.needed; value = w.0; rest = w.1; failures = k.more.failures }
 
@@ -43,11 +39,11 @@ module _ (b : List ℕ) (p : State) (s t : End) (k : FilledAsNeeded b p s t) whe
   Failed-taken new h = record { came = k.more.came; needed = k.needed; failed = h; failures = k.more.failures }
 
   pub CannotParse-taken : (new : State) (e : RedisError) → Takes (b ++ k.more.filled) new (Err e) → CannotParse b e new s t
-  CannotParse-taken new e (takes.faulty f i w, h) = faulty f k.more.filled i w (Failed-taken new h)
-  CannotParse-taken new e (takes.out_of_memory i, h) = out_of_memory k.more.filled i (Failed-taken new h)
+  CannotParse-taken new e (CannotTake.faulty f i w, h) = CannotParse.faulty f k.more.filled i w (Failed-taken new h)
+  CannotParse-taken new e (CannotTake.out_of_memory i, h) = CannotParse.out_of_memory k.more.filled i (Failed-taken new h)
 
   -- what was filled is unfinished, and the source was asked once more
-  module _ (mid : State) (w : Takes (b ++ k.more.filled) mid (Ok None)) (u : End) (observable : s.observable ≡ true → t.observable ≡ true) where
+  module _ (mid : State) (w : Takes (b ++ k.more.filled) mid (Ok None)) (u : Source) (observable : s.observable ≡ true → t.observable ≡ true) where
     Came-asked : (more : List ℕ) → Came t more u → Came s (k.more.filled ++ more) u
     Came-asked more c = λ told. k.more.came told ∙ ap (λ z. k.more.filled ++ z) (c (observable told)) ∙ sym (append_assoc k.more.filled more u.bytes)
 
@@ -69,21 +65,21 @@ module _ (b : List ℕ) (p : State) (s t : End) (k : FilledAsNeeded b p s t) whe
     Failed-asked new c f h = record { came = Came-none c; needed = k.needed; failed = h; failures = f ∙ k.more.failures }
 
     pub CannotParse-asked : (new : State) (e : RedisError) → CannotFill (b ++ k.more.filled) e new t u → CannotParse b e new s u
-    CannotParse-asked new e (asks.ended i c end f h) = early k.more.filled i w.0 (λ told. end (observable told)) (Failed-asked new c f h)
-    CannotParse-asked new e (asks.broken kind i c f h) = interrupted kind i (record {
+    CannotParse-asked new e (CannotFill.ended i c end f h) = CannotParse.early k.more.filled i w.0 (λ told. end (observable told)) (Failed-asked new c f h)
+    CannotParse-asked new e (CannotFill.broken kind i c f h) = CannotParse.interrupted kind i (record {
       filled = k.more.filled;
       came = Came-none c;
       unfinished = w.0;
       stands = h;
       failures = rw (← k.more.failures) f;
     })
-    CannotParse-asked new e (asks.out_of_memory i c f h) = out_of_memory k.more.filled i (Failed-asked new c f h)
+    CannotParse-asked new e (CannotFill.out_of_memory i c f h) = CannotParse.out_of_memory k.more.filled i (Failed-asked new c f h)
 
   pub CannotParse-failed : (new : State) (e : RedisError) → e ≡ form.OutOfMemory → FailedAfter new (b ++ k.more.filled) → CannotParse b e new s t
-  CannotParse-failed new e i h = out_of_memory k.more.filled i (Failed-taken new h)
+  CannotParse-failed new e i h = CannotParse.out_of_memory k.more.filled i (Failed-taken new h)
 
 -- the bytes held and those that the source had still to give, once it went from s to t and n were filled
-module _ (b filled : List ℕ) (s t : End) (come : s.bytes ≡ filled ++ t.bytes) where
+module _ (b filled : List ℕ) (s t : Source) (come : s.bytes ≡ filled ++ t.bytes) where
   whole : (b ++ filled) ++ t.bytes ≡ b ++ s.bytes
   whole = append_assoc b filled t.bytes ∙ ap (λ z. b ++ z) (sym come)
 
@@ -99,6 +95,6 @@ module _ (b filled : List ℕ) (s t : End) (come : s.bytes ≡ filled ++ t.bytes
       subst (λ z. IsUnfinished 100 z) all h
 
 -- a reader that was used up, seen as the source that counted its failures
-pub ParsesReader-source : {R : Type 0} (remaining : R → Option (List ℕ)) (b : List ℕ) (new : State) (reader left : R) (n : ℕ) (s : End) (r : Result Value RedisError) → s ≡ end_of (remaining reader) 0 →
-    Parses b new s (end_of (remaining left) n) r → ParsesReader remaining b new reader r
-ParsesReader-source remaining b new reader left n s r e h = record { left = left; failures = n; parses = subst (λ (x : End). Parses b new x (end_of (remaining left) n) r) e h }
+pub ParsesReader-source : {R : Type 0} (remaining : R → Option (List ℕ)) (b : List ℕ) (new : State) (reader left : R) (n : ℕ) (s : Source) (r : Result Value RedisError) → s ≡ source_of (remaining reader) 0 →
+    Parses b new s (source_of (remaining left) n) r → ParsesReader remaining b new reader r
+ParsesReader-source remaining b new reader left n s r e h = record { left = left; failures = n; parses = subst (λ (x : Source). Parses b new x (source_of (remaining left) n) r) e h }

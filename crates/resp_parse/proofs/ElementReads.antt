@@ -3,7 +3,7 @@ use Rattle.std.proofs.Common.{◌≡◌, ℕ, zero, suc, ◌<◌, List, [], ◌�
 use Rattle.resp_value.specs.declared.value.Value.{Value}
 use Rattle.resp_value.specs.declared.errors.kinds.FrameFault.{FrameFault}
 use Rattle.resp_parse.specs.Grammar.{Joined, ElementWrong}
-use Rattle.resp_parse.specs.Reading.{Outcome, got, fault, then, read_elements}
+use Rattle.resp_parse.specs.PlainReading.{Outcome, got, fault, then, read_elements}
 use Rattle.resp_parse.proofs.Then.{then-got, then-fault}
 
 -- a prefix of the bytes is as P says, and the rest follows

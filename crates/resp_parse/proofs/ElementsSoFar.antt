@@ -1,7 +1,7 @@
 -- Elements that are read one after another.
 use Rattle.std.proofs.Common.{◌≡◌, ℕ, suc, List, [], ◌∷◌, ◌++◌, refl, ap, sym, ◌∙◌, append_assoc}
 use Rattle.resp_value.specs.declared.value.Value.{Value}
-use Rattle.resp_parse.specs.Reading.{Outcome, got, fault, unfinished, then, read_elements}
+use Rattle.resp_parse.specs.PlainReading.{Outcome, got, fault, unfinished, then, read_elements}
 
 -- the elements so far, before those that are read
 abbrev pub with_prefix : List Value → Outcome (List Value) → Outcome (List Value)

@@ -6,7 +6,7 @@ use Rattle.resp_value.specs.declared.errors.kinds.FrameFault.TheVariants.{LineNo
 use Rattle.resp_parse.specs.declared.type_byte.TypeByte.{TypeByte}
 use Rattle.resp_parse.specs.TypeBytes.{type_of}
 use Rattle.resp_parse.specs.Grammar.{announced}
-use Rattle.resp_parse.specs.Reading.{got, fault, line, read_announced, read}
+use Rattle.resp_parse.specs.PlainReading.{got, fault, line, read_announced, read}
 use Rattle.resp_parse.proofs.Bits.{not_true}
 
 pub read-text : (n d : ℕ) (bs after text rest : List ℕ) (c : ℕ) (kind : TypeByte) → n ≡ suc d → bs ≡ c ∷ after → type_of c ≡ Some kind → line after ≡ got text rest → IsUtf8 text →

@@ -4,7 +4,7 @@ use Rattle.std.proofs.lemmas.Bool.{and_parts, and_from}
 use Rattle.std.proofs.lemmas.Bool.Decides.{Decides-eqb}
 use Rattle.resp_value.specs.declared.errors.kinds.FrameFault.{FrameFault}
 use Rattle.resp_parse.specs.Lines.{crlf, NoBreak}
-use Rattle.resp_parse.specs.Reading.{Outcome, got, fault, unfinished, then, line}
+use Rattle.resp_parse.specs.PlainReading.{Outcome, got, fault, unfinished, then, line}
 use Rattle.resp_parse.proofs.Bits.{not_true, eq_true}
 use Rattle.resp_parse.proofs.Then.{then-fault}
 

@@ -7,9 +7,9 @@ use Rattle.resp_value.specs.declared.errors.parsing_error.ParsingError.TheVarian
 use Rattle.resp_value.specs.declared.errors.redis_error.RedisError.TheVariants as form
 use Rattle.resp_parse.specs.declared.stop.Stop.TheVariants as stop
 use Rattle.resp_parse.specs.Prefixes.{HasGoodPrefix}
-use Rattle.resp_parse.specs.Answers.{Finds}
+use Rattle.resp_parse.specs.FirstValue.{FindsFirst}
 use Rattle.resp_parse.specs.State.{State, StandsAfter, FailedAfter, IsBetweenValues}
-use Rattle.resp_parse.specs.Takes.{Takes, faulty, out_of_memory}
+use Rattle.resp_parse.specs.Calls.{Takes, CannotTake}
 
 abbrev pub state_of : List ℕ → ℕ → Bool → State
 state_of buffer consumed failed = record { unparsed = drop consumed buffer; failed = failed }
@@ -47,21 +47,21 @@ module _ (now : State) (b buffer : List ℕ) (consumed : ℕ) (failed : Bool) (e
   unparsed : b ≡ drop consumed buffer
   unparsed = StandsAfter-unparsed now b h ∙ sym (ap (λ (s : State). s.unparsed) e)
 
-  pub Takes-value : (prefix : List ℕ) (v : Value) (len : ℕ) → failed ≡ false → prefix ≡ drop consumed buffer → Finds prefix (Ok (v, len)) → Takes b (state_of buffer (consumed + len) failed) (Ok (Some v))
+  pub Takes-value : (prefix : List ℕ) (v : Value) (len : ℕ) → failed ≡ false → prefix ≡ drop consumed buffer → FindsFirst prefix (Ok (v, len)) → Takes b (state_of buffer (consumed + len) failed) (Ok (Some v))
   Takes-value prefix v len w f found =
       let z : prefix ≡ b = f ∙ sym unparsed in
       let d : drop len prefix ≡ drop (consumed + len) buffer = ap (drop len) f ∙ grind (arith, common_steps) in
       (subst (λ x. HasGoodPrefix 100 x v (drop (consumed + len) buffer)) z (subst (λ r. HasGoodPrefix 100 prefix v r) d found.1), IsBetweenValues-plain (state_of buffer (consumed + len) failed) w)
 
-  pub Takes-none : (prefix : List ℕ) → prefix ≡ drop consumed buffer → Finds prefix (Err stop.Unfinished) → Takes b now (Ok None)
-  Takes-none prefix f found = (subst (λ x. Finds x (Err stop.Unfinished)) (f ∙ sym unparsed) found, h)
+  pub Takes-none : (prefix : List ℕ) → prefix ≡ drop consumed buffer → FindsFirst prefix (Err stop.Unfinished) → Takes b now (Ok None)
+  Takes-none prefix f found = (subst (λ x. FindsFirst x (Err stop.Unfinished)) (f ∙ sym unparsed) found, h)
 
-  pub Takes-fault : (prefix : List ℕ) (g : FrameFault) → prefix ≡ drop consumed buffer → Finds prefix (Err (stop.Fault g)) → Takes b (state_of buffer consumed true) (Err (form.Parse (parsing.Fault g)))
+  pub Takes-fault : (prefix : List ℕ) (g : FrameFault) → prefix ≡ drop consumed buffer → FindsFirst prefix (Err (stop.Fault g)) → Takes b (state_of buffer consumed true) (Err (form.Parse (parsing.Fault g)))
   Takes-fault prefix g f found =
-      (faulty g refl (subst (λ x. Finds x (Err (stop.Fault g))) (f ∙ sym unparsed) found), FailedAfter-plain (state_of buffer consumed true) b refl unparsed)
+      (CannotTake.faulty g refl (subst (λ x. FindsFirst x (Err (stop.Fault g))) (f ∙ sym unparsed) found), FailedAfter-plain (state_of buffer consumed true) b refl unparsed)
 
   pub Takes-memory : Takes b (state_of buffer consumed true) (Err form.OutOfMemory)
-  Takes-memory = (out_of_memory refl, FailedAfter-plain (state_of buffer consumed true) b refl unparsed)
+  Takes-memory = (CannotTake.out_of_memory refl, FailedAfter-plain (state_of buffer consumed true) b refl unparsed)
 
 pub unparsed-either : (s : State) (b : List ℕ) → StandsAfter s b ⊎ FailedAfter s b → b ≡ s.unparsed
 unparsed-either s b (inl h) = StandsAfter-unparsed s b h

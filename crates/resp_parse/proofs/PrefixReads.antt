@@ -5,10 +5,10 @@ use Rattle.resp_value.specs.declared.value.Value.{Value}
 use Rattle.resp_value.specs.declared.errors.kinds.FrameFault.{FrameFault}
 use Rattle.resp_parse.specs.declared.stop.Stop.{Stop}
 use Rattle.resp_parse.specs.declared.stop.Stop.TheVariants.{Memory, Unfinished, Fault}
-use Rattle.resp_parse.specs.Reading.{Outcome, got, fault, unfinished, read}
+use Rattle.resp_parse.specs.PlainReading.{Outcome, got, fault, unfinished, read}
 use Rattle.resp_parse.specs.Prefixes.{HasGoodPrefix, HasFaultyPrefix, IsUnfinished}
 use Rattle.resp_parse.specs.Computes.{Stops, fault_of}
-use Rattle.resp_parse.specs.Answers.{Finds}
+use Rattle.resp_parse.specs.FirstValue.{FindsFirst}
 use Rattle.resp_parse.proofs.Agreement.{read-good, read-faulty, good-reads, faulty-reads}
 
 pub HasGoodPrefix-from_read : (d : ℕ) (b rest : List ℕ) (v : Value) → read d b ≡ got v rest → HasGoodPrefix d b v rest
@@ -38,10 +38,10 @@ no_fault d b e f (x, rest, eb, g) = let k : unfinished ≡ fault f rest = sym e 
 pub IsUnfinished-from_read : (d : ℕ) (b : List ℕ) → read d b ≡ unfinished → IsUnfinished d b
 IsUnfinished-from_read d b e = record { no_value = no_value d b e; no_fault = no_fault d b e }
 
-pub Finds-from_stops : (b : List ℕ) (e : Stop) → Stops e (read 100 b) → Finds b (Err e)
-Finds-from_stops b Memory h = tt
-Finds-from_stops b Unfinished h = IsUnfinished-from_read 100 b h
-Finds-from_stops b (Fault f) h = HasFaultyPrefix-from_fault_of 100 b f (read 100 b) refl h
+pub FindsFirst-from_stops : (b : List ℕ) (e : Stop) → Stops e (read 100 b) → FindsFirst b (Err e)
+FindsFirst-from_stops b Memory h = tt
+FindsFirst-from_stops b Unfinished h = IsUnfinished-from_read 100 b h
+FindsFirst-from_stops b (Fault f) h = HasFaultyPrefix-from_fault_of 100 b f (read 100 b) refl h
 
 drop-rest : (b x rest : List ℕ) → b ≡ x ++ rest → drop (length b - length rest) b ≡ rest
 drop-rest b x rest e = rw e (grind (arith, common_steps))
@@ -52,8 +52,8 @@ length-rest b x rest e = rw e (grind (arith, common_steps))
 pub rest-fits : (d : ℕ) (b rest : List ℕ) (v : Value) → read d b ≡ got v rest → length rest ≤ length b
 rest-fits d b rest v e = let h = read-good d b rest v e in length-rest b h.0 rest h.1
 
-pub Finds-from_got : (b rest : List ℕ) (v : Value) → read 100 b ≡ got v rest → Finds b (Ok (v, length b - length rest))
-Finds-from_got b rest v e =
+pub FindsFirst-from_got : (b rest : List ℕ) (v : Value) → read 100 b ≡ got v rest → FindsFirst b (Ok (v, length b - length rest))
+FindsFirst-from_got b rest v e =
     let h = read-good 100 b rest v e in
     let k : drop (length b - length rest) b ≡ rest = drop-rest b h.0 rest h.1 in
     (omega arith, subst (λ r. HasGoodPrefix 100 b v r) (sym k) (HasGoodPrefix-from_read 100 b rest v e))

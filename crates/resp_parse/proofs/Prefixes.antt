@@ -1,7 +1,7 @@
 -- The law of prefixes: two readings of the same bytes are one.
 use Rattle.std.proofs.Common.{◌≡◌, ℕ, List, ◌++◌, sym, ◌∙◌, ap}
 use Rattle.std.proofs.lemmas.List.{append_cancel_right}
-use Rattle.resp_parse.specs.Reading.{read, got, fault}
+use Rattle.resp_parse.specs.PlainReading.{read, got, fault}
 use Rattle.resp_parse.specs.Laws.{LawOfPrefixes}
 use Rattle.resp_parse.proofs.Agreement.{good-reads, faulty-reads}
 

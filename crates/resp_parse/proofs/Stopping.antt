@@ -2,7 +2,7 @@
 use Rattle.std.proofs.Common.{List, ℕ, refl}
 use Rattle.resp_parse.specs.declared.stop.Stop.{Stop}
 use Rattle.resp_parse.specs.declared.stop.Stop.TheVariants.{Memory, Unfinished, Fault}
-use Rattle.resp_parse.specs.Reading.{Outcome, got, fault, unfinished, then}
+use Rattle.resp_parse.specs.PlainReading.{Outcome, got, fault, unfinished, then}
 use Rattle.resp_parse.specs.Computes.{Stops}
 
 pub Stops-then : {A B : Type 0} (e : Stop) (o : Outcome A) (more : A → List ℕ → Outcome B) → Stops e o → Stops e (then o more)

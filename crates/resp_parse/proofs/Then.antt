@@ -1,7 +1,7 @@
 -- One reading after another, taken apart.
 use Rattle.std.proofs.Common.{◌≡◌, List, ℕ, ◌⊎◌, inl, inr, refl}
 use Rattle.resp_value.specs.declared.errors.kinds.FrameFault.{FrameFault}
-use Rattle.resp_parse.specs.Reading.{Outcome, got, fault, unfinished, then}
+use Rattle.resp_parse.specs.PlainReading.{Outcome, got, fault, unfinished, then}
 
 pub then-got : {A B : Type 0} (o : Outcome A) (more : A → List ℕ → Outcome B) (y : B) (rest : List ℕ) → then o more ≡ got y rest →
     (x : A) × (mid : List ℕ) × (o ≡ got x mid) × (more x mid ≡ got y rest)

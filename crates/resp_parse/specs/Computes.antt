@@ -3,7 +3,7 @@ use Rattle.std.specs.Prelude.{◌≡◌, ℕ, List, Result, Ok, Err, Option, Som
 use Rattle.resp_value.specs.declared.errors.kinds.FrameFault.{FrameFault}
 use Rattle.resp_parse.specs.declared.stop.Stop.{Stop}
 use Rattle.resp_parse.specs.declared.stop.Stop.TheVariants.{Memory, Unfinished, Fault}
-use Rattle.resp_parse.specs.Reading.{Outcome, got, fault, unfinished}
+use Rattle.resp_parse.specs.PlainReading.{Outcome, got, fault, unfinished}
 
 -- of something that is made: the same, or the same fault
 abbrev pub Computes : {X : Type 0} → Result X Stop → Result X FrameFault → Type 0

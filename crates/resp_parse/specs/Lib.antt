@@ -6,12 +6,10 @@ pub mod Grammar
 pub mod Reads
 pub mod Prefixes
 pub mod Laws
-pub mod Reading
+pub mod PlainReading
 pub mod Shapes
 pub mod Computes
-pub mod Answers
+pub mod FirstValue
 pub mod State
-pub mod Takes
 pub mod Source
-pub mod Asks
-pub mod Parses
+pub mod Calls

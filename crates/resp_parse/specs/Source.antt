@@ -1,19 +1,19 @@
--- The ends of a connection: where bytes come from, and where they go.
+-- What is known of a source of bytes, and what filling a buffer from it does.
 use Rattle.std.specs.Prelude.{◌≡◌, ℕ, ◌+◌, ◌-◌, ◌<◌, ◌≤◌, ◌^◌, min, Bool, true, List, [], ◌++◌, length, take, Result, Option, is_some, unwrap_or, IfOk, MatchResult}
 use Rattle.resp_value.specs.declared.errors.kinds.IoKind.{IoKind}
 
--- whether the bytes are known; the bytes to come of a source, or those that a sink was sent; the failures so far
-pub record End : Type 0 where
+-- whether its incoming bytes are known; these bytes; the failures so far
+pub record Source : Type 0 where
   pub observable : Bool
   pub bytes : List ℕ
   pub failures : ℕ
 
--- an end whose bytes are known where these are, with this count of failures
-abbrev pub end_of : Option (List ℕ) → ℕ → End
-end_of known count = record { observable = is_some known; bytes = unwrap_or known []; failures = count }
+-- a source whose bytes are known where these are, with this count of failures
+abbrev pub source_of : Option (List ℕ) → ℕ → Source
+source_of known count = record { observable = is_some known; bytes = unwrap_or known []; failures = count }
 
--- these are the source's next bytes, and the others are still to come, where it tells its bytes
-abbrev pub Came : End → List ℕ → End → Type 0
+-- these are the source's next bytes, and it has the others left, where it tells its bytes
+abbrev pub Came : Source → List ℕ → Source → Type 0
 Came s taken t = s.observable ≡ true → s.bytes ≡ taken ++ t.bytes
 
 -- one more failure, up to the greatest number of 64 bits
@@ -22,7 +22,7 @@ FailureCounted old new = new ≡ min (old + 1) (2 ^ 64 - 1)
 
 -- n bytes were taken from the source and stand at the start of the buffer, none only at the end; or nothing was taken and
 -- a failure counted
-pub record Fills (old new : End) (before after : List ℕ) (r : Result ℕ IoKind) : Type 0 where
+pub record Fills (old new : Source) (before after : List ℕ) (r : Result ℕ IoKind) : Type 0 where
   pub bound : IfOk r (λ n. n ≤ length before)
   pub observable : old.observable ≡ true → new.observable ≡ true
   pub failures : MatchResult r (λ _. new.failures ≡ old.failures) (λ _. FailureCounted old.failures new.failures)

@@ -1,7 +1,7 @@
 //! Lines and bodies at the start of bytes.
 
 ghost use Rattle.std.specs.Prelude.{[]};
-ghost use Rattle.resp_parse.specs.Reading.{line, end_of_body, read_body};
+ghost use Rattle.resp_parse.specs.PlainReading.{line, end_of_body, read_body};
 ghost use Rattle.resp_parse.specs.Computes.{ComputesOutcome};
 
 use crate::stop::Stop;

@@ -2,9 +2,7 @@
 
 ghost use Rattle.std.specs.Prelude.{◌≡◌, ◌≢◌, ◌↔◌, ◌++◌, ◌⊎◌, [], true, Err, List, ℕ, IsTrue, OnOk};
 ghost use Rattle.resp_parse.specs.State.{StandsAfter, FailedAfter, IsBetweenValues, has_failed};
-ghost use Rattle.resp_parse.specs.Takes.{Feeds, Takes};
-ghost use Rattle.resp_parse.specs.Asks.{Asks};
-ghost use Rattle.resp_parse.specs.Parses.{Parses, ParsesReader};
+ghost use Rattle.resp_parse.specs.Calls.{Feeds, Takes, Asks, Parses, ParsesReader};
 
 use crate::prefix::first_value;
 use crate::reading::Reading;

@@ -1,9 +1,9 @@
 //! The value at the start of bytes.
 
 ghost use Rattle.resp_parse.specs.Grammar.{announced};
-ghost use Rattle.resp_parse.specs.Reading.{read, read_announced, read_elements};
+ghost use Rattle.resp_parse.specs.PlainReading.{read, read_announced, read_elements};
 ghost use Rattle.resp_parse.specs.Computes.{ComputesOutcome};
-ghost use Rattle.resp_parse.specs.Answers.{Answers, Finds};
+ghost use Rattle.resp_parse.specs.FirstValue.{ParsesFirst, FindsFirst};
 
 use crate::body::{body_of, line_of};
 use crate::shape::{Shape, shape_of};
@@ -84,7 +84,7 @@ fn elements_at(
 
 /// The value at the start of the bytes, and how many bytes spell it.
 pub(crate) fn first_value(alloc: Global, bytes: &[u8]) -> Result<(Value, usize), Stop>
-    ensures finds { Finds bytes.now result }
+    ensures finds { FindsFirst bytes.now result }
 {
     let (value, rest) = value_at(alloc, bytes, LEVELS)?;
     Ok((value, bytes.len() - rest.len()))
@@ -96,7 +96,7 @@ pub(crate) fn first_value(alloc: Global, bytes: &[u8]) -> Result<(Value, usize),
 /// [`FrameFault`], bytes that end before the value does as [`IoKind::UnexpectedEof`]. Values
 /// are read down to 100 levels, the outermost being the first.
 pub fn parse_redis_value(alloc: Global, bytes: &[u8]) -> RedisResult<Value>
-    ensures answers { Answers bytes.now result }
+    ensures answers { ParsesFirst bytes.now result }
 {
     match first_value(alloc, bytes) {
         Ok((value, _)) => Ok(value),

@@ -1,7 +1,7 @@
 //! A reader as a source of replies.
 
 ghost use Rattle.std.specs.Prelude.{◌≡◌, ◌+◌, ◌-◌, ◌^◌, min};
-ghost use Rattle.resp_parse.specs.Source.{end_of, FailureCounted};
+ghost use Rattle.resp_parse.specs.Source.{source_of, FailureCounted};
 
 use crate::source::ReplySource;
 use resp_value::IoKind;
@@ -20,7 +20,7 @@ impl<R: Read> Reading<R> {
     /// A source over this reader, which has not failed yet.
     pub fn new(reader: R) -> Reading<R>
         ensures source { ⟦<Reading<R> as ReplySource>⟧.source result
-            ≡ end_of (R.remaining reader) 0 }
+            ≡ source_of (R.remaining reader) 0 }
     {
         Reading {
             reader,
@@ -31,7 +31,7 @@ impl<R: Read> Reading<R> {
     /// The reader, with what it has left.
     pub fn into_inner(self) -> R
         ensures source { let source = ⟦<Reading<R> as ReplySource>⟧.source self in source
-            ≡ end_of (R.remaining result) source.failures }
+            ≡ source_of (R.remaining result) source.failures }
     {
         let Reading {
             reader,
@@ -42,7 +42,7 @@ impl<R: Read> Reading<R> {
 }
 
 impl<R: Read> ReplySource for Reading<R> {
-    ghost source = { λ s. end_of (R.remaining s.reader) s.failures };
+    ghost source = { λ s. source_of (R.remaining s.reader) s.failures };
 
     fn fill(&mut self, buf: &mut [u8]) -> Result<usize, IoKind> {
         match self.reader.read(buf) {

@@ -1,6 +1,6 @@
 //! Where replies come from.
 
-ghost use Rattle.resp_parse.specs.Source.{End, Fills};
+ghost use Rattle.resp_parse.specs.Source.{Source, Fills};
 
 use resp_value::IoKind;
 
@@ -9,7 +9,7 @@ use resp_value::IoKind;
 /// What a source has to say of itself, its [`Self::source`], is for contracts: whether it tells
 /// the bytes that it will give, which, and how often it has failed.
 pub trait ReplySource {
-    ghost source: { Self → End };
+    ghost source: { Self → Source };
 
     /// Puts bytes at the start of the buffer and answers how many; 0 of a buffer that isn't empty
     /// is the end.

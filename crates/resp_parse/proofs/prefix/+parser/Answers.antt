@@ -1,7 +1,7 @@
 use Rattle.std.proofs.Common.{◌≡◌, ◌+◌, ◌-◌, arith, ap, sym, ◌∙◌, ◌∷◌}
 use Rattle.std.proofs.lemmas.Result.{err_from_is_err_and}
 use Rattle.std.proofs.lemmas.List.{append-nil}
-use Rattle.resp_parse.specs.Reading.{read_elements, read, then, got}
+use Rattle.resp_parse.specs.PlainReading.{read_elements, read, then, got}
 use Rattle.resp_parse.proofs.ElementsSoFar.{with_prefix, element-next, element-read}
 use Rattle.resp_parse.proofs.Headers.{read-text, read-no_text}
 use Rattle.resp_parse.proofs.Stopping.{Stops-then}

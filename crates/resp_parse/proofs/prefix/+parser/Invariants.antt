@@ -1,5 +1,5 @@
 use Rattle.std.proofs.Common.{◌≡◌, ◌+◌, ◌-◌, ◌*◌}
-use Rattle.resp_parse.specs.Reading.{read_elements, read}
+use Rattle.resp_parse.specs.PlainReading.{read_elements, read}
 use Rattle.resp_parse.proofs.ElementsSoFar.{with_prefix}
 use Rattle.resp_parse.proofs.prefix.+parser.Given as goal
 

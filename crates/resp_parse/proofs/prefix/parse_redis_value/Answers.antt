@@ -1,5 +1,5 @@
 use Rattle.std.proofs.Common.{refl}
-use Rattle.resp_parse.specs.Answers.{faulty}
+use Rattle.resp_parse.specs.FirstValue.{faulty}
 use Rattle.resp_parse.proofs.prefix.parse_redis_value.Goals as goal
 
 pub returns-in-Err-Fault : goal.returns-in-Err-Fault

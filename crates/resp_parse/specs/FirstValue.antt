@@ -17,13 +17,13 @@ pub data Refuses (b : List ℕ) (e : RedisError) : Type 0 where
   out_of_memory : e ≡ form.OutOfMemory → Refuses b e
 
 -- the value at the start of the bytes, or why there is none
-abbrev pub Answers : List ℕ → Result Value RedisError → Type 0
-Answers b (Ok v) = (rest : List ℕ) × HasGoodPrefix 100 b v rest
-Answers b (Err e) = Refuses b e
+abbrev pub ParsesFirst : List ℕ → Result Value RedisError → Type 0
+ParsesFirst b (Ok v) = (rest : List ℕ) × HasGoodPrefix 100 b v rest
+ParsesFirst b (Err e) = Refuses b e
 
 -- the same inside the parser, with the number of bytes that spell the value
-abbrev pub Finds : List ℕ → Result (Value × ℕ) Stop → Type 0
-Finds b (Ok x) = (x.1 ≤ length b) × HasGoodPrefix 100 b x.0 (drop x.1 b)
-Finds b (Err Memory) = Unit {0}
-Finds b (Err Unfinished) = IsUnfinished 100 b
-Finds b (Err (Fault f)) = HasFaultyPrefix 100 b f
+abbrev pub FindsFirst : List ℕ → Result (Value × ℕ) Stop → Type 0
+FindsFirst b (Ok x) = (x.1 ≤ length b) × HasGoodPrefix 100 b x.0 (drop x.1 b)
+FindsFirst b (Err Memory) = Unit {0}
+FindsFirst b (Err Unfinished) = IsUnfinished 100 b
+FindsFirst b (Err (Fault f)) = HasFaultyPrefix 100 b f
