@@ -1,8 +1,8 @@
 -- The CR LF of a body, by place, and bodies by their length.
 use Rattle.std.proofs.Common.{◌≡◌, ◌≢◌, ℕ, zero, suc, ◌<◌, ◌≤◌, List, [], ◌∷◌, ◌++◌, length, take, drop, get_or, refl, ap, ◌∙◌, arith}
 use Rattle.resp_value.specs.declared.errors.kinds.FrameFault.TheVariants.{BodyEnd}
-use Rattle.resp_parse.specs.PlainReading.{Outcome, got, fault, unfinished, then, end_of_body, read_body}
-use Rattle.resp_parse.proofs.Bits.{eq_true, eq_false}
+use Rattle.resp_parse.specs.PlainReading.{ReadOutcome, got, fault, unfinished, then, end_of_body, read_body}
+use Rattle.resp_parse.proofs.ByteTests.{eq_true, eq_false}
 
 pub end-empty : (bs : List ℕ) → length bs ≡ 0 → end_of_body bs ≡ unfinished
 end-empty [] e = refl
@@ -30,12 +30,12 @@ end-whole (b ∷ c ∷ bs) l e n = rw (eq_true b 13 e, eq_true c 10 n) refl
 
 pub ruleset ends = (end-empty, end-no_cr, end-half, end-no_lf, end-whole)
 
-then-nothing : (o : Outcome (List ℕ)) → o ≡ then o (λ x rest. got x rest)
+then-nothing : (o : ReadOutcome (List ℕ)) → o ≡ then o (λ x rest. got x rest)
 then-nothing (got x rest) = refl
 then-nothing (fault f rest) = refl
 then-nothing unfinished = refl
 
-then-prefix : (b : ℕ) (prefix : List ℕ) (o : Outcome (List ℕ)) → then (then o (λ x rest. got (prefix ++ x) rest)) (λ x rest. got (b ∷ x) rest) ≡ then o (λ x rest. got (b ∷ (prefix ++ x)) rest)
+then-prefix : (b : ℕ) (prefix : List ℕ) (o : ReadOutcome (List ℕ)) → then (then o (λ x rest. got (prefix ++ x) rest)) (λ x rest. got (b ∷ x) rest) ≡ then o (λ x rest. got (b ∷ (prefix ++ x)) rest)
 then-prefix b prefix (got x rest) = refl
 then-prefix b prefix (fault f rest) = refl
 then-prefix b prefix unfinished = refl

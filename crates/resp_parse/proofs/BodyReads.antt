@@ -5,9 +5,9 @@ use Rattle.resp_value.specs.declared.errors.kinds.FrameFault.{FrameFault}
 use Rattle.resp_value.specs.declared.errors.kinds.FrameFault.TheVariants.{BodyEnd}
 use Rattle.resp_parse.specs.Lines.{crlf}
 use Rattle.resp_parse.specs.Grammar.{EndsWrong, no_cr, no_lf}
-use Rattle.resp_parse.specs.PlainReading.{Outcome, got, fault, unfinished, end_of_body, read_body}
-use Rattle.resp_parse.proofs.Bits.{eq_true, eq_false}
-use Rattle.resp_parse.proofs.Then.{then-got, then-fault}
+use Rattle.resp_parse.specs.PlainReading.{ReadOutcome, got, fault, unfinished, end_of_body, read_body}
+use Rattle.resp_parse.proofs.ByteTests.{eq_true, eq_false}
+use Rattle.resp_parse.proofs.ReadingsInSequence.{then-got, then-fault}
 
 body-spelled : (x rest : List ℕ) → read_body (length x) (x ++ (crlf ++ rest)) ≡ got x rest
 body-spelled [] rest = refl
@@ -69,7 +69,7 @@ body-got (suc n) (b ∷ bs) x rest e =
 abbrev pub WrongPrefix : ℕ → List ℕ → FrameFault → List ℕ → Type 0
 WrongPrefix n bs f rest = (x : List ℕ) × (bs ≡ x ++ rest) × (f ≡ BodyEnd) × EndsWrong n x
 
-abbrev wrong_end : List ℕ → Outcome (List ℕ)
+abbrev wrong_end : List ℕ → ReadOutcome (List ℕ)
 wrong_end rest = fault BodyEnd rest
 
 end-fault : (bs : List ℕ) (f : FrameFault) (rest : List ℕ) → end_of_body bs ≡ fault f rest → WrongPrefix 0 bs f rest

@@ -3,8 +3,8 @@ use Rattle.std.proofs.Common.{◌≡◌, ℕ, zero, suc, ◌<◌, List, [], ◌�
 use Rattle.resp_value.specs.declared.value.Value.{Value}
 use Rattle.resp_value.specs.declared.errors.kinds.FrameFault.{FrameFault}
 use Rattle.resp_parse.specs.Grammar.{Joined, ElementWrong}
-use Rattle.resp_parse.specs.PlainReading.{Outcome, got, fault, then, read_elements}
-use Rattle.resp_parse.proofs.Then.{then-got, then-fault}
+use Rattle.resp_parse.specs.PlainReading.{ReadOutcome, got, fault, then, read_elements}
+use Rattle.resp_parse.proofs.ReadingsInSequence.{then-got, then-fault}
 
 -- a prefix of the bytes is as P says, and the rest follows
 abbrev pub Prefix : {X : Type 0} → (List ℕ → X → Type 0) → List ℕ → List ℕ → X → Type 0
@@ -15,20 +15,20 @@ pub append-prefix : (bs a mid b rest after : List ℕ) → bs ≡ a ++ mid → m
 append-prefix bs a mid b rest after e f k = e ∙ ap (λ s. a ++ s) (f ∙ ap (λ s. b ++ s) k) ∙ sym (append_assoc a b after)
 
 -- reading gives what the relation says, whatever follows
-abbrev pub ReadsGood : (List ℕ → Outcome Value) → (List ℕ → Value → Type 0) → Type 0
+abbrev pub ReadsGood : (List ℕ → ReadOutcome Value) → (List ℕ → Value → Type 0) → Type 0
 ReadsGood R G = (b rest : List ℕ) (v : Value) → G b v → R (b ++ rest) ≡ got v rest
 
-abbrev pub ReadsFaulty : (List ℕ → Outcome Value) → (List ℕ → FrameFault → Type 0) → Type 0
+abbrev pub ReadsFaulty : (List ℕ → ReadOutcome Value) → (List ℕ → FrameFault → Type 0) → Type 0
 ReadsFaulty R F = (b rest : List ℕ) (f : FrameFault) → F b f → R (b ++ rest) ≡ fault f rest
 
 -- what reading gives stands at the start
-abbrev pub GivesGood : (List ℕ → Outcome Value) → (List ℕ → Value → Type 0) → Type 0
+abbrev pub GivesGood : (List ℕ → ReadOutcome Value) → (List ℕ → Value → Type 0) → Type 0
 GivesGood R G = (b rest : List ℕ) (v : Value) → R b ≡ got v rest → Prefix G b rest v
 
-abbrev pub GivesFaulty : (List ℕ → Outcome Value) → (List ℕ → FrameFault → Type 0) → Type 0
+abbrev pub GivesFaulty : (List ℕ → ReadOutcome Value) → (List ℕ → FrameFault → Type 0) → Type 0
 GivesFaulty R F = (b rest : List ℕ) (f : FrameFault) → R b ≡ fault f rest → Prefix F b rest f
 
-module _ (R : List ℕ → Outcome Value) (G : List ℕ → Value → Type 0) (F : List ℕ → FrameFault → Type 0) where
+module _ (R : List ℕ → ReadOutcome Value) (G : List ℕ → Value → Type 0) (F : List ℕ → FrameFault → Type 0) where
   elements-spelled : ReadsGood R G → (vs : List Value) (x rest : List ℕ) → Joined G x vs → read_elements R (length vs) (x ++ rest) ≡ got vs rest
   elements-spelled good [] x rest e = rw e refl
   elements-spelled good (v ∷ vs) x rest (y, z, e, g, j) =

@@ -4,7 +4,7 @@ use Rattle.std.proofs.lemmas.Bool.{and_parts, and_from}
 use Rattle.std.proofs.lemmas.Bool.Decides.{Decides-eqb}
 use Rattle.std.proofs.lemmas.Grind.{common_steps}
 use Rattle.resp_parse.specs.PlainReading.{got, unfinished, line}
-use Rattle.resp_parse.proofs.Bits.{not_true, eq_true}
+use Rattle.resp_parse.proofs.ByteTests.{not_true, eq_true}
 
 -- no CR LF ends before place m
 abbrev pub NoneBefore : List ℕ → ℕ → Type 0

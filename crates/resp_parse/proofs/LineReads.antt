@@ -4,9 +4,9 @@ use Rattle.std.proofs.lemmas.Bool.{and_parts, and_from}
 use Rattle.std.proofs.lemmas.Bool.Decides.{Decides-eqb}
 use Rattle.resp_value.specs.declared.errors.kinds.FrameFault.{FrameFault}
 use Rattle.resp_parse.specs.Lines.{crlf, NoBreak}
-use Rattle.resp_parse.specs.PlainReading.{Outcome, got, fault, unfinished, then, line}
-use Rattle.resp_parse.proofs.Bits.{not_true, eq_true}
-use Rattle.resp_parse.proofs.Then.{then-fault}
+use Rattle.resp_parse.specs.PlainReading.{ReadOutcome, got, fault, unfinished, then, line}
+use Rattle.resp_parse.proofs.ByteTests.{not_true, eq_true}
+use Rattle.resp_parse.proofs.ReadingsInSequence.{then-fault}
 
 line-later : (b c : ℕ) (bs text rest : List ℕ) → ((b ≡ 13) → (c ≡ 10) → ⊥) → line (c ∷ bs) ≡ got text rest → line (b ∷ c ∷ bs) ≡ got (b ∷ text) rest
 line-later b c bs text rest apart e =
@@ -44,7 +44,7 @@ line-got [] text rest e = absurd (cc)
 line-got (b ∷ []) text rest e = absurd (cc)
 line-got (b ∷ c ∷ bs) text rest e = by_test (λ u r. line-got (c ∷ bs) u r) ((b == 13) && (c == 10)) refl e
   where
-    from_rest : (o : Outcome (List ℕ)) → ((u r : List ℕ) → o ≡ got u r → IsLine (c ∷ bs) u r) → ((b == 13) && (c == 10)) ≡ false → then o (λ u r. got (b ∷ u) r) ≡ got text rest → IsLine (b ∷ c ∷ bs) text rest
+    from_rest : (o : ReadOutcome (List ℕ)) → ((u r : List ℕ) → o ≡ got u r → IsLine (c ∷ bs) u r) → ((b == 13) && (c == 10)) ≡ false → then o (λ u r. got (b ∷ u) r) ≡ got text rest → IsLine (b ∷ c ∷ bs) text rest
     from_rest (got u r) later here k =
         let p = later u r refl in
         let et : b ∷ u ≡ text = cc in

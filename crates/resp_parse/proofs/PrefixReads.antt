@@ -5,11 +5,11 @@ use Rattle.resp_value.specs.declared.value.Value.{Value}
 use Rattle.resp_value.specs.declared.errors.kinds.FrameFault.{FrameFault}
 use Rattle.resp_parse.specs.declared.stop.Stop.{Stop}
 use Rattle.resp_parse.specs.declared.stop.Stop.TheVariants.{Memory, Unfinished, Fault}
-use Rattle.resp_parse.specs.PlainReading.{Outcome, got, fault, unfinished, read}
+use Rattle.resp_parse.specs.PlainReading.{ReadOutcome, got, fault, unfinished, read}
 use Rattle.resp_parse.specs.Prefixes.{HasGoodPrefix, HasFaultyPrefix, IsUnfinished}
-use Rattle.resp_parse.specs.Computes.{Stops, fault_of}
+use Rattle.resp_parse.specs.Computes.{Stops, fault_read}
 use Rattle.resp_parse.specs.FirstValue.{FindsFirst}
-use Rattle.resp_parse.proofs.Agreement.{read-good, read-faulty, good-reads, faulty-reads}
+use Rattle.resp_parse.proofs.ReadingMeetsGrammar.{read-good, read-faulty, good-reads, faulty-reads}
 
 pub HasGoodPrefix-from_read : (d : ℕ) (b rest : List ℕ) (v : Value) → read d b ≡ got v rest → HasGoodPrefix d b v rest
 unfolding HasGoodPrefix
@@ -23,10 +23,10 @@ HasFaultyPrefix-from_read : (d : ℕ) (b rest : List ℕ) (f : FrameFault) → r
 unfolding HasFaultyPrefix
 HasFaultyPrefix-from_read d b rest f e = let h = read-faulty d b rest f e in (h.0, rest, h.1, h.2)
 
-pub HasFaultyPrefix-from_fault_of : (d : ℕ) (b : List ℕ) (f : FrameFault) (o : Outcome Value) → read d b ≡ o → fault_of o ≡ Some f → HasFaultyPrefix d b f
-HasFaultyPrefix-from_fault_of d b f (got v r) e k = absurd (cc)
-HasFaultyPrefix-from_fault_of d b f (fault g r) e k = let i : g ≡ f = cc in HasFaultyPrefix-from_read d b r f (e ∙ ap (λ z. fault z r) i)
-HasFaultyPrefix-from_fault_of d b f unfinished e k = absurd (cc)
+pub HasFaultyPrefix-from_fault_read : (d : ℕ) (b : List ℕ) (f : FrameFault) (o : ReadOutcome Value) → read d b ≡ o → fault_read o ≡ Some f → HasFaultyPrefix d b f
+HasFaultyPrefix-from_fault_read d b f (got v r) e k = absurd (cc)
+HasFaultyPrefix-from_fault_read d b f (fault g r) e k = let i : g ≡ f = cc in HasFaultyPrefix-from_read d b r f (e ∙ ap (λ z. fault z r) i)
+HasFaultyPrefix-from_fault_read d b f unfinished e k = absurd (cc)
 
 no_value : (d : ℕ) (b : List ℕ) → read d b ≡ unfinished → (v : Value) (rest : List ℕ) → HasGoodPrefix d b v rest → ⊥
 no_value d b e v rest h = let k : unfinished ≡ got v rest = sym e ∙ read-from_HasGood d b rest v h in cc
@@ -41,7 +41,7 @@ IsUnfinished-from_read d b e = record { no_value = no_value d b e; no_fault = no
 pub FindsFirst-from_stops : (b : List ℕ) (e : Stop) → Stops e (read 100 b) → FindsFirst b (Err e)
 FindsFirst-from_stops b Memory h = tt
 FindsFirst-from_stops b Unfinished h = IsUnfinished-from_read 100 b h
-FindsFirst-from_stops b (Fault f) h = HasFaultyPrefix-from_fault_of 100 b f (read 100 b) refl h
+FindsFirst-from_stops b (Fault f) h = HasFaultyPrefix-from_fault_read 100 b f (read 100 b) refl h
 
 drop-rest : (b x rest : List ℕ) → b ≡ x ++ rest → drop (length b - length rest) b ≡ rest
 drop-rest b x rest e = rw e (grind (arith, common_steps))

@@ -3,7 +3,7 @@ use Rattle.std.proofs.Common.{◌≡◌, ℕ, List, ◌++◌, sym, ◌∙◌, ap
 use Rattle.std.proofs.lemmas.List.{append_cancel_right}
 use Rattle.resp_parse.specs.PlainReading.{read, got, fault}
 use Rattle.resp_parse.specs.Laws.{LawOfPrefixes}
-use Rattle.resp_parse.proofs.Agreement.{good-reads, faulty-reads}
+use Rattle.resp_parse.proofs.ReadingMeetsGrammar.{good-reads, faulty-reads}
 
 pub law_of_prefixes : (d : ℕ) (a x b y : List ℕ) → LawOfPrefixes d a x b y
 law_of_prefixes d a x b y = record {

@@ -1,4 +1,5 @@
--- What the calls of a parser answer that stood after b: how it stands then, and what became of a source that went from s to t.
+-- What the calls of a parser answer that stood after b: how it stands then, and, where a source was
+-- asked, how that went from s to t.
 use Rattle.std.specs.Prelude.{◌≡◌, ◌≢◌, ◌<◌, ◌≤◌, ℕ, true, List, [], ◌++◌, length, Option, None, Some, Result, Ok, Err}
 use Rattle.resp_value.specs.declared.value.Value.{Value}
 use Rattle.resp_value.specs.declared.errors.kinds.FrameFault.{FrameFault}
@@ -22,7 +23,8 @@ Feeds b bytes old new (Err e) = (e ≡ form.OutOfMemory) × (new ≡ old)
 
 -- why no value can be taken, now or later
 pub data CannotTake (b : List ℕ) (e : RedisError) : Type 0 where
-  faulty : (f : FrameFault) → e ≡ form.Parse (parsing.Fault f) → HasFaultyPrefix 100 b f → CannotTake b e
+  faulty : (f : FrameFault) → e ≡ form.Parse (parsing.Fault f) → HasFaultyPrefix 100 b f →
+      CannotTake b e
   out_of_memory : e ≡ form.OutOfMemory → CannotTake b e
 
 -- the value at the start was taken; or it is unfinished; or the parser has failed
@@ -42,20 +44,23 @@ pub record Filled (b : List ℕ) (new : State) (s t : Source) : Type 0 where
 
 -- why nothing was filled
 pub data CannotFill (b : List ℕ) (e : RedisError) (new : State) (s t : Source) : Type 0 where
-  ended : e ≡ form.Io UnexpectedEof → Came s [] t → (s.observable ≡ true → t.bytes ≡ []) → t.failures ≡ s.failures →
-      FailedAfter new b → CannotFill b e new s t
+  ended : e ≡ form.Io UnexpectedEof → Came s [] t → (s.observable ≡ true → t.bytes ≡ []) →
+      t.failures ≡ s.failures → FailedAfter new b → CannotFill b e new s t
   broken : (kind : IoKind) → e ≡ form.Io kind → Came s [] t → FailureCounted s.failures t.failures →
       StandsAfter new b → CannotFill b e new s t
-  out_of_memory : e ≡ form.OutOfMemory → Came s [] t → t.failures ≡ s.failures → FailedAfter new b → CannotFill b e new s t
+  out_of_memory : e ≡ form.OutOfMemory → Came s [] t → t.failures ≡ s.failures →
+      FailedAfter new b → CannotFill b e new s t
 
 -- some bytes were filled, at most 4,096, or why none were
 abbrev pub Asks : List ℕ → State → Source → Source → Result (Unit {0}) RedisError → Type 0
-Asks b new s t (Ok u) = (more : Filled b new s t) × (0 < length more.filled) × (length more.filled ≤ 4096)
+Asks b new s t (Ok u) =
+    (more : Filled b new s t) × (0 < length more.filled) × (length more.filled ≤ 4096)
 Asks b new s t (Err e) = CannotFill b e new s t
 
 -- Parsing: a source is asked as often as a value needs.
 
--- bytes were filled only while there were too few: before the last of them, up to 4,096, they were unfinished
+-- bytes were filled only while there were too few: before the last of them, up to 4,096, they were
+-- unfinished
 pub record AsNeeded (b filled : List ℕ) : Type 0 where
   pub before : List ℕ
   pub last : List ℕ
@@ -63,7 +68,8 @@ pub record AsNeeded (b filled : List ℕ) : Type 0 where
   pub size : length last ≤ 4096
   pub unfinished : last ≢ [] → IsUnfinished 100 (b ++ before)
 
--- the value at the start of b and what was filled: all that follows it is held; the source counted no failure
+-- the value at the start of b and what was filled: all that follows it is held; the source counted
+-- no failure
 pub record Parsed (b : List ℕ) (v : Value) (new : State) (s t : Source) : Type 0 where
   pub filled : List ℕ
   pub came : Came s filled t
@@ -87,23 +93,24 @@ pub record Interrupted (b : List ℕ) (new : State) (s t : Source) : Type 0 wher
   pub stands : StandsAfter new (b ++ filled)
   pub failures : FailureCounted s.failures t.failures
 
--- why no value is parsed: a fault in b and what was filled; the end of the source before that of a value; its failure;
--- out of memory
+-- why no value is parsed: a fault in b and what was filled; the end of the source before that of a
+-- value; its failure; out of memory
 pub data CannotParse (b : List ℕ) (e : RedisError) (new : State) (s t : Source) : Type 0 where
-  faulty : (f : FrameFault) (filled : List ℕ) → e ≡ form.Parse (parsing.Fault f) → HasFaultyPrefix 100 (b ++ filled) f →
-      Failed b filled new s t → CannotParse b e new s t
-  early : (filled : List ℕ) → e ≡ form.Io UnexpectedEof → IsUnfinished 100 (b ++ filled) → (s.observable ≡ true → t.bytes ≡ []) →
-      Failed b filled new s t → CannotParse b e new s t
+  faulty : (f : FrameFault) (filled : List ℕ) → e ≡ form.Parse (parsing.Fault f) →
+      HasFaultyPrefix 100 (b ++ filled) f → Failed b filled new s t → CannotParse b e new s t
+  early : (filled : List ℕ) → e ≡ form.Io UnexpectedEof → IsUnfinished 100 (b ++ filled) →
+      (s.observable ≡ true → t.bytes ≡ []) → Failed b filled new s t → CannotParse b e new s t
   interrupted : (kind : IoKind) → e ≡ form.Io kind → Interrupted b new s t → CannotParse b e new s t
-  out_of_memory : (filled : List ℕ) → e ≡ form.OutOfMemory → Failed b filled new s t → CannotParse b e new s t
+  out_of_memory : (filled : List ℕ) → e ≡ form.OutOfMemory → Failed b filled new s t →
+      CannotParse b e new s t
 
 abbrev pub Parses : List ℕ → State → Source → Source → Result Value RedisError → Type 0
 Parses b new s t (Ok v) = Parsed b v new s t
 Parses b new s t (Err e) = CannotParse b e new s t
 
 -- the same of a reader that was used up, for a state that it came to, and its failures
-pub record ParsesReader {R : Type 0} (remaining : R → Option (List ℕ)) (b : List ℕ) (new : State) (reader : R)
-    (r : Result Value RedisError) : Type 0 where
+pub record ParsesReader {R : Type 0} (remaining : R → Option (List ℕ)) (b : List ℕ) (new : State)
+    (reader : R) (r : Result Value RedisError) : Type 0 where
   pub left : R
   pub failures : ℕ
   pub parses : Parses b new (source_of (remaining reader) 0) (source_of (remaining left) failures) r

@@ -15,8 +15,10 @@ is_e byte = (byte == 101) || (byte == 69)
 
 -- infinity or not a number, in any letter case
 abbrev pub is_word : List ℕ → Bool
-is_word text = let small = str_to_ascii_lowercase text in
-    bytes_eq small (codes "inf") || bytes_eq small (codes "infinity") || bytes_eq small (codes "nan")
+is_word text =
+    let small = str_to_ascii_lowercase text in
+    bytes_eq small (codes "inf") || bytes_eq small (codes "infinity")
+    || bytes_eq small (codes "nan")
 
 -- one or more digits, and perhaps a point before, among or after them
 abbrev pub is_mantissa : List ℕ → Bool

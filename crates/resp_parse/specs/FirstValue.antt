@@ -11,15 +11,16 @@ use Rattle.resp_parse.specs.declared.stop.Stop.TheVariants.{Memory, Unfinished, 
 use Rattle.resp_parse.specs.Prefixes.{HasGoodPrefix, HasFaultyPrefix, IsUnfinished}
 
 -- why no value is read from all of the bytes
-pub data Refuses (b : List ℕ) (e : RedisError) : Type 0 where
-  faulty : (f : FrameFault) → e ≡ form.Parse (parsing.Fault f) → HasFaultyPrefix 100 b f → Refuses b e
-  unfinished : e ≡ form.Io UnexpectedEof → IsUnfinished 100 b → Refuses b e
-  out_of_memory : e ≡ form.OutOfMemory → Refuses b e
+pub data RefusesFirst (b : List ℕ) (e : RedisError) : Type 0 where
+  faulty : (f : FrameFault) → e ≡ form.Parse (parsing.Fault f) → HasFaultyPrefix 100 b f →
+      RefusesFirst b e
+  unfinished : e ≡ form.Io UnexpectedEof → IsUnfinished 100 b → RefusesFirst b e
+  out_of_memory : e ≡ form.OutOfMemory → RefusesFirst b e
 
 -- the value at the start of the bytes, or why there is none
 abbrev pub ParsesFirst : List ℕ → Result Value RedisError → Type 0
 ParsesFirst b (Ok v) = (rest : List ℕ) × HasGoodPrefix 100 b v rest
-ParsesFirst b (Err e) = Refuses b e
+ParsesFirst b (Err e) = RefusesFirst b e
 
 -- the same inside the parser, with the number of bytes that spell the value
 abbrev pub FindsFirst : List ℕ → Result (Value × ℕ) Stop → Type 0

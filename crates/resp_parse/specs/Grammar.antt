@@ -1,5 +1,6 @@
--- The grammar of replies (RESP, "RESP protocol description": a type byte, a line, and what the line announces).
-use Rattle.std.specs.Prelude.{◌≡◌, ◌≢◌, ℕ, zero, suc, ◌+◌, ◌-◌, ◌*◌, ◌<◌, Bool, true, false, cond, ◌||◌, ◌==◌, List, [], ◌∷◌, ◌++◌, length, take, codes, ℤ, pos, negsuc, Option, None, Some, Result, Ok, Err, ◌⊎◌}
+-- The grammar of replies (RESP, "RESP protocol description"): a type byte, a line, and what the
+-- line announces.
+use Rattle.std.specs.Prelude.{◌≡◌, ◌≢◌, ℕ, zero, suc, ◌+◌, ◌-◌, ◌*◌, ◌<◌, Bool, true, false, cond, ◌==◌, List, [], ◌∷◌, ◌++◌, length, take, codes, ℤ, pos, negsuc, Option, None, Some, Result, Ok, Err, ◌⊎◌}
 use Rattle.std.specs.List.{position_or_len, before_first, after_first}
 use Rattle.std.specs.Str.{IsUtf8, is_utf8, bytes_eq, encode_utf8_all}
 use Rattle.bstr.specs.Utf8.{lossy_chars}
@@ -17,8 +18,8 @@ use Rattle.resp_parse.specs.Lines.{crlf, NoBreak}
 use Rattle.resp_parse.specs.Number.{integer_in, length_in}
 use Rattle.resp_parse.specs.Double.{double_in}
 
--- what the line of a header announces: a value that is complete with it; a body of n bytes; n elements; or nothing, since
--- the line is invalid
+-- what the line of a header announces: a value that is complete with it; a body of n bytes; n
+-- elements; or nothing, since the line is invalid
 pub data Announcement : Type 0 where
   complete : Value → Announcement
   body : ℕ → (List ℕ → Result Value FrameFault) → Announcement
@@ -95,7 +96,10 @@ push_kind _ = None
 -- > a push: its kind, and then its data
 abbrev pub push : List Value → Result Value FrameFault
 push [] = Err BadPushKind
-push (first ∷ payload) = elim (push_kind first) [ Some kind ↦ Ok (Push kind payload) | None ↦ Err BadPushKind ]
+push (first ∷ payload) = elim (push_kind first) [
+  | Some kind ↦ Ok (Push kind payload)
+  | None ↦ Err BadPushKind
+]
 
 -- what the line of a value of this type announces
 abbrev pub announced : TypeByte → List ℕ → Announcement
@@ -134,26 +138,33 @@ Joined P b (v ∷ vs) = (x : List ℕ) × (y : List ℕ) × (b ≡ x ++ y) × P 
 -- the bytes after a header are all that it announces, of elements as P says, and make the value
 abbrev pub Follows : (List ℕ → Value → Type 0) → Announcement → List ℕ → Value → Type 0
 Follows P (complete w) rest v = (rest ≡ []) × (v ≡ w)
-Follows P (body n make) rest v = (x : List ℕ) × (length x ≡ n) × (rest ≡ x ++ crlf) × (make x ≡ Ok v)
-Follows P (elements n make) rest v = (vs : List Value) × (length vs ≡ n) × Joined P rest vs × (make vs ≡ Ok v)
+Follows P (body n make) rest v =
+    (x : List ℕ) × (length x ≡ n) × (rest ≡ x ++ crlf) × (make x ≡ Ok v)
+Follows P (elements n make) rest v =
+    (vs : List Value) × (length vs ≡ n) × Joined P rest vs × (make vs ≡ Ok v)
 Follows P (invalid f) rest v = ⊥
 
 -- the bytes spell the value, where d levels are left
 abbrev pub Good : ℕ → List ℕ → Value → Type 0
 Good zero b v = ⊥
-Good (suc d) b v = (kind : TypeByte) × (text : List ℕ) × (rest : List ℕ) × Header b kind text rest × IsUtf8 text × Follows (Good d) (announced kind text) rest v
+Good (suc d) b v = (kind : TypeByte) × (text : List ℕ) × (rest : List ℕ)
+    × Header b kind text rest × IsUtf8 text × Follows (Good d) (announced kind text) rest v
 
 -- a body of n bytes, and then a byte that isn't CR, or CR and a byte that isn't LF
 pub data EndsWrong (n : ℕ) (rest : List ℕ) : Type 0 where
   no_cr : (x : List ℕ) (c : ℕ) → length x ≡ n → c ≢ 13 → rest ≡ x ++ (c ∷ []) → EndsWrong n rest
-  no_lf : (x : List ℕ) (c : ℕ) → length x ≡ n → c ≢ 10 → rest ≡ x ++ (13 ∷ c ∷ []) → EndsWrong n rest
+  no_lf : (x : List ℕ) (c : ℕ) → length x ≡ n → c ≢ 10 → rest ≡ x ++ (13 ∷ c ∷ []) →
+      EndsWrong n rest
 
 -- fewer than n elements as P says, and then an element at fault as Q says
-abbrev pub ElementWrong : (List ℕ → Value → Type 0) → (List ℕ → FrameFault → Type 0) → ℕ → List ℕ → FrameFault → Type 0
-ElementWrong P Q n rest f = (vs : List Value) × (x : List ℕ) × (y : List ℕ) × (length vs < n) × (rest ≡ x ++ y) × Joined P x vs × Q y f
+abbrev pub ElementWrong : (List ℕ → Value → Type 0) → (List ℕ → FrameFault → Type 0) →
+    ℕ → List ℕ → FrameFault → Type 0
+ElementWrong P Q n rest f = (vs : List Value) × (x : List ℕ) × (y : List ℕ)
+    × (length vs < n) × (rest ≡ x ++ y) × Joined P x vs × Q y f
 
 -- the bytes after a header end exactly where the fault shows
-abbrev pub FaultFollows : (List ℕ → Value → Type 0) → (List ℕ → FrameFault → Type 0) → Announcement → List ℕ → FrameFault → Type 0
+abbrev pub FaultFollows : (List ℕ → Value → Type 0) → (List ℕ → FrameFault → Type 0) →
+    Announcement → List ℕ → FrameFault → Type 0
 FaultFollows P Q (complete w) rest f = ⊥
 FaultFollows P Q (body n make) rest f = ((f ≡ BodyEnd) × EndsWrong n rest)
     ⊎ ((x : List ℕ) × (length x ≡ n) × (rest ≡ x ++ crlf) × (make x ≡ Err f))
@@ -161,9 +172,11 @@ FaultFollows P Q (elements n make) rest f = ElementWrong P Q n rest f
     ⊎ ((vs : List Value) × (length vs ≡ n) × Joined P rest vs × (make vs ≡ Err f))
 FaultFollows P Q (invalid g) rest f = (rest ≡ []) × (f ≡ g)
 
--- the bytes are a value's beginning that ends exactly where the fault shows, where d levels are left
+-- the bytes are a faulty value's beginning, exactly up to where the fault shows; d levels are left
 abbrev pub Faulty : ℕ → List ℕ → FrameFault → Type 0
 Faulty zero b f = (c : ℕ) × (b ≡ c ∷ []) × (f ≡ TooDeep)
-Faulty (suc d) b f = ((c : ℕ) × (b ≡ c ∷ []) × ((kind : TypeByte) → c ≢ byte_of kind) × (f ≡ UnknownType))
+Faulty (suc d) b f =
+    ((c : ℕ) × (b ≡ c ∷ []) × ((kind : TypeByte) → c ≢ byte_of kind) × (f ≡ UnknownType))
     ⊎ ((kind : TypeByte) × (text : List ℕ) × (rest : List ℕ) × Header b kind text rest
-    × (((IsUtf8 text → ⊥) × (rest ≡ []) × (f ≡ LineNotUtf8)) ⊎ (IsUtf8 text × FaultFollows (Good d) (Faulty d) (announced kind text) rest f)))
+    × (((IsUtf8 text → ⊥) × (rest ≡ []) × (f ≡ LineNotUtf8))
+    ⊎ (IsUtf8 text × FaultFollows (Good d) (Faulty d) (announced kind text) rest f)))

@@ -4,9 +4,10 @@ use Rattle.resp_value.specs.declared.value.Value.{Value}
 use Rattle.resp_value.specs.declared.errors.kinds.FrameFault.{FrameFault}
 use Rattle.resp_parse.specs.Grammar.{Good, Faulty}
 
--- of two prefixes of the same bytes, a x and b y: good ones are one list and have one value, faulty ones are one list and
--- have one fault, and none is good beside a faulty one
+-- of two prefixes of the same bytes, a x and b y: good ones are one list and have one value, faulty
+-- ones are one list and have one fault, and none is good beside a faulty one
 pub record LawOfPrefixes (d : ℕ) (a x b y : List ℕ) : Type 0 where
   pub values : (v w : Value) → a ++ x ≡ b ++ y → Good d a v → Good d b w → (a ≡ b) × (v ≡ w)
-  pub faults : (f g : FrameFault) → a ++ x ≡ b ++ y → Faulty d a f → Faulty d b g → (a ≡ b) × (f ≡ g)
+  pub faults : (f g : FrameFault) → a ++ x ≡ b ++ y → Faulty d a f → Faulty d b g →
+      (a ≡ b) × (f ≡ g)
   pub apart : (v : Value) (f : FrameFault) → a ++ x ≡ b ++ y → Good d a v → Faulty d b f → ⊥

@@ -23,7 +23,8 @@ fits_i64 text = cond (starts_with_minus text)
 
 -- the number that the text writes, if it writes one
 abbrev pub plain_number : List ℕ → Option ℤ
-plain_number text = cond (is_decimal text && fits_i64 text) (Some (signed_digits_value 10 text)) None
+plain_number text =
+    cond (is_decimal text && fits_i64 text) (Some (signed_digits_value 10 text)) None
 
 -- the number that the text writes, if it writes one, white space around it aside
 unfoldable pub number : List ℕ → Option ℤ

@@ -10,7 +10,11 @@ pub record Source : Type 0 where
 
 -- a source whose bytes are known where these are, with this count of failures
 abbrev pub source_of : Option (List ℕ) → ℕ → Source
-source_of known count = record { observable = is_some known; bytes = unwrap_or known []; failures = count }
+source_of known count = record {
+  observable = is_some known;
+  bytes = unwrap_or known [];
+  failures = count;
+}
 
 -- these are the source's next bytes, and it has the others left, where it tells its bytes
 abbrev pub Came : Source → List ℕ → Source → Type 0
@@ -20,10 +24,20 @@ Came s taken t = s.observable ≡ true → s.bytes ≡ taken ++ t.bytes
 abbrev pub FailureCounted : ℕ → ℕ → Type 0
 FailureCounted old new = new ≡ min (old + 1) (2 ^ 64 - 1)
 
--- n bytes were taken from the source and stand at the start of the buffer, none only at the end; or nothing was taken and
--- a failure counted
+-- the first n of the source's bytes stand at the start of the buffer, and it has the others left; a
+-- buffer that isn't empty gets none only at its end
+abbrev pub FillsBytes : List ℕ → List ℕ → List ℕ → List ℕ → ℕ → Type 0
+FillsBytes old new before after n =
+    (old ≡ take n after ++ new) × (n ≡ 0 → 0 < length before → new ≡ [])
+
+-- n bytes were taken from the source and stand at the start of the buffer, none only at the end; or
+-- nothing was taken and a failure counted
 pub record Fills (old new : Source) (before after : List ℕ) (r : Result ℕ IoKind) : Type 0 where
   pub bound : IfOk r (λ n. n ≤ length before)
   pub observable : old.observable ≡ true → new.observable ≡ true
-  pub failures : MatchResult r (λ _. new.failures ≡ old.failures) (λ _. FailureCounted old.failures new.failures)
-  pub bytes : old.observable ≡ true → MatchResult r (λ n. (old.bytes ≡ take n after ++ new.bytes) × (n ≡ 0 → 0 < length before → new.bytes ≡ [])) (λ _. new.bytes ≡ old.bytes)
+  pub failures : MatchResult r
+      (λ _. new.failures ≡ old.failures)
+      (λ _. FailureCounted old.failures new.failures)
+  pub bytes : old.observable ≡ true → MatchResult r
+      (λ n. FillsBytes old.bytes new.bytes before after n)
+      (λ _. new.bytes ≡ old.bytes)

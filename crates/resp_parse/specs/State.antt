@@ -14,11 +14,12 @@ pub record State : Type 0 where
 unfoldable pub StandsAfter : State → List ℕ → Type 0
 StandsAfter s b = (s.failed ≡ false) × (b ≡ s.unparsed)
 
--- the parser has failed, and b are the bytes from the last value that it handed out up to the failure
+-- the parser has failed, and b are the bytes from the last value handed out up to the failure
 unfoldable pub FailedAfter : State → List ℕ → Type 0
 FailedAfter s b = (s.failed ≡ true) × (b ≡ s.unparsed)
 
--- the parser has looked at no byte after the last value: it stands after the bytes that it holds, and after no others
+-- the parser has looked at no byte after the last value: it stands after the bytes that it holds,
+-- and after no others
 pub record IsBetweenValues (s : State) : Type 0 where
   pub stands : StandsAfter s s.unparsed
   pub only : (b : List ℕ) → StandsAfter s b → b ≡ s.unparsed

@@ -9,7 +9,7 @@ use std::io::Read;
 
 /// A reader as a source of replies, which counts the reader's failures.
 ///
-/// It tells the bytes to come where the reader does, as one over memory does.
+/// It tells its incoming bytes where the reader does, as one over memory does.
 #[derive(Drop)]
 pub struct Reading<R> {
     reader: R,

@@ -3,7 +3,7 @@ use Rattle.std.proofs.lemmas.Result.{err_from_is_err_and}
 use Rattle.std.proofs.lemmas.Grind.{common_steps}
 use Rattle.resp_parse.specs.PlainReading.{end_of_body, got}
 use Rattle.resp_parse.proofs.BodyEnds.{read_body-there, read_body-short}
-use Rattle.resp_parse.proofs.Stopping.{Stops-then}
+use Rattle.resp_parse.proofs.ReadingsInSequence.{Stops-then}
 use Rattle.resp_parse.proofs.body.body_of.Goals as goal
 
 pub returns-then-bytes-len : goal.returns-then-bytes-len

@@ -4,7 +4,7 @@ use Rattle.std.proofs.lemmas.List.{append-nil}
 use Rattle.resp_parse.specs.PlainReading.{read_elements, read, then, got}
 use Rattle.resp_parse.proofs.ElementsSoFar.{with_prefix, element-next, element-read}
 use Rattle.resp_parse.proofs.Headers.{read-text, read-no_text}
-use Rattle.resp_parse.proofs.Stopping.{Stops-then}
+use Rattle.resp_parse.proofs.ReadingsInSequence.{Stops-then}
 use Rattle.resp_parse.proofs.prefix.+parser.Goals as goal
 
 pub value_at-returns-in_default-from_utf8 : goal.value_at-returns-in_default-from_utf8

@@ -1,5 +1,5 @@
 use Rattle.std.proofs.Common.{sym, arith}
-use Rattle.resp_parse.proofs.Made.{attribute-popped, attribute-empty}
+use Rattle.resp_parse.proofs.PushesAndAttributes.{attribute-popped, attribute-empty}
 use Rattle.resp_parse.proofs.value_of.attribute_of.Goals as goal
 use Rattle.resp_parse.proofs.value_of.attribute_of.Goals.{in-Some, in-None}
 

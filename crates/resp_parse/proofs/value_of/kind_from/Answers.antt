@@ -3,8 +3,8 @@ use Rattle.std.specs.Str.{IsUtf8, is_utf8}
 use Rattle.std.specs.String.{string_bytes}
 use Rattle.std.proofs.lemmas.Str.{IsUtf8-string_bytes, is_utf8-from_IsUtf8, IsUtf8-from_is_utf8}
 use Rattle.resp_value.specs.Names.{kind_named}
-use Rattle.resp_parse.proofs.Bits.{not_true}
-use Rattle.resp_parse.proofs.Made.{push_kind-text, push_kind-bytes}
+use Rattle.resp_parse.proofs.ByteTests.{not_true}
+use Rattle.resp_parse.proofs.PushesAndAttributes.{push_kind-text, push_kind-bytes}
 use Rattle.resp_parse.proofs.value_of.kind_from.Goals as goal
 
 pub returns-in-Ok : goal.returns-in-Ok

@@ -1,6 +1,6 @@
 use Rattle.std.proofs.Common.{◌∙◌, arith}
 use Rattle.std.proofs.lemmas.Grind.{common_steps}
-use Rattle.resp_parse.proofs.Asked.{Asks-memory, Asks-ended, Asks-broken, Asks-filled, take-some}
+use Rattle.resp_parse.proofs.Asking.{Asks-memory, Asks-ended, Asks-broken, Asks-filled, take-some}
 use Rattle.resp_parse.proofs.parser.Parser.ask.Goals as goal
 
 pub returns-then-is_err-clause-asks : goal.returns-then-is_err-clause-asks

@@ -1,7 +1,6 @@
 use Rattle.std.proofs.Common.{◌≡◌, false, ap, sym, ◌∙◌}
 use Rattle.resp_parse.specs.State.{State}
-use Rattle.resp_parse.proofs.Standing.{StandsAfter-works, StandsAfter-not_failed}
-use Rattle.resp_parse.proofs.Plain.{state_of, StandsAfter-fed, IsBetweenValues-plain}
+use Rattle.resp_parse.proofs.ParserStates.{StandsAfter-works, StandsAfter-not_failed, state_of, StandsAfter-fed, IsBetweenValues-from_works}
 use Rattle.resp_parse.proofs.parser.Parser.feed.Goals as goal
 
 pub returns-then-self-clause-feeds : goal.returns-then-self-clause-feeds
@@ -15,4 +14,4 @@ returns-clause-feeds c = λ b h.
 pub returns-clause-rest : goal.returns-clause-rest
 returns-clause-rest c = λ _.
     let w : c.self-2.inside.failed ≡ false = ap (λ (s : State). s.failed) (c.self-2.view_is ∙ c.compact.ensures.same ∙ sym c.self.view_is) ∙ c.if-self.false in
-    IsBetweenValues-plain (state_of c.extend_from_slice.new.self.items c.self-2.inside.consumed c.self-2.inside.failed) w
+    IsBetweenValues-from_works (state_of c.extend_from_slice.new.self.items c.self-2.inside.consumed c.self-2.inside.failed) w

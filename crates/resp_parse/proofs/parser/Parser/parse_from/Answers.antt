@@ -2,8 +2,8 @@ use Rattle.std.proofs.Common.{◌++◌, ap, sym, ◌∙◌, refl, Ok, Some, None
 use Rattle.std.proofs.lemmas.Result.{err_from_is_err_and}
 use Rattle.resp_parse.specs.State.{State}
 use Rattle.resp_parse.specs.Calls.{Takes}
-use Rattle.resp_parse.proofs.Standing.{StandsAfter-not_failed}
-use Rattle.resp_parse.proofs.Come.{FilledAsNeeded-none, FilledAsNeeded-asked, Parsed-taken, CannotParse-taken, CannotParse-asked, CannotParse-failed}
+use Rattle.resp_parse.proofs.ParserStates.{StandsAfter-not_failed}
+use Rattle.resp_parse.proofs.Parsing.{FilledAsNeeded-none, FilledAsNeeded-asked, Parsed-taken, CannotParse-taken, CannotParse-asked, CannotParse-failed}
 use Rattle.resp_parse.proofs.parser.Parser.parse_from.Goals as goal
 
 pub loop-init : goal.loop-init

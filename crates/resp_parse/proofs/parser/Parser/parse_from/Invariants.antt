@@ -1,6 +1,6 @@
 use Rattle.std.proofs.Common.{◌≡◌, true, List, ℕ}
 use Rattle.resp_parse.specs.State.{StandsAfter}
-use Rattle.resp_parse.proofs.Come.{FilledAsNeeded}
+use Rattle.resp_parse.proofs.Parsing.{FilledAsNeeded}
 use Rattle.resp_parse.proofs.parser.Parser.parse_from.Given as goal
 
 -- the parser stands after what it stood after at first and what was filled since

@@ -1,5 +1,5 @@
 use Rattle.std.proofs.Common.{rules}
-use Rattle.resp_parse.proofs.Come.{ParsesReader-source}
+use Rattle.resp_parse.proofs.Parsing.{ParsesReader-source}
 use Rattle.resp_parse.proofs.parser.Parser.parse_value.Goals as goal
 
 pub returns-clause-parses : goal.returns-clause-parses

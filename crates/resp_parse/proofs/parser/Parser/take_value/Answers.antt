@@ -1,8 +1,8 @@
 use Rattle.std.proofs.Common.{◌≡◌, ◌-◌, length, take, drop, ap, sym, ◌∙◌, arith}
 use Rattle.std.proofs.lemmas.Grind.{common_steps}
 use Rattle.resp_parse.specs.State.{State}
-use Rattle.resp_parse.proofs.Standing.{StandsAfter-not_failed}
-use Rattle.resp_parse.proofs.Plain.{Takes-value, Takes-none, Takes-fault, Takes-memory}
+use Rattle.resp_parse.proofs.ParserStates.{StandsAfter-not_failed}
+use Rattle.resp_parse.proofs.Taking.{Takes-value, Takes-none, Takes-fault, Takes-memory}
 use Rattle.resp_parse.proofs.parser.Parser.take_value.Goals as goal
 
 pub returns-then-self-clause-takes : goal.returns-then-self-clause-takes

@@ -1,11 +1,9 @@
--- A parser that asked a source again and again: what its calls' clauses say together. No body of `StandsAfter` is used.
+-- A parser that took and asked by turns answers as a parsing call has to. No body of `StandsAfter` is used.
 use Rattle.std.proofs.Common.{◌≡◌, ℕ, List, [], ◌++◌, refl, sym, ap, ◌∙◌, append_assoc, subst, arith, true, Option, Result, Ok, Err, Some, None}
 use Rattle.std.proofs.lemmas.List.{append-nil}
 use Rattle.resp_value.specs.declared.value.Value.{Value}
-use Rattle.resp_value.specs.declared.errors.kinds.FrameFault.{FrameFault}
 use Rattle.resp_value.specs.declared.errors.redis_error.RedisError.{RedisError}
 use Rattle.resp_value.specs.declared.errors.redis_error.RedisError.TheVariants as form
-use Rattle.resp_parse.specs.Prefixes.{HasGoodPrefix, HasFaultyPrefix, IsUnfinished}
 use Rattle.resp_parse.specs.State.{State, StandsAfter, FailedAfter}
 use Rattle.resp_parse.specs.Source.{Source, Came, source_of}
 use Rattle.resp_parse.specs.Calls.{Takes, CannotTake, Filled, Asks, CannotFill, AsNeeded, Parses, ParsesReader, Parsed, Failed, CannotParse}
@@ -20,15 +18,6 @@ FilledAsNeeded-none b p s h = record {
   more = record { filled = []; came = λ _. refl; stands = subst (StandsAfter p) (sym (append-nil b)) h; failures = refl };
   needed = record { before = []; last = []; whole = refl; size = omega arith; unfinished = λ some. absurd (some refl) };
 }
-
--- a longer list keeps its good prefix, and its faulty one
-pub HasGoodPrefix-longer : (b more rest : List ℕ) (v : Value) → HasGoodPrefix 100 b v rest → HasGoodPrefix 100 (b ++ more) v (rest ++ more)
-unfolding HasGoodPrefix
-HasGoodPrefix-longer b more rest v (x, e, g) = (x, ap (λ z. z ++ more) e ∙ append_assoc x rest more, g)
-
-pub HasFaultyPrefix-longer : (b more : List ℕ) (f : FrameFault) → HasFaultyPrefix 100 b f → HasFaultyPrefix 100 (b ++ more) f
-unfolding HasFaultyPrefix
-HasFaultyPrefix-longer b more f (x, rest, e, g) = (x, rest ++ more, ap (λ z. z ++ more) e ∙ append_assoc x rest more, g)
 
 -- after b, the source has filled some bytes, and the parser stands after them
 module _ (b : List ℕ) (p : State) (s t : Source) (k : FilledAsNeeded b p s t) where
@@ -77,22 +66,6 @@ module _ (b : List ℕ) (p : State) (s t : Source) (k : FilledAsNeeded b p s t) 
 
   pub CannotParse-failed : (new : State) (e : RedisError) → e ≡ form.OutOfMemory → FailedAfter new (b ++ k.more.filled) → CannotParse b e new s t
   CannotParse-failed new e i h = CannotParse.out_of_memory k.more.filled i (Failed-taken new h)
-
--- the bytes held and those that the source had still to give, once it went from s to t and n were filled
-module _ (b filled : List ℕ) (s t : Source) (come : s.bytes ≡ filled ++ t.bytes) where
-  whole : (b ++ filled) ++ t.bytes ≡ b ++ s.bytes
-  whole = append_assoc b filled t.bytes ∙ ap (λ z. b ++ z) (sym come)
-
-  pub HasGoodPrefix-whole : (v : Value) (rest : List ℕ) → HasGoodPrefix 100 (b ++ filled) v rest → HasGoodPrefix 100 (b ++ s.bytes) v (rest ++ t.bytes)
-  HasGoodPrefix-whole v rest h = subst (λ z. HasGoodPrefix 100 z v (rest ++ t.bytes)) whole (HasGoodPrefix-longer (b ++ filled) t.bytes rest v h)
-
-  pub HasFaultyPrefix-whole : (f : FrameFault) → HasFaultyPrefix 100 (b ++ filled) f → HasFaultyPrefix 100 (b ++ s.bytes) f
-  HasFaultyPrefix-whole f h = subst (λ z. HasFaultyPrefix 100 z f) whole (HasFaultyPrefix-longer (b ++ filled) t.bytes f h)
-
-  pub IsUnfinished-whole : t.bytes ≡ [] → IsUnfinished 100 (b ++ filled) → IsUnfinished 100 (b ++ s.bytes)
-  IsUnfinished-whole none h =
-      let all : b ++ filled ≡ b ++ s.bytes = sym (append-nil (b ++ filled)) ∙ ap (λ z. (b ++ filled) ++ z) (sym none) ∙ whole in
-      subst (λ z. IsUnfinished 100 z) all h
 
 -- a reader that was used up, seen as the source that counted its failures
 pub ParsesReader-source : {R : Type 0} (remaining : R → Option (List ℕ)) (b : List ℕ) (new : State) (reader left : R) (n : ℕ) (s : Source) (r : Result Value RedisError) → s ≡ source_of (remaining reader) 0 →

@@ -9,10 +9,10 @@ use Rattle.resp_parse.specs.Lines.{crlf}
 use Rattle.resp_parse.specs.declared.type_byte.TypeByte.{TypeByte}
 use Rattle.resp_parse.specs.TypeBytes.{byte_of, type_of}
 use Rattle.resp_parse.specs.Grammar.{Announcement, complete, body, elements, invalid, announced, Header, Follows, Good, FaultFollows, Faulty}
-use Rattle.resp_parse.specs.PlainReading.{Outcome, got, fault, then, line, read_body, read_elements, made, read_announced, read_line, read_typed, read}
-use Rattle.resp_parse.proofs.Bits.{not_true}
+use Rattle.resp_parse.specs.PlainReading.{ReadOutcome, got, fault, line, read_body, read_elements, made, read_announced, read_line, read_typed, read}
+use Rattle.resp_parse.proofs.ByteTests.{not_true}
 use Rattle.resp_parse.proofs.TypeBytes.{type_of-byte_of, byte_of-from_type_of, type_of-none, no_byte_of}
-use Rattle.resp_parse.proofs.Then.{then-got, then-fault}
+use Rattle.resp_parse.proofs.ReadingsInSequence.{then-got, then-fault}
 use Rattle.resp_parse.proofs.LineReads.{line-reads, line-got, line-no_fault}
 use Rattle.resp_parse.proofs.BodyReads.{body-reads, body-fails, body-got, body-fault}
 use Rattle.resp_parse.proofs.ElementReads.{Prefix, append-prefix, ReadsGood, ReadsFaulty, GivesGood, GivesFaulty, elements-reads, elements-fail, elements-got, elements-fault}
@@ -26,7 +26,7 @@ made-fault (Ok w) mid rest f e = absurd (cc)
 made-fault (Err g) mid rest f e = ((let i : g ≡ f = cc in ap (λ z. Err z) i), (let i : mid ≡ rest = cc in i))
 
 -- what a header announces
-module _ (R : List ℕ → Outcome Value) (G : List ℕ → Value → Type 0) (F : List ℕ → FrameFault → Type 0) where
+module _ (R : List ℕ → ReadOutcome Value) (G : List ℕ → Value → Type 0) (F : List ℕ → FrameFault → Type 0) where
   announced-reads : ReadsGood R G → (a : Announcement) (b rest : List ℕ) (v : Value) → Follows G a b v → read_announced R a (b ++ rest) ≡ got v rest
   announced-reads good (complete w) b rest v (e, f) = ap (λ s. got w (s ++ rest)) e ∙ ap (λ u. got u rest) (sym f)
   announced-reads good (body n make) b rest v (x, l, e, f) = rw (body-reads n b x rest l e, f) refl

@@ -6,8 +6,7 @@ use Rattle.resp_value.specs.declared.errors.redis_error.RedisError.TheVariants a
 use Rattle.resp_parse.specs.State.{State, StandsAfter}
 use Rattle.resp_parse.specs.Source.{Source, Fills}
 use Rattle.resp_parse.specs.Calls.{Filled, Asks, CannotFill}
-use Rattle.resp_parse.proofs.Standing.{StandsAfter-works}
-use Rattle.resp_parse.proofs.Plain.{state_of, StandsAfter-plain, FailedAfter-plain, StandsAfter-unparsed, StandsAfter-fed}
+use Rattle.resp_parse.proofs.ParserStates.{StandsAfter-works, state_of, StandsAfter-from_unparsed, FailedAfter-from_unparsed, StandsAfter-unparsed, StandsAfter-fed}
 
 pub take-some : (n : ℕ) (xs : List ℕ) → (n ≡ 0 → ⊥) → 0 < length xs → 0 < length (take n xs)
 take-some zero xs some l = absurd (some refl)
@@ -28,16 +27,16 @@ module _ (now : State) (b buffer buffer' : List ℕ) (consumed : ℕ) (failed : 
   works = ap (λ (s : State). s.failed) e ∙ StandsAfter-works now b h
 
   pub Asks-memory : (s : Source) → CannotFill b form.OutOfMemory (state_of buffer' consumed true) s s
-  Asks-memory s = CannotFill.out_of_memory refl (λ _. refl) refl (FailedAfter-plain (state_of buffer' consumed true) b refl unparsed)
+  Asks-memory s = CannotFill.out_of_memory refl (λ _. refl) refl (FailedAfter-from_unparsed (state_of buffer' consumed true) b refl unparsed)
 
   pub Asks-ended : (s t : Source) (before after : List ℕ) (n : ℕ) → n ≡ 0 → 0 < length before → Fills s t before after (Ok n) → CannotFill b (form.Io UnexpectedEof) (state_of buffer' consumed true) s t
   Asks-ended s t before after n z l f =
       CannotFill.ended refl (λ told. (f.bytes told).0 ∙ ap (λ m. take m after ++ t.bytes) z) (λ told. (f.bytes told).1 z l) f.failures
-      (FailedAfter-plain (state_of buffer' consumed true) b refl unparsed)
+      (FailedAfter-from_unparsed (state_of buffer' consumed true) b refl unparsed)
 
   pub Asks-broken : (s t : Source) (before after : List ℕ) (kind : IoKind) → Fills s t before after (Err kind) → CannotFill b (form.Io kind) (state_of buffer' consumed failed) s t
   Asks-broken s t before after kind f =
-      CannotFill.broken kind refl (λ told. sym (f.bytes told)) f.failures (StandsAfter-plain (state_of buffer' consumed failed) b works unparsed)
+      CannotFill.broken kind refl (λ told. sym (f.bytes told)) f.failures (StandsAfter-from_unparsed (state_of buffer' consumed failed) b works unparsed)
 
   filled : (s t : Source) (before after more : List ℕ) (n : ℕ) → consumed ≤ length buffer → more ≡ buffer' ++ take n after → Fills s t before after (Ok n) → Filled b (state_of more consumed failed) s t
   filled s t before after more n l m f = record {

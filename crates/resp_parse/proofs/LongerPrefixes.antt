@@ -1,0 +1,31 @@
+-- A prefix of bytes is one of the bytes with more after them.
+use Rattle.std.proofs.Common.{◌≡◌, ℕ, List, [], ◌++◌, sym, ap, ◌∙◌, append_assoc, subst}
+use Rattle.std.proofs.lemmas.List.{append-nil}
+use Rattle.resp_value.specs.declared.value.Value.{Value}
+use Rattle.resp_value.specs.declared.errors.kinds.FrameFault.{FrameFault}
+use Rattle.resp_parse.specs.Prefixes.{HasGoodPrefix, HasFaultyPrefix, IsUnfinished}
+use Rattle.resp_parse.specs.Source.{Source}
+
+pub HasGoodPrefix-longer : (b more rest : List ℕ) (v : Value) → HasGoodPrefix 100 b v rest → HasGoodPrefix 100 (b ++ more) v (rest ++ more)
+unfolding HasGoodPrefix
+HasGoodPrefix-longer b more rest v (x, e, g) = (x, ap (λ z. z ++ more) e ∙ append_assoc x rest more, g)
+
+pub HasFaultyPrefix-longer : (b more : List ℕ) (f : FrameFault) → HasFaultyPrefix 100 b f → HasFaultyPrefix 100 (b ++ more) f
+unfolding HasFaultyPrefix
+HasFaultyPrefix-longer b more f (x, rest, e, g) = (x, rest ++ more, ap (λ z. z ++ more) e ∙ append_assoc x rest more, g)
+
+-- the bytes held and the incoming bytes of a source, which went from s to t and filled some of them
+module _ (b filled : List ℕ) (s t : Source) (come : s.bytes ≡ filled ++ t.bytes) where
+  whole : (b ++ filled) ++ t.bytes ≡ b ++ s.bytes
+  whole = append_assoc b filled t.bytes ∙ ap (λ z. b ++ z) (sym come)
+
+  pub HasGoodPrefix-whole : (v : Value) (rest : List ℕ) → HasGoodPrefix 100 (b ++ filled) v rest → HasGoodPrefix 100 (b ++ s.bytes) v (rest ++ t.bytes)
+  HasGoodPrefix-whole v rest h = subst (λ z. HasGoodPrefix 100 z v (rest ++ t.bytes)) whole (HasGoodPrefix-longer (b ++ filled) t.bytes rest v h)
+
+  pub HasFaultyPrefix-whole : (f : FrameFault) → HasFaultyPrefix 100 (b ++ filled) f → HasFaultyPrefix 100 (b ++ s.bytes) f
+  HasFaultyPrefix-whole f h = subst (λ z. HasFaultyPrefix 100 z f) whole (HasFaultyPrefix-longer (b ++ filled) t.bytes f h)
+
+  pub IsUnfinished-whole : t.bytes ≡ [] → IsUnfinished 100 (b ++ filled) → IsUnfinished 100 (b ++ s.bytes)
+  IsUnfinished-whole none h =
+      let all : b ++ filled ≡ b ++ s.bytes = sym (append-nil (b ++ filled)) ∙ ap (λ z. (b ++ filled) ++ z) (sym none) ∙ whole in
+      subst (λ z. IsUnfinished 100 z) all h
