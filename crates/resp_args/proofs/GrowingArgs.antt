@@ -18,7 +18,11 @@ AllZip-append R (z ∷ xs) (w ∷ ys) x y h r = (h.0, AllZip-append R xs ys x y 
 
 pub GivesEach-append : {X : Type 0} (Gives : X → Args → Type 0) (xs : List X) (x : X) (a b : Args) → GivesEach Gives xs a → Gives x b → GivesEach Gives (xs ++ x ∷ []) (a ++ b)
 GivesEach-append Gives xs x a b each gives =
-    (each.0 ++ b ∷ [], AllZip-append Gives xs each.0 x b each.1 gives, ap (λ c. c ++ b) each.2 ∙ flat_map_more (λ part. part) [] each.0 b)
+    record {
+      lists = each.lists ++ b ∷ [];
+      each = AllZip-append Gives xs each.lists x b each.each gives;
+      joined = ap (λ c. c ++ b) each.joined ∙ flat_map_more (λ given. given) [] each.lists b;
+    }
 
 pub Appends-trans : (P Q R : Args → Type 0) (old mid new : Args) → Appends P old mid → Appends Q mid new → ((a b : Args) → P a → Q b → R (a ++ b)) → Appends R old new
 Appends-trans P Q R old mid new first then both =
@@ -58,7 +62,7 @@ pub record Progress {X : Type 0} (Gives : X → Args → Type 0) (Refuses : X �
   pub taken : Any Refuses done → ⊥
 
 pub progress_start : {X : Type 0} (Gives : X → Args → Type 0) (Refuses : X → Type 0) (all : List X) (old : Args) → Progress Gives Refuses all all old old
-progress_start Gives Refuses all old = record { done = []; split = refl; appended = ([], sym (append-nil old), ([], tt, refl)); taken = λ any. absurd (omega (arith, any.2)) }
+progress_start Gives Refuses all old = record { done = []; split = refl; appended = ([], sym (append-nil old), record { lists = []; each = tt; joined = refl }); taken = λ any. absurd (omega (arith, any.2)) }
 
 pub progress_step : {X : Type 0} (Gives : X → Args → Type 0) (Refuses : X → Type 0) (all : List X) (x : X) (rest : List X) (old mid new : Args) → Progress Gives Refuses all (x ∷ rest) old mid → Appends (Gives x) mid new → (Refuses x → ⊥) → Progress Gives Refuses all rest old new
 progress_step Gives Refuses all x rest old mid new p appends taken = record {
@@ -88,7 +92,7 @@ progress_refused Gives Wide Refuses all x rest old mid new (Err d) e p refused i
 
 -- the order in which the items stand is one of them
 standing : {X : Type 0} (items : List X) (P : List X → Type 0) → P items → InSomeOrder items P
-standing items P holds = (items, IsPermutation-refl items, holds)
+standing items P holds = record { order = items; permuted = IsPermutation-refl items; holds = holds }
 
 pub in_some_order : {X : Type 0} (Gives : X → Args → Type 0) (items : List X) (Refused : Type 0) (old new : Args) (r : Result (Unit {0}) RedisError) → Writes (GivesEach Gives items) Refused old new r → Writes (GivesInSomeOrder Gives items) Refused old new r
 in_some_order Gives items Refused old new (Ok x) written =
@@ -98,7 +102,7 @@ in_some_order Gives items Refused old new (Err e) written = written
 -- one value was written, and then another
 pub writes_both : (P Q : Args → Type 0) (R S : Type 0) (old mid new : Args) (r : Result (Unit {0}) RedisError) → Appends P old mid × (R → ⊥) → Writes Q S mid new r → Writes (GivesBoth P Q) (R ⊎ S) old new r
 writes_both P Q R S old mid new (Ok x) first second =
-    (Appends-trans P Q (GivesBoth P Q) old mid new first.0 second.0 (λ a b p q. (a, b, p, q, refl)), λ refused. ⊎_elim first.1 second.1 refused)
+    (Appends-trans P Q (GivesBoth P Q) old mid new first.0 second.0 (λ a b p q. record { before = a; after = b; first = p; second = q; joined = refl }), λ refused. ⊎_elim first.1 second.1 refused)
 writes_both P Q R S old mid new (Err e) first second =
     let more = first.0.0 in
     let prefix = second.0 in (

@@ -52,9 +52,11 @@ abbrev pub GivesOne : {X : Type 0} → (X → List ℕ) → X → Args → Type 
 GivesOne bytes x args = IsOnly (bytes x) args
 
 -- argument lists that the items give, one each, joined in order
-abbrev pub GivesEach : {X : Type 0} → (X → Args → Type 0) → List X → Args → Type 0
-GivesEach Gives items args =
-    (lists : List Args) × AllZip Gives items lists × (args ≡ flat_map (λ given. given) lists)
+pub record GivesEach {X : Type 0} (Gives : X → Args → Type 0) (items : List X)
+    (args : Args) : Type 0 where
+  pub lists : List Args
+  pub each : AllZip Gives items lists
+  pub joined : args ≡ flat_map (λ given. given) lists
 
 -- no value is refused
 abbrev pub Never : {X : Type 0} → X → Type 0
@@ -128,8 +130,12 @@ digit_of true = codes "1"
 digit_of false = codes "0"
 
 -- what one value gives, and then what another gives
-abbrev pub GivesBoth : (Args → Type 0) → (Args → Type 0) → Args → Type 0
-GivesBoth First Second args = (a b : Args) × First a × Second b × (args ≡ a ++ b)
+pub record GivesBoth (First Second : Args → Type 0) (args : Args) : Type 0 where
+  pub before : Args
+  pub after : Args
+  pub first : First before
+  pub second : Second after
+  pub joined : args ≡ before ++ after
 
 -- a pair gives what its key gives, and then what its value gives
 abbrev pub GivesPair : {K V : Type 0} → (K → Args → Type 0) → (V → Args → Type 0) → K × V → Args
@@ -151,8 +157,10 @@ RefusesPair count_key count_value RefusesKey RefusesValue pair =
     IsWide count_key count_value pair ⊎ RefusesPart RefusesKey RefusesValue pair
 
 -- it holds of the items in some order
-abbrev pub InSomeOrder : {X : Type 0} → List X → (List X → Type 0) → Type 0
-InSomeOrder {X = X} items P = (order : List X) × IsPermutation items order × P order
+pub record InSomeOrder {X : Type 0} (items : List X) (P : List X → Type 0) : Type 0 where
+  pub order : List X
+  pub permuted : IsPermutation items order
+  pub holds : P order
 
 -- what the items give, in some order
 abbrev pub GivesInSomeOrder : {X : Type 0} → (X → Args → Type 0) → List X → Args → Type 0
