@@ -11,7 +11,7 @@ use Rattle.std.specs.Str.{IsUtf8, all_ascii_digits}
 use Rattle.resp_value.specs.declared.value.Value.{Value, Array, BulkString}
 use Rattle.resp_args.specs.Args.{Args}
 use Rattle.resp_parse.specs.Lines.{crlf, NoBreak}
-use Rattle.resp_parse.specs.Laws.{LawOfPrefixes}
+use Rattle.resp_parse.proofs.Prefixes.{law_of_prefixes}
 use Rattle.resp_parse.specs.Reads.{Reads}
 use Rattle.resp_parse.specs.declared.type_byte.TypeByte.{TypeByte}
 use Rattle.resp_parse.specs.declared.type_byte.TypeByte.TheVariants as type_byte
@@ -99,7 +99,7 @@ short (arg ∷ args) h =
     (omega arith, short args (omega arith))
 
 -- no good list is empty
-good_some : (d : ℕ) (v : Value) → Good d [] v → ⊥
+pub good_some : (d : ℕ) (v : Value) → Good d [] v → ⊥
 good_some zero v h = h
 good_some (suc d) v h = let e = h.3.bytes in cc
 
@@ -109,22 +109,21 @@ no_prefix d [] y v e h = good_some d v h
 no_prefix d (b ∷ x) y v e h = cc
 
 -- bytes read as one list of values only
-module _ (d : ℕ) (law : (a x b y : List ℕ) → LawOfPrefixes d a x b y) where
-  joined_once : (b : List ℕ) (vs ws : List Value) → Joined (Good d) b vs → Joined (Good d) b ws → vs ≡ ws
-  joined_once b [] [] h k = refl
-  joined_once b [] (w ∷ ws) h k = absurd (no_prefix d k.0 k.1 w (sym k.2 ∙ h) k.3)
-  joined_once b (v ∷ vs) [] h k = absurd (no_prefix d h.0 h.1 v (sym h.2 ∙ k) h.3)
-  joined_once b (v ∷ vs) (w ∷ ws) h k =
-      let same = (law h.0 h.1 k.0 k.1).values v w (sym h.2 ∙ k.2) h.3 k.3 in
-      let rest : h.1 ≡ k.1 = append_cancel_left h.0 h.1 k.1 (sym h.2 ∙ k.2 ∙ ap (λ a. a ++ k.1) (sym same.0)) in
-      let others = joined_once h.1 vs ws h.4 (rw (sym rest) at k.4) in
-      cc
+pub joined_once : (d : ℕ) (b : List ℕ) (vs ws : List Value) → Joined (Good d) b vs → Joined (Good d) b ws → vs ≡ ws
+joined_once d b [] [] h k = refl
+joined_once d b [] (w ∷ ws) h k = absurd (no_prefix d k.0 k.1 w (sym k.2 ∙ h) k.3)
+joined_once d b (v ∷ vs) [] h k = absurd (no_prefix d h.0 h.1 v (sym h.2 ∙ k) h.3)
+joined_once d b (v ∷ vs) (w ∷ ws) h k =
+    let same = (law_of_prefixes d h.0 h.1 k.0 k.1).values v w (sym h.2 ∙ k.2) h.3 k.3 in
+    let rest : h.1 ≡ k.1 = append_cancel_left h.0 h.1 k.1 (sym h.2 ∙ k.2 ∙ ap (λ a. a ++ k.1) (sym same.0)) in
+    let others = joined_once d h.1 vs ws h.4 (rw (sym rest) at k.4) in
+    cc
 
-pub packed_reads_only : ((a x b y : List ℕ) → LawOfPrefixes 100 a x b y) → (args : Args) → LawOfPacking args
+pub packed_reads_only : (args : Args) → LawOfPacking args
 unfolding Reads
-packed_reads_only law args small =
+packed_reads_only args small =
     let body = flat_map bulk args in
     let some : length body < 2 ^ 63 = omega (arith, length-append (length_line (byte_of type_byte.Array) (length args)) body) in
     let good = packed_good 98 args (let n = few args in omega arith) (short args some) in
     let reads : Joined (Good 100) (packed args) (as_value args ∷ []) = (packed args, [], sym (append-nil (packed args)), good, refl) in
-    record { reads = reads; only = λ vs h. joined_once 100 law (packed args) vs (as_value args ∷ []) h reads }
+    record { reads = reads; only = λ vs h. joined_once 100 (packed args) vs (as_value args ∷ []) h reads }

@@ -1,6 +1,7 @@
--- What a connection has sent and what is to come, and what one exchange over it leaves.
+-- What is known of a connection, and what one exchange over it leaves.
 use Rattle.std.specs.Prelude.{◌≡◌, ℕ, ◌⊎◌, Bool, true, false, List, [], ◌++◌, length, Result, Err, IsErrAnd}
 use Rattle.resp_value.specs.declared.value.Value.{Value}
+use Rattle.resp_value.specs.declared.value.PushInfo.{PushInfo}
 use Rattle.resp_value.specs.declared.errors.kinds.FrameFault.{FrameFault}
 use Rattle.resp_value.specs.declared.errors.kinds.IoKind.TheVariants.{UnexpectedEof}
 use Rattle.resp_value.specs.declared.errors.parsing_error.ParsingError.TheVariants.{Fault}
@@ -8,7 +9,7 @@ use Rattle.resp_value.specs.declared.errors.redis_error.RedisError.{RedisError}
 use Rattle.resp_value.specs.declared.errors.redis_error.RedisError.TheVariants.{Io, Parse, OutOfMemory}
 use Rattle.resp_parse.specs.Source.{FailureCounted}
 use Rattle.resp_core.specs.Sink.{SentPrefix}
-use Rattle.resp_core.specs.Taken.{TakesAll, TakesFault, TakesEarly, TakesTooLittle}
+use Rattle.resp_core.specs.Taken.{Taken, got, fault, early}
 
 pub record Connection : Type 0 where
   -- whether the bytes below are known
@@ -20,6 +21,8 @@ pub record Connection : Type 0 where
   pub unflushed : Bool
   -- the bytes that were received and aren't taken, and then those that will come
   pub incoming : List ℕ
+  -- the pushes that were set aside and aren't taken
+  pub pushes : List PushInfo
   pub broken : Bool
   pub source_failures : ℕ
   pub sink_failures : ℕ
@@ -33,6 +36,7 @@ untold broken = record {
   sent = [];
   unflushed = false;
   incoming = [];
+  pushes = [];
   broken = broken;
   source_failures = 0;
   sink_failures = 0;
@@ -52,13 +56,16 @@ pub record NoFailure (old new : Connection) : Type 0 where
   pub source : new.source_failures ≡ old.source_failures
   pub sink : new.sink_failures ≡ old.sink_failures
 
--- the replies came: they are answered, every later byte is kept, and the connection is usable
+-- the replies came: they are answered, the pushes before the last of them are set aside, every
+-- later byte is kept, and the connection is usable
 pub record Replied (old new : Connection) (q : List ℕ) (n : ℕ)
     (answers : List Value → Type 0) : Type 0 where
   pub replies : List Value
+  pub pushes : List PushInfo
   pub enough : length replies ≡ n
   pub sent : Sent old new q
-  pub takes : old.observable ≡ true → TakesAll old.incoming replies new.incoming
+  pub takes : old.observable ≡ true → Taken n old.incoming (got replies pushes new.incoming)
+  pub listed : new.pushes ≡ old.pushes ++ pushes
   pub usable : new.broken ≡ false
   pub no_failure : NoFailure old new
   pub answer : answers replies
@@ -66,18 +73,22 @@ pub record Replied (old new : Connection) (q : List ℕ) (n : ℕ)
 -- a fault stands in the place of a reply
 pub record Faulted {A : Type 0} (old new : Connection) (q : List ℕ) (n : ℕ)
     (result : Result A RedisError) : Type 0 where
-  pub fault : FrameFault
+  pub frame_fault : FrameFault
+  pub pushes : List PushInfo
   pub sent : Sent old new q
-  pub takes : old.observable ≡ true → TakesFault n old.incoming fault
+  pub takes : old.observable ≡ true → Taken n old.incoming (fault frame_fault pushes)
+  pub listed : new.pushes ≡ old.pushes ++ pushes
   pub broken : new.broken ≡ true
   pub no_failure : NoFailure old new
-  pub answer : result ≡ Err (Parse (Fault fault))
+  pub answer : result ≡ Err (Parse (Fault frame_fault))
 
 -- the incoming bytes end too early
 pub record Ended {A : Type 0} (old new : Connection) (q : List ℕ) (n : ℕ)
     (result : Result A RedisError) : Type 0 where
+  pub pushes : List PushInfo
   pub sent : Sent old new q
-  pub takes : old.observable ≡ true → TakesEarly n old.incoming
+  pub takes : old.observable ≡ true → Taken n old.incoming (early pushes)
+  pub listed : new.pushes ≡ old.pushes ++ pushes
   pub broken : new.broken ≡ true
   pub no_failure : NoFailure old new
   pub answer : result ≡ Err (Io UnexpectedEof)
@@ -91,38 +102,50 @@ pub record SendFailed {A : Type 0} (old new : Connection) (q : List ℕ)
     (result : Result A RedisError) : Type 0 where
   pub sent : old.observable ≡ true → SentPrefix old.sent new.sent q
   pub incoming : old.observable ≡ true → new.incoming ≡ old.incoming
+  pub listed : new.pushes ≡ old.pushes
   pub broken : new.broken ≡ true
   pub source : new.source_failures ≡ old.source_failures
   pub counted : FailureCounted old.sink_failures new.sink_failures
   pub answer : IsErrAnd result IsIo
 
+-- a prefix of the bytes takes too little for n replies
+pub record TakesTooLittle (n : ℕ) (b : List ℕ) (pushes : List PushInfo) : Type 0 where
+  pub prefix : List ℕ
+  pub rest : List ℕ
+  pub whole : b ≡ prefix ++ rest
+  pub early : Taken n prefix (early pushes)
+
 -- the source failed: the request was sent, and a prefix of the incoming bytes was taken, which is
 -- too little
 pub record ReceiveFailed {A : Type 0} (old new : Connection) (q : List ℕ) (n : ℕ)
     (result : Result A RedisError) : Type 0 where
+  pub pushes : List PushInfo
   pub sent : Sent old new q
-  pub takes : old.observable ≡ true → TakesTooLittle n old.incoming
+  pub takes : old.observable ≡ true → TakesTooLittle n old.incoming pushes
+  pub listed : new.pushes ≡ old.pushes ++ pushes
   pub broken : new.broken ≡ true
   pub counted : FailureCounted old.source_failures new.source_failures
   pub sink : new.sink_failures ≡ old.sink_failures
   pub answer : IsErrAnd result IsIo
 
--- the connection is broken, and a prefix of the request was sent
+-- the connection is broken, and a prefix of the request was sent; pushes that were set aside stay
 pub record BrokenMidway (old new : Connection) (q : List ℕ) : Type 0 where
+  pub pushes : List PushInfo
   pub sent : old.observable ≡ true → SentPrefix old.sent new.sent q
+  pub listed : new.pushes ≡ old.pushes ++ pushes
   pub broken : new.broken ≡ true
 
--- memory ran out, and neither source nor sink failed: nothing was sent and nothing changed, or it
--- broke midway
+-- memory ran out, and neither source nor sink failed: nothing was sent and nothing changed, or
+-- midway
 pub record RanOutOfMemory {A : Type 0} (old new : Connection) (q : List ℕ)
     (result : Result A RedisError) : Type 0 where
   pub answer : result ≡ Err OutOfMemory
   pub no_failure : NoFailure old new
   pub left : (new ≡ old) ⊎ BrokenMidway old new q
 
--- what a call does that sends q and needs n replies; answers says what the replies make of it. What
--- bytes were sent and taken is said where the connection tells them; how the connection is left,
--- always
+-- what a call does that sends q and needs n replies; answers says what the replies make of it.
+-- What bytes were sent and taken is said where the connection tells them; how the connection is
+-- left, always
 pub data Exchange {A : Type 0} (old new : Connection) (q : List ℕ) (n : ℕ)
     (result : Result A RedisError) (answers : List Value → Type 0) : Type 0 where
   replied : Replied old new q n answers → Exchange old new q n result answers

@@ -1,10 +1,15 @@
 pub mod Arguments
 pub mod Call
 pub mod Command
+pub mod Connection
 pub mod Linking
+pub mod Outcome
 pub mod Packed
 pub mod PackingLaw
+pub mod Pipeline
+pub mod Query
+pub mod Receiving
 pub mod Replies
+pub mod RequestLaw
 pub mod Sink
 pub mod Taken
-pub mod Connection

@@ -1,29 +1,28 @@
 -- What a link over a source and a sink is as a connection.
-use Rattle.std.specs.Prelude.{◌≡◌, ℕ, ◌&&◌, Bool, true, List, ◌++◌, if◌then◌else◌, Result, Ok}
+use Rattle.std.specs.Prelude.{◌≡◌, ℕ, ◌&&◌, Bool, true, List, ◌++◌, Result}
 use Rattle.resp_value.specs.declared.value.Value.{Value}
+use Rattle.resp_value.specs.declared.value.PushInfo.{PushInfo}
 use Rattle.resp_value.specs.declared.errors.redis_error.RedisError.{RedisError}
-use Rattle.resp_parse.specs.Source.{Source}
 use Rattle.resp_core.specs.Sink.{Sink}
 use Rattle.resp_core.specs.Connection.{Connection, SameKind, Exchange}
-use Rattle.resp_core.specs.Call.{AnswersReply}
+use Rattle.resp_core.specs.Receiving.{Inflow}
 
--- the link holds the bytes that were received and aren't taken
-abbrev pub connection_of : Source → Sink → List ℕ → Bool → Connection
-connection_of source sink unparsed broken = record {
-  observable = source.observable && sink.observable;
+-- what comes in, what goes out, and whether the link is broken
+abbrev pub connection_of : Inflow → Sink → Bool → Connection
+connection_of inflow sink broken = record {
+  observable = inflow.observable && sink.observable;
   pipelines = true;
   sent = sink.bytes;
   unflushed = sink.unflushed;
-  incoming = unparsed ++ source.bytes;
+  incoming = inflow.incoming;
+  pushes = inflow.pushes;
   broken = broken;
-  source_failures = source.failures;
+  source_failures = inflow.failures;
   sink_failures = sink.failures;
 }
 
--- what the exchange of a connection does that isn't broken: its one reply is the answer, or nil
--- where none is needed
-pub record Exchanges (old new : Connection) (q : List ℕ) (no_response : Bool)
-    (result : Result Value RedisError) : Type 0 where
+-- what the exchange of a connection does that isn't broken
+pub record Exchanges {A : Type 0} (old new : Connection) (q : List ℕ) (n : ℕ)
+    (result : Result A RedisError) (answers : List Value → Type 0) : Type 0 where
   pub same : SameKind old new
-  pub exchange : Exchange old new q (if no_response then 0 else 1) result
-      (AnswersReply (λ reply. result ≡ Ok reply))
+  pub exchange : Exchange old new q n result answers

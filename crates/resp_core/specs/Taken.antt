@@ -1,39 +1,73 @@
--- What replies take from bytes.
-use Rattle.std.specs.Prelude.{◌≡◌, ℕ, ◌<◌, List, ◌++◌, length}
-use Rattle.resp_value.specs.declared.value.Value.{Value}
+-- What n replies take from bytes (RESP3, "Pushes": a push may come before, between and after them).
+use Rattle.std.specs.Prelude.{◌≡◌, ℕ, ◌<◌, List, [], ◌∷◌, ◌++◌, length, filter, filter_map, Option, None, Some, is_none}
+use Rattle.resp_value.specs.declared.value.Value.{Value, out-Value}
+use Rattle.resp_value.specs.declared.value.Value.TheOpen.{Value-F}
+use Rattle.resp_value.specs.declared.value.PushInfo.{PushInfo}
 use Rattle.resp_value.specs.declared.errors.kinds.FrameFault.{FrameFault}
 use Rattle.resp_parse.specs.Prefixes.{HasFaultyPrefix, IsUnfinished}
 use Rattle.resp_parse.specs.Reads.{Reads}
 
--- a prefix of the bytes reads as the replies, and the rest follows it
-pub record TakesAll (b : List ℕ) (replies : List Value) (rest : List ℕ) : Type 0 where
-  pub prefix : List ℕ
-  pub whole : b ≡ prefix ++ rest
-  pub reads : Reads 100 prefix replies
+-- the push that a value is, if it is one
+abbrev pub push_in : Value-F Value → Option PushInfo
+push_in (Value-F.Push kind payload) = Some (record { kind = kind; payload = payload })
+push_in _ = None
 
--- fewer than n replies, and then a fault
-pub record TakesFault (n : ℕ) (b : List ℕ) (f : FrameFault) : Type 0 where
-  pub replies : List Value
-  pub prefix : List ℕ
-  pub rest : List ℕ
-  pub whole : b ≡ prefix ++ rest
-  pub reads : Reads 100 prefix replies
-  pub few : length replies < n
-  pub faulty : HasFaultyPrefix 100 rest f
+abbrev pub push_of : Value → Option PushInfo
+push_of v = push_in (out-Value v)
 
--- fewer than n replies, and then bytes that are no reply yet
-pub record TakesEarly (n : ℕ) (b : List ℕ) : Type 0 where
-  pub replies : List Value
-  pub prefix : List ℕ
-  pub rest : List ℕ
-  pub whole : b ≡ prefix ++ rest
-  pub reads : Reads 100 prefix replies
-  pub few : length replies < n
-  pub unfinished : IsUnfinished 100 rest
+-- the pushes among values, and the replies: all others
+abbrev pub pushes_in : List Value → List PushInfo
+pushes_in = filter_map push_of
 
--- a prefix of the bytes is too little for n replies
-pub record TakesTooLittle (n : ℕ) (b : List ℕ) : Type 0 where
+abbrev pub replies_in : List Value → List Value
+replies_in = filter (λ v. is_none (push_of v))
+
+-- a prefix of the bytes reads as these values, and the rest follows it
+pub record PrefixReads (b : List ℕ) (values : List Value) (rest : List ℕ) : Type 0 where
   pub prefix : List ℕ
-  pub rest : List ℕ
   pub whole : b ≡ prefix ++ rest
-  pub early : TakesEarly n prefix
+  pub reads : Reads 100 prefix values
+
+-- n of the values are replies, and the last value is the last of them: all that stand before it
+-- hold fewer
+pub record EndsAtReply (n : ℕ) (values : List Value) : Type 0 where
+  pub enough : length (replies_in values) ≡ n
+  pub least : (before after : List Value) (v : Value) →
+      values ≡ before ++ v ∷ after → length (replies_in before) < n
+
+-- what n replies take from bytes: the replies, the pushes before the last of them, and the rest;
+-- or, before they are all there, a fault or the end of the bytes, and the pushes so far
+pub data Taking : Type 0 where
+  got : (replies : List Value) → (pushes : List PushInfo) → (rest : List ℕ) → Taking
+  fault : FrameFault → (pushes : List PushInfo) → Taking
+  early : (pushes : List PushInfo) → Taking
+
+-- the least prefix that holds n replies
+pub record TakesAll (n : ℕ) (b : List ℕ) (replies : List Value) (pushes : List PushInfo)
+    (rest : List ℕ) : Type 0 where
+  pub values : List Value
+  pub prefix : PrefixReads b values rest
+  pub ends : EndsAtReply n values
+  pub replies_are : replies ≡ replies_in values
+  pub pushes_are : pushes ≡ pushes_in values
+
+-- values that hold fewer than n replies, and then something else
+pub record TakesFewer (n : ℕ) (b : List ℕ) (pushes : List PushInfo)
+    (Then : List ℕ → Type 0) : Type 0 where
+  pub values : List Value
+  pub rest : List ℕ
+  pub prefix : PrefixReads b values rest
+  pub few : length (replies_in values) < n
+  pub pushes_are : pushes ≡ pushes_in values
+  pub follows : Then rest
+
+unfoldable pub Taken : ℕ → List ℕ → Taking → Type 0
+Taken n b (got replies pushes rest) = TakesAll n b replies pushes rest
+Taken n b (fault f pushes) = TakesFewer n b pushes (λ rest. HasFaultyPrefix 100 rest f)
+Taken n b (early pushes) = TakesFewer n b pushes (IsUnfinished 100)
+
+-- whatever bytes come: n replies take one thing from them, and nothing else
+pub record TakesOneThing (n : ℕ) (b : List ℕ) : Type 0 where
+  pub taking : Taking
+  pub taken : Taken n b taking
+  pub only : (other : Taking) → Taken n b other → other ≡ taking

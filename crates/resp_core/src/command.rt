@@ -6,7 +6,8 @@ ghost use Rattle.resp_value.specs.Memory.{OnlyMemory};
 ghost use Rattle.resp_args.specs.Args.{Appends, IsRefusal, extended};
 ghost use Rattle.resp_core.specs.Command.{new_command};
 ghost use Rattle.resp_core.specs.Packed.{packed, packed_or_none};
-ghost use Rattle.resp_core.specs.Call.{CommandCall, Answers};
+ghost use Rattle.resp_core.specs.Call.{Answers};
+ghost use Rattle.resp_core.specs.Query.{CommandQuery};
 
 use crate::link::ConnectionLike;
 use crate::packing::{pack_command, write_packed};
@@ -159,8 +160,7 @@ impl Cmd {
     /// Fails with the first server error in the reply, with kind `Parse` where the reply doesn't
     /// convert, and where the connection's `req_command` fails.
     pub fn query<T: FromRedisValue>(&self, con: &mut dyn ConnectionLike) -> RedisResult<T>
-        ensures { CommandCall (connection con.old) (connection con.new) self.now result
-            (Answers T.of_value result) }
+        ensures { CommandQuery (connection con.old) (connection con.new) self.now T.of_value result }
     {
         let reply = con.req_command(self)?;
         answer(self.alloc, reply)
@@ -170,8 +170,8 @@ impl Cmd {
     ///
     /// Fails as [`Cmd::query`] does.
     pub fn exec(&self, con: &mut dyn ConnectionLike) -> RedisResult<()>
-        ensures { CommandCall (connection con.old) (connection con.new) self.now result
-            (Answers (⟦<() as FromRedisValue>⟧.of_value) result) }
+        ensures { CommandQuery (connection con.old) (connection con.new) self.now
+            (⟦<() as FromRedisValue>⟧.of_value) result }
     {
         self.query(con)
     }

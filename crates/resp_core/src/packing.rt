@@ -2,12 +2,10 @@
 
 ghost use Rattle.std.specs.Prelude.{◌≡◌, ◌++◌, length, take, IfOk, OnOk, OnErr};
 ghost use Rattle.resp_value.specs.Memory.{OnlyMemory};
-ghost use Rattle.resp_args.specs.Args.{Args, args_of};
+ghost use Rattle.resp_args.specs.Args.{args_of};
 ghost use Rattle.resp_core.specs.Packed.{length_line, bulk, packed};
-ghost use Rattle.resp_core.specs.PackingLaw.{LawOfPacking};
 
 use itoa::Buffer;
-use resp_parse::law_of_prefixes;
 use resp_value::RedisResult;
 use std::alloc::Global;
 
@@ -70,14 +68,4 @@ fn append_length_line(out: &mut Vec<u8>, mark: u8, len: usize) -> RedisResult<()
     out.extend_from_slice(Buffer::new().format(len).as_bytes())?;
     out.extend_from_slice(b"\r\n")?;
     Ok(())
-}
-
-/// A packed command of up to 2^63 - 1 bytes is read by the grammar as the one array of its
-/// arguments, and as nothing else.
-///
-/// The law is the contract; the call does nothing.
-pub fn law_of_packing()
-    ensures { (args : Args) → LawOfPacking args }
-{
-    law_of_prefixes();
 }

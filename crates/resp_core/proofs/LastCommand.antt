@@ -1,0 +1,45 @@
+-- What is written at the last command of a pipeline, its mark or its arguments.
+use Rattle.std.proofs.Common.{◌≡◌, ◌+◌, ℕ, zero, suc, ◌++◌, Bool, true, List, [], ◌∷◌, length, take, Result, Ok, Err, OnOk, refl, sym, ap, ◌∙◌, arith}
+use Rattle.std.proofs.lemmas.List.{take_all, take_more, take_more_set, length-set}
+use Rattle.std.specs.Prelude.{slice_set, slice_index_or}
+use Rattle.resp_value.specs.declared.errors.redis_error.RedisError.{RedisError}
+use Rattle.resp_args.specs.Args.{Args, Appends}
+use Rattle.resp_core.specs.Command.{Command}
+use Rattle.resp_core.specs.Pipeline.{Plan, AppendsToLast, last_marked}
+
+-- writing at the last place marks the last
+pub last_set : (marks : List Bool) (n : ℕ) → length marks ≡ suc n → slice_set marks n true ≡ last_marked marks
+last_set [] n e = cc
+last_set (mark ∷ []) zero e = refl
+last_set (mark ∷ []) (suc n) e = cc
+last_set (mark ∷ next ∷ marks) zero e = cc
+last_set (mark ∷ next ∷ marks) (suc n) e = ap (λ rest. mark ∷ rest) (last_set (next ∷ marks) n (cc))
+
+module _ {X : Type 0} (xs : List X) (n : ℕ) (e : length xs ≡ suc n) where
+  split_last : (x : X) → x ≡ slice_index_or xs n x → xs ≡ take n xs ++ x ∷ []
+  split_last x is = sym (take_all (n + 1) xs (omega arith)) ∙ take_more xs n x (omega arith) ∙ ap (λ y. take n xs ++ y ∷ []) (sym is)
+
+  last_written : (x : X) → slice_set xs n x ≡ take n xs ++ x ∷ []
+  last_written x = sym (take_all (n + 1) (slice_set xs n x) (omega (arith, length-set xs n x))) ∙ take_more_set xs n x (omega arith)
+
+-- a command by its two fields
+by_fields : (d : Command) (args : Args) (no_response : Bool) → d.args ≡ args → d.no_response ≡ no_response → d ≡ record { args = args; no_response = no_response }
+by_fields d args no_response e f =
+    let with_args : Args → Command = λ a. record { args = a; no_response = d.no_response } in
+    let with_flag : Bool → Command = λ b. record { args = args; no_response = b } in
+    ap with_args e ∙ ap with_flag f
+
+pub appends_to_last : (Gives : Args → Type 0) (r : Result (Unit {0}) RedisError) (p : Plan) (n : ℕ) (c d : Command) → length p.commands ≡ suc n → c ≡ slice_index_or p.commands n c
+    → OnOk r (Appends Gives c.args d.args) → OnOk r (d.no_response ≡ c.no_response) → OnOk r (AppendsToLast Gives p (record p { commands = slice_set p.commands n d }))
+appends_to_last Gives (Err f) p n c d e is given flag = tt
+appends_to_last Gives (Ok _) p n c d e is given flag =
+    let written = last_written p.commands n e d in
+    let grown = by_fields d (c.args ++ given.0) c.no_response given.1 flag in
+    record {
+      before = take n p.commands;
+      last = c;
+      more = given.0;
+      was = split_last p.commands n e c is;
+      given = given.2;
+      is = ap (λ (l : List Command). record p { commands = l }) (written ∙ ap (λ (x : Command). take n p.commands ++ x ∷ []) grown);
+    }

@@ -1,0 +1,67 @@
+-- What a pipeline answers, by the replies to it.
+use Rattle.std.specs.Prelude.{◌≡◌, ◌≢◌, ℕ, ◌+◌, ◌⊎◌, Bool, true, false, List, [], ◌∷◌, ◌++◌, None, Result, Err, codes}
+use Rattle.resp_value.specs.declared.value.Value.{Value, Nil, Array, out-Value}
+use Rattle.resp_value.specs.declared.value.Value.TheOpen.{Value-F}
+use Rattle.resp_value.specs.declared.errors.server_error.ServerError.{ServerError}
+use Rattle.resp_value.specs.declared.errors.kinds.ErrorKind.TheVariants.{UnexpectedReturnType}
+use Rattle.resp_value.specs.declared.errors.redis_error.RedisError.{RedisError}
+use Rattle.resp_value.specs.declared.errors.redis_error.RedisError.TheVariants.{General, Pipeline, OutOfMemory}
+use Rattle.resp_from.specs.Conversion.{ConvertsCall}
+use Rattle.resp_core.specs.Call.{Answers}
+use Rattle.resp_core.specs.Pipeline.{Plan}
+
+-- the items whose position isn't ignored, in order; a position past the marks isn't
+abbrev pub kept : List Bool → List Value → List Value
+kept marks [] = []
+kept [] (item ∷ items) = item ∷ items
+kept (true ∷ marks) (item ∷ items) = kept marks items
+kept (false ∷ marks) (item ∷ items) = item ∷ kept marks items
+
+-- the items that are server errors, each with its position, where the first item stands at n
+abbrev pub errors_from : ℕ → List Value → List (ℕ × ServerError)
+errors_from n [] = []
+errors_from n (item ∷ items) = elim (out-Value item) [
+  | Value-F.ServerError error ↦ (n, error) ∷ errors_from (n + 1) items
+  | _ ↦ errors_from (n + 1) items
+]
+
+-- the items that are server errors, each with its position; ignored ones are among them
+abbrev pub errors_of : List Value → List (ℕ × ServerError)
+errors_of items = errors_from 0 items
+
+-- the kept items as one reply
+abbrev pub kept_reply : Plan → List Value → Value
+kept_reply p items = Array (kept p.ignored items)
+
+-- what a pipeline makes of items
+pub record Composes {X : Type 0} (p : Plan) (of_value : Value → X → Type 0)
+    (result : Result X RedisError) (items : List Value) : Type 0 where
+  -- where errors are ignored, the kept items are converted
+  pub ignoring : p.ignores_errors ≡ true → ConvertsCall (of_value (kept_reply p items)) result
+  -- else, where items are server errors, these are listed; the list takes memory
+  pub listing : p.ignores_errors ≡ false → errors_of items ≢ [] →
+      (result ≡ Err (Pipeline (errors_of items))) ⊎ (result ≡ Err OutOfMemory)
+  -- else the kept items answer as one reply to a command does
+  pub answering : p.ignores_errors ≡ false → errors_of items ≡ [] →
+      Answers of_value result (kept_reply p items)
+
+-- what is answered where the reply to EXEC is neither nil nor an array
+abbrev pub no_transaction : RedisError
+no_transaction =
+    General UnexpectedReturnType (codes "Invalid response when parsing multi response") None
+
+-- what a transaction makes of the reply to EXEC
+abbrev pub Concludes : {X : Type 0} → Plan → (Value → X → Type 0) → Result X RedisError → Value
+    → Type 0
+Concludes p of_value result last = elim (out-Value last) [
+  | Value-F.Nil ↦ ConvertsCall (of_value Nil) result
+  | Value-F.Array items ↦ Composes p of_value result items
+  | _ ↦ result ≡ Err no_transaction
+]
+
+-- what a pipeline makes of all replies to it; of a transaction the last one decides
+pub record Outcome {X : Type 0} (p : Plan) (of_value : Value → X → Type 0)
+    (result : Result X RedisError) (replies : List Value) : Type 0 where
+  pub plain : p.atomic ≡ false → Composes p of_value result replies
+  pub atomic : p.atomic ≡ true → (before : List Value) (last : Value) →
+      replies ≡ before ++ last ∷ [] → Concludes p of_value result last
