@@ -1,12 +1,14 @@
-//! `resp`: packs a command, or sends one over its standard streams and prints the answer.
+//! `resp`: packs a command, or sends commands over its standard streams and prints the answer.
 //!
 //! `resp pack WORD..` prints the bytes that send a command. `resp read` prints the replies on
-//! standard input, a line for each. `resp query WORD..` writes a command to
-//! standard output, reads the reply from standard input and prints it on standard error, so that a
-//! pipe can join it to a server.
+//! standard input, a line for each. `resp query [--atomic] WORD.. [, WORD..]..` writes commands to
+//! standard output, reads their replies from standard input and prints the answer on standard
+//! error, so that a pipe can join it to a server. The word `,` parts two commands. The word
+//! `--atomic`, where it is the first, makes them a transaction.
 //!
 //! The exit status is 0 on success; 1 for wrong words, with the usage on standard error; 2 where
-//! the answer is a refusal, with `refused: ` and its category on standard error.
+//! the answer is a refusal, with `refused: ` and its category on standard error, and then the
+//! position and code of each server error in it, as `1:CROSSSLOT`.
 #![tactic(auto)]
 
 mod program;

@@ -1,6 +1,8 @@
 //! What the program does, over any streams.
 
-use resp_core::{Cmd, ConnectionLike, Parser, RedisError, RedisResult, RedisWrite, Value};
+use resp_core::{
+    Cmd, ConnectionLike, Parser, Pipeline, RedisError, RedisResult, RedisWrite, Value, pipe,
+};
 use std::alloc::Global;
 use std::io;
 use std::io::{Read, Write};
@@ -24,7 +26,7 @@ pub enum Task<'a> {
     Pack(&'a [String]),
     /// `read`
     Read,
-    /// `query WORD..`
+    /// `query [--atomic] WORD.. [, WORD..]..`
     Query(&'a [String]),
     /// Anything else.
     Usage,
@@ -59,8 +61,6 @@ pub fn print_no_words<E: Write>(error: &io::Error, err: &mut E) -> u8 {
 }
 
 /// Prints the usage on standard error.
-///
-/// The usage names `--atomic` and `,` already; until there are pipelines, both print it.
 pub fn print_usage<E: Write>(err: &mut E) -> u8 {
     let _ = err.write_all(USAGE.as_bytes());
     WRONG_WORDS
@@ -86,22 +86,22 @@ pub fn read<R: Read, O: Write, E: Write>(
 ) -> u8 {
     match print_replies(alloc, reader, out) {
         Ok(()) => DONE,
-        Err(stop) => print_stop(&stop, err),
+        Err(halt) => print_halt(&halt, err),
     }
 }
 
 /// Why reading stopped before the end of the input.
 #[derive(Drop)]
-enum Stop {
+enum Halt {
     /// The input ended within a reply.
     Early,
     /// A fault, or out of memory.
     Refused(RedisError),
 }
 
-impl From<RedisError> for Stop {
-    fn from(error: RedisError) -> Stop {
-        Stop::Refused(error)
+impl From<RedisError> for Halt {
+    fn from(error: RedisError) -> Halt {
+        Halt::Refused(error)
     }
 }
 
@@ -110,7 +110,7 @@ fn print_replies<R: Read, O: Write>(
     alloc: Global,
     reader: &mut R,
     out: &mut O,
-) -> Result<(), Stop> {
+) -> Result<(), Halt> {
     let mut parser = Parser::new(alloc);
     let mut chunk = [0; 4096];
     for _ in 0..u64::MAX {
@@ -122,7 +122,7 @@ fn print_replies<R: Read, O: Write>(
         print_ready(alloc, &mut parser, out)?;
     }
     if parser.in_progress() {
-        return Err(Stop::Early);
+        return Err(Halt::Early);
     }
     Ok(())
 }
@@ -140,10 +140,10 @@ fn print_ready<O: Write>(alloc: Global, parser: &mut Parser, out: &mut O) -> Red
 }
 
 /// Prints the fault's name, that the input ended early, or the category of the refusal.
-fn print_stop<E: Write>(stop: &Stop, err: &mut E) -> u8 {
-    let _ = match stop {
-        Stop::Early => writeln!(err, "refused: early end"),
-        Stop::Refused(error) => match error.frame_fault() {
+fn print_halt<E: Write>(halt: &Halt, err: &mut E) -> u8 {
+    let _ = match halt {
+        Halt::Early => writeln!(err, "refused: early end"),
+        Halt::Refused(error) => match error.frame_fault() {
             Some(fault) => writeln!(err, "refused: {fault:?}"),
             None => writeln!(err, "refused: {}", error.category()),
         },
@@ -151,30 +151,48 @@ fn print_stop<E: Write>(stop: &Stop, err: &mut E) -> u8 {
     REFUSED
 }
 
-/// `resp query WORD..`: the command over the connection, and its answer's Debug text on standard
-/// error.
+/// `resp query [--atomic] WORD.. [, WORD..]..`: the commands over the connection, and the Debug
+/// text of what they answer on standard error.
+///
+/// Where a command is empty, the usage is printed and nothing is asked of the connection.
 pub fn query<E: Write>(
     alloc: Global,
     words: &[String],
     con: &mut dyn ConnectionLike,
     err: &mut E,
 ) -> u8 {
-    if !is_one_command(words) {
+    let (atomic, words) = take_flag(words);
+    if has_empty_command(words) {
         return print_usage(err);
     }
-    match ask(alloc, words, con) {
+    match ask(alloc, atomic, words, con) {
         Ok(value) => print_answer(&value, err),
         Err(error) => print_refusal(alloc, error, err),
     }
 }
 
-/// Whether the words are one command: there are some, none is a comma, and the first is no flag.
-fn is_one_command(words: &[String]) -> bool {
-    match words.first() {
-        Some(first) => first.as_str() != "--atomic"
-            && words.iter().all(|word| word.as_str() != ","),
-        None => false,
+/// Whether the first word is `--atomic`, and the words without it.
+fn take_flag(words: &[String]) -> (bool, &[String]) {
+    match words.split_first() {
+        Some((first, rest)) => {
+            if first.as_str() == "--atomic" {
+                (true, rest)
+            } else {
+                (false, words)
+            }
+        }
+        None => (false, words),
     }
+}
+
+/// Whether a word is `,`, which parts two commands.
+fn is_comma(word: &String) -> bool {
+    word.as_str() == ","
+}
+
+/// Whether a command is empty: there is no word, or a comma is first or last or follows another.
+fn has_empty_command(words: &[String]) -> bool {
+    words.split(is_comma).any(|command| command.is_empty())
 }
 
 /// The command of these words, each one argument as it stands.
@@ -197,8 +215,30 @@ fn write_whole<O: Write>(out: &mut O, bytes: &[u8]) -> RedisResult<()> {
     Ok(())
 }
 
-fn ask(alloc: Global, words: &[String], con: &mut dyn ConnectionLike) -> RedisResult<Value> {
-    command_of(alloc, words)?.query(con)
+/// One command goes by itself, unless it is a transaction; several go as a pipeline.
+fn ask(
+    alloc: Global,
+    atomic: bool,
+    words: &[String],
+    con: &mut dyn ConnectionLike,
+) -> RedisResult<Value> {
+    if atomic || words.iter().any(is_comma) {
+        pipeline_of(alloc, atomic, words)?.query(con)
+    } else {
+        command_of(alloc, words)?.query(con)
+    }
+}
+
+/// The pipeline of the commands between commas.
+fn pipeline_of(alloc: Global, atomic: bool, words: &[String]) -> RedisResult<Pipeline> {
+    let mut pipeline = pipe(alloc);
+    if atomic {
+        let _ = pipeline.atomic();
+    }
+    for command in words.split(is_comma) {
+        pipeline.push_command(command_of(alloc, command)?)?;
+    }
+    Ok(pipeline)
 }
 
 fn print_answer<E: Write>(value: &Value, err: &mut E) -> u8 {

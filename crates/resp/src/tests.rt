@@ -97,8 +97,14 @@ fn wrong_words(rt: HostRuntime) -> Result<(), Fail> {
     assert_eq!(rt; err.as_slice(), USAGE.as_bytes());
     for words in [
         words_of(alloc, &[])?,
-        words_of(alloc, &["--atomic", "GET", "k"])?,
-        words_of(alloc, &["GET", "k", ",", "GET", "l"])?,
+        words_of(alloc, &["--atomic"])?,
+        words_of(alloc, &[","])?,
+        words_of(alloc, &[",", "GET", "k"])?,
+        words_of(alloc, &["GET", "k", ","])?,
+        words_of(alloc, &["GET", "k", ",", ",", "GET", "l"])?,
+        words_of(alloc, &["--atomic", ",", "GET", "k"])?,
+        words_of(alloc, &["--atomic", "GET", "k", ","])?,
+        words_of(alloc, &["--atomic", "GET", "k", ",", ",", "GET", "l"])?,
     ] {
         let mut link = link_over(alloc, b"$1\r\n1\r\n")?;
         let mut err: Vec<u8> = Vec::new(alloc);
@@ -135,6 +141,102 @@ fn queries_a_server(rt: HostRuntime) -> Result<(), Fail> {
             sink.into_inner().as_slice(),
             b"*2\r\n$3\r\nGET\r\n$1\r\nk\r\n".as_slice()
         );
+    }
+    Ok(())
+}
+
+/// What words send over these replies, what they print, and their exit status.
+fn asked(alloc: Global, words: &[&str], replies: &str) -> Result<(Vec<u8>, Vec<u8>, u8), Fail> {
+    let words = words_of(alloc, words)?;
+    let mut link = link_over(alloc, replies.as_bytes())?;
+    let mut err: Vec<u8> = Vec::new(alloc);
+    let status = query(alloc, words.as_slice(), &mut link, &mut err);
+    let (_source, sink) = link.into_ends();
+    Ok((sink.into_inner(), err, status))
+}
+
+#[test]
+fn queries_several_commands(rt: HostRuntime) -> Result<(), Fail> {
+    for (replies, printed, status) in [
+        ("+OK\r\n:1\r\n", "array([ok, int(1)])\n", 0),
+        (
+            "+OK\r\n-CROSSSLOT x\r\n",
+            "refused: cross-slot 1:CROSSSLOT\n",
+            2,
+        ),
+        (
+            "-MINE x\r\n-CROSSSLOT x\r\n",
+            "refused: extension error 0:MINE 1:CROSSSLOT\n",
+            2,
+        ),
+        ("+OK\r\n", "refused: I/O error\n", 2),
+        (":x\r\n", "refused: parse error\n", 2),
+    ] {
+        let (sent, err, ended) = asked(rt.alloc(), &["FOO", ",", "BAR"], replies)?;
+        assert_eq!(rt; ended, status);
+        assert_eq!(rt; err.as_slice(), printed.as_bytes());
+        assert_eq!(rt;
+            sent.as_slice(),
+            b"*1\r\n$3\r\nFOO\r\n*1\r\n$3\r\nBAR\r\n".as_slice()
+        );
+    }
+    Ok(())
+}
+
+#[test]
+fn queries_a_transaction(rt: HostRuntime) -> Result<(), Fail> {
+    for (last, printed, status) in [
+        (
+            "*2\r\n+OK\r\n$1\r\n1\r\n",
+            "array([ok, bulk-string('\"1\"')])\n",
+            0,
+        ),
+        ("*-1\r\n", "nil\n", 0),
+        (
+            "*2\r\n+OK\r\n-CROSSSLOT x\r\n",
+            "refused: cross-slot 1:CROSSSLOT\n",
+            2,
+        ),
+        ("-EXECABORT x\r\n", "refused: type error\n", 2),
+    ] {
+        let replies = format!(in rt.alloc(); "+OK\r\n+QUEUED\r\n+QUEUED\r\n{last}")?;
+        let words = &["--atomic", "SET", "k", "1", ",", "GET", "k"];
+        let (sent, err, ended) = asked(rt.alloc(), words, replies.as_str())?;
+        assert_eq!(rt; ended, status);
+        assert_eq!(rt; err.as_slice(), printed.as_bytes());
+        let wanted = "*1\r\n$5\r\nMULTI\r\n*3\r\n$3\r\nSET\r\n$1\r\nk\r\n$1\r\n1\r\n\
+            *2\r\n$3\r\nGET\r\n$1\r\nk\r\n*1\r\n$4\r\nEXEC\r\n";
+        assert_eq!(rt; sent.as_slice(), wanted.as_bytes());
+    }
+    Ok(())
+}
+
+#[test]
+fn a_transaction_of_one_command(rt: HostRuntime) -> Result<(), Fail> {
+    let replies = "+OK\r\n+QUEUED\r\n*1\r\n:7\r\n";
+    let (sent, err, status) = asked(rt.alloc(), &["--atomic", "FOO"], replies)?;
+    assert_eq!(rt; status, 0);
+    assert_eq!(rt; err.as_slice(), b"array([int(7)])\n".as_slice());
+    let wanted = "*1\r\n$5\r\nMULTI\r\n*1\r\n$3\r\nFOO\r\n*1\r\n$4\r\nEXEC\r\n";
+    assert_eq!(rt; sent.as_slice(), wanted.as_bytes());
+    Ok(())
+}
+
+#[test]
+fn a_later_flag_is_a_word(rt: HostRuntime) -> Result<(), Fail> {
+    for (words, sent) in [
+        (
+            &["F", "--atomic"][..],
+            "*2\r\n$1\r\nF\r\n$8\r\n--atomic\r\n",
+        ),
+        (
+            &["F", ",", "--atomic"][..],
+            "*1\r\n$1\r\nF\r\n*1\r\n$8\r\n--atomic\r\n",
+        ),
+    ] {
+        let (bytes, _err, status) = asked(rt.alloc(), words, ":1\r\n:2\r\n")?;
+        assert_eq!(rt; status, 0);
+        assert_eq!(rt; bytes.as_slice(), sent.as_bytes());
     }
     Ok(())
 }

@@ -1,6 +1,7 @@
 //! Commands as bytes.
 
-use resp_core::{Cmd, ErrorKind, RedisWrite, cmd, law_of_packing, pack_command, parse_redis_value};
+use resp_core::laws::law_of_packing;
+use resp_core::{Cmd, ErrorKind, RedisWrite, cmd, pack_command, parse_redis_value};
 use std::collections::BTreeMap;
 use std::test::Fail;
 

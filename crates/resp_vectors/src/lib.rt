@@ -13,4 +13,6 @@ mod links;
 #[cfg(test)]
 mod parsers;
 #[cfg(test)]
+mod pipelines;
+#[cfg(test)]
 mod replies;

@@ -1,8 +1,7 @@
 //! Worked replies, fed whole and in pieces, and readers that end or fail in the middle.
 
-use resp_core::{
-    FrameFault, IoKind, Parser, Reading, Text, Value, law_of_prefixes, parse_redis_value,
-};
+use resp_core::laws::law_of_prefixes;
+use resp_core::{FrameFault, IoKind, Parser, Reading, Text, Value, parse_redis_value};
 use std::io;
 use std::io::{Cursor, Read};
 use std::process::Abort;

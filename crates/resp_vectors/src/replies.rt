@@ -122,11 +122,11 @@ fn without_errors_a_reply_stays(rt: HostRuntime) {
 /// How many values the reply is a sequence of, borrowed and by move.
 fn length(rt: &(impl Abort + AllocGlobal), bytes: &[u8]) -> Option<usize> {
     let value = reply(rt, bytes);
-    let borrowed = value.as_sequence().map(|parts| parts.len());
+    let borrowed = value.as_sequence().map(|elements| elements.len());
     let moved = value
         .into_sequence(rt.alloc())
         .ok()
-        .map(|parts| parts.len());
+        .map(|elements| elements.len());
     assert_eq!(rt; borrowed, moved);
     borrowed
 }
@@ -182,6 +182,6 @@ fn no_pairs_of_three(rt: HostRuntime) {
     assert!(rt; three.as_map_iter().is_none());
     match three.into_map_iter() {
         Ok(_pairs) => assert!(rt; false),
-        Err(back) => assert_eq!(rt; back.as_sequence().map(|parts| parts.len()), Some(3)),
+        Err(back) => assert_eq!(rt; back.as_sequence().map(|elements| elements.len()), Some(3)),
     }
 }

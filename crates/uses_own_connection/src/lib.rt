@@ -1,14 +1,21 @@
-//! A connection of a caller's own, for tests of code that takes a `&mut dyn ConnectionLike`.
+//! Connections of a caller's own: one for tests of code that takes a `&mut dyn ConnectionLike`, and
+//! one around a link ([`Counted`]).
 //!
-//! It answers replies that it was given, in order. It doesn't tell its bytes, since it has none, so
-//! its whole meaning is whether it is broken. No proof file is needed.
+//! The first, [`Stored`], answers replies that it was given, in order. It doesn't tell its bytes,
+//! since it has none, so its whole meaning is whether it is broken. No proof file is needed.
 #![tactic(auto)]
 
-ghost use Rattle.std.specs.Prelude.{◌≡◌};
+ghost use Rattle.std.specs.Prelude.{◌≡◌, true, if◌then◌else◌, Some, None};
+ghost use Rattle.resp_core.specs.Call.{broken_link, no_command};
+ghost use Rattle.resp_value.specs.declared.errors.redis_error.RedisError.TheVariants as form;
 
+mod counted;
+
+pub use counted::{Counted, MemoryLink};
 use resp_core::{Cmd, ConnectionLike, ErrorKind, IoKind, RedisError, RedisResult, Value, cmd};
 use std::alloc::Global;
 use std::collections::VecDeque;
+use std::mem;
 
 /// Answers stored replies, and then breaks, as a server does that closes the connection.
 #[derive(Drop)]
@@ -25,6 +32,29 @@ impl Stored {
             broken: false,
         }
     }
+
+    /// What a request is refused with before it is answered, if it is.
+    fn refusal(&self, is_empty: bool) -> Option<RedisError>
+        ensures { result ≡ (if self.now.broken then Some broken_link else
+            (if is_empty then Some no_command else None)) }
+    {
+        if self.broken {
+            return Some(RedisError::from((ErrorKind::Io, "link is broken")));
+        }
+        if is_empty {
+            return Some(RedisError::from((ErrorKind::Client, "empty command")));
+        }
+        None
+    }
+
+    /// Breaks the connection, which has ended.
+    fn end(&mut self) -> RedisError
+        ensures broken { self.new.broken ≡ true }
+        ensures error { result ≡ form.Io IoKind.UnexpectedEof }
+    {
+        self.broken = true;
+        RedisError::from(IoKind::UnexpectedEof)
+    }
 }
 
 impl ConnectionLike for Stored {
@@ -33,22 +63,45 @@ impl ConnectionLike for Stored {
     ghost connection = { λ c. untold c.broken };
 
     fn req_command(&mut self, cmd: &Cmd) -> RedisResult<Value> {
-        if self.broken {
-            return Err(RedisError::from((ErrorKind::Io, "link is broken")));
-        }
-        if cmd.is_empty() {
-            return Err(RedisError::from((ErrorKind::Client, "empty command")));
+        if let Some(error) = self.refusal(cmd.is_empty()) {
+            return Err(error);
         }
         if cmd.is_no_response() {
             return Ok(Value::Nil);
         }
         match self.replies.pop_front() {
             Some(reply) => Ok(reply),
-            None => {
-                self.broken = true;
-                Err(RedisError::from(IoKind::UnexpectedEof))
-            }
+            None => Err(self.end()),
         }
+    }
+
+    fn req_packed_command(&mut self, bytes: &[u8]) -> RedisResult<Value> {
+        if let Some(error) = self.refusal(bytes.is_empty()) {
+            return Err(error);
+        }
+        match self.replies.pop_front() {
+            Some(reply) => Ok(reply),
+            None => Err(self.end()),
+        }
+    }
+
+    fn req_packed_commands(
+        &mut self,
+        _bytes: &[u8],
+        offset: usize,
+        count: usize,
+    ) -> RedisResult<Vec<Value>> {
+        if let Some(error) = self.refusal(false) {
+            return Err(error);
+        }
+        let stored = self.replies.len();
+        if stored < offset || stored - offset < count {
+            return Err(self.end());
+        }
+        let later = self.replies.split_off(offset + count)?;
+        let mut taken = mem::replace(&mut self.replies, later);
+        let answered = taken.split_off(offset)?;
+        Ok(Vec::from(answered))
     }
 
     fn supports_pipelining(&self) -> bool {

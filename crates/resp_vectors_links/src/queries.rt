@@ -1,0 +1,148 @@
+//! Queries of pipelines, and of commands beside them, over a link.
+
+use crate::fakes::OneAtATime;
+use crate::memory::{commands, fixed_text, link_over, listed, next_integer, ping, sent};
+use resp_core::{
+    Cmd, ErrorKind, IoKind, Pipeline, RedisError, RedisResult, ServerErrorKind, Value, pipe,
+};
+use std::process::Abort;
+
+/// Four commands, of which the second and the third are ignored.
+fn four(rt: &(impl Abort + AllocGlobal)) -> Pipeline {
+    let mut pipeline = commands(rt, &["FOO", "BAR"]);
+    let _ = pipeline.ignore();
+    pipeline.push_cmd("baz").expect(rt, "no refusal");
+    let _ = pipeline.ignore();
+    pipeline.push_cmd("barvaz").expect(rt, "no refusal");
+    pipeline
+}
+
+const TWO_OF_FOUR: &[u8] = b"+OK\r\n-CROSSSLOT\r\n+OK\r\n-CROSSSLOT\r\n";
+
+#[test]
+fn ignored_replies_are_let_go(rt: HostRuntime) {
+    let mut link = link_over(&rt, b":1\r\n:2\r\n:3\r\n+OK\r\n");
+    let texts: Vec<String> = four(&rt).query(&mut link).expect(&rt, "no refusal");
+    assert_eq!(rt; texts.len(), 2);
+    assert_eq!(rt; texts[0].as_str(), "1");
+    assert_eq!(rt; texts[1].as_str(), "OK");
+}
+
+#[test]
+fn all_server_errors_are_listed(rt: HostRuntime) {
+    let mut link = link_over(&rt, TWO_OF_FOUR);
+    let error = four(&rt)
+        .query::<Vec<String>>(&mut link)
+        .expect_err(&rt, "a refusal");
+    assert_eq!(rt; error.kind(), ErrorKind::Server(ServerErrorKind::CrossSlot));
+    assert_eq!(rt; listed(&rt, error).as_str(), "1:CROSSSLOT 3:CROSSSLOT ");
+    assert!(rt; !link.is_broken());
+}
+
+#[test]
+fn ignored_errors_are_values(rt: HostRuntime) {
+    let mut link = link_over(&rt, TWO_OF_FOUR);
+    let mut pipeline = four(&rt);
+    let _ = pipeline.ignore_errors();
+    let results: Vec<RedisResult<Value>> = pipeline.query(&mut link).expect(&rt, "no refusal");
+    assert_eq!(rt; results.len(), 2);
+    assert!(rt; results[0] == Ok(Value::Okay));
+    match &results[1] {
+        Ok(_value) => assert!(rt; false),
+        Err(error) => assert_eq!(rt; error.kind(), ErrorKind::Server(ServerErrorKind::CrossSlot)),
+    }
+}
+
+#[test]
+fn an_empty_pipeline_asks_nothing(rt: HostRuntime) {
+    let mut link = link_over(&rt, b":7\r\n");
+    let none: Vec<i64> = pipe(rt.alloc()).query(&mut link).expect(&rt, "no refusal");
+    assert!(rt; none.is_empty());
+    assert_eq!(rt; next_integer(&rt, &mut link), 7);
+    assert_eq!(rt; sent(link).as_slice(), b"*1\r\n$4\r\nPING\r\n".as_slice());
+}
+
+#[test]
+fn an_empty_command_in_a_pipeline(rt: HostRuntime) {
+    let mut link = link_over(&rt, b"");
+    let mut pipeline = pipe(rt.alloc());
+    pipeline
+        .push_command(Cmd::new(rt.alloc()))
+        .expect(&rt, "no refusal");
+    let error = pipeline
+        .query::<Value>(&mut link)
+        .expect_err(&rt, "a refusal");
+    assert_eq!(rt; error.io_kind(), Some(IoKind::UnexpectedEof));
+    assert!(rt; link.is_broken());
+    assert_eq!(rt; sent(link).as_slice(), b"*0\r\n".as_slice());
+}
+
+#[test]
+fn an_error_inside_a_kept_reply(rt: HostRuntime) {
+    let mut link = link_over(&rt, b"*1\r\n-ERR x\r\n");
+    let error = commands(&rt, &["FOO"])
+        .query::<Value>(&mut link)
+        .expect_err(&rt, "a refusal");
+    assert_eq!(rt;
+        error.kind(),
+        ErrorKind::Server(ServerErrorKind::ResponseError)
+    );
+    match &error {
+        RedisError::Server(_) => {}
+        _ => assert!(rt; false),
+    }
+    assert_eq!(rt; listed(&rt, error).as_str(), "0:ERR ");
+}
+
+#[test]
+fn an_error_inside_an_ignored_reply(rt: HostRuntime) {
+    let mut link = link_over(&rt, b"*1\r\n-ERR x\r\n");
+    let mut pipeline = commands(&rt, &["FOO"]);
+    let _ = pipeline.ignore();
+    pipeline.query::<()>(&mut link).expect(&rt, "no refusal");
+    assert!(rt; !link.is_broken());
+}
+
+/// A command that waits for no reply.
+fn silent(rt: &(impl Abort + AllocGlobal)) -> Cmd {
+    let mut command = ping(rt);
+    let _ = command.set_no_response(true);
+    command
+}
+
+#[test]
+fn a_command_without_a_response(rt: HostRuntime) {
+    let mut link = link_over(&rt, b":7\r\n");
+    silent(&rt).exec(&mut link).expect(&rt, "no refusal");
+    assert!(rt; !link.is_broken());
+    assert_eq!(rt; next_integer(&rt, &mut link), 7);
+    assert_eq!(rt;
+        sent(link).as_slice(),
+        b"*1\r\n$4\r\nPING\r\n*1\r\n$4\r\nPING\r\n".as_slice()
+    );
+}
+
+#[test]
+fn no_response_is_no_integer(rt: HostRuntime) {
+    let mut link = link_over(&rt, b":7\r\n");
+    let error = silent(&rt)
+        .query::<i64>(&mut link)
+        .expect_err(&rt, "a refusal");
+    assert_eq!(rt; error.kind(), ErrorKind::Parse);
+    assert!(rt; !link.is_broken());
+    assert_eq!(rt; next_integer(&rt, &mut link), 7);
+}
+
+#[test]
+fn a_connection_without_pipelining(rt: HostRuntime) {
+    let mut con = OneAtATime::new();
+    let error = commands(&rt, &["FOO", "BAR"])
+        .query::<Value>(&mut con)
+        .expect_err(&rt, "a refusal");
+    assert_eq!(rt; error.kind(), ErrorKind::Client);
+    assert_eq!(rt;
+        fixed_text(&error),
+        "This connection does not support pipelining."
+    );
+    assert_eq!(rt; con.requests, 0);
+}
