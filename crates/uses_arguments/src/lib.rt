@@ -6,7 +6,7 @@
 
 ghost use Rattle.std.specs.Prelude.{◌≡◌, ◌∷◌, [], IfOk, codes};
 
-use resp_core::{Cmd, ConnectionLike, RedisResult, ToRedisArgs, cmd};
+use resp_core::{Cmd, ConnectionLike, RedisResult, ToRedisArgs, cmd, pipe};
 use std::alloc::Global;
 
 /// Asks for the fields of a hash that are there.
@@ -31,6 +31,23 @@ pub fn set_fields(
         .arg((key, "name", name))?
         .arg(pairs)?
         .arg(&[("visits", 1), ("level", 2)])?
+        .query(con)
+}
+
+/// Sets a name and asks for it and for the next age, in one pipeline.
+pub fn rename(
+    alloc: Global,
+    con: &mut dyn ConnectionLike,
+    name: &str,
+) -> RedisResult<(String, i64)> {
+    pipe(alloc)
+        .cmd("SET")?
+        .arg(("name", name))?
+        .ignore()
+        .cmd("GET")?
+        .arg("name")?
+        .cmd("INCR")?
+        .arg("age")?
         .query(con)
 }
 

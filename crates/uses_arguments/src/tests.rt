@@ -1,6 +1,6 @@
 //! The bytes that each of the functions makes.
 
-use crate::{add_all, add_tagged, add_twelve, fields_of, get, set_fields};
+use crate::{add_all, add_tagged, add_twelve, fields_of, get, rename, set_fields};
 use resp_core::{ByteLink, Cmd, Reading, Writing, cmd};
 use std::io::Cursor;
 use std::process::Abort;
@@ -65,4 +65,15 @@ fn chains(rt: HostRuntime) {
         &command,
         "*4\r\n$1\r\nX\r\n$1\r\nt\r\n$1\r\na\r\n$1\r\n1\r\n",
     );
+}
+
+#[test]
+fn a_pipeline_in_one_chain(rt: HostRuntime) {
+    let mut link = link_over(&rt, b"+OK\r\n$3\r\nAda\r\n:37\r\n");
+    let (name, age) = rename(rt.alloc(), &mut link, "Ada").expect(&rt, "no refusal");
+    assert_eq!(rt; name.as_str(), "Ada");
+    assert_eq!(rt; age, 37);
+    let wanted = "*3\r\n$3\r\nSET\r\n$4\r\nname\r\n$3\r\nAda\r\n\
+*2\r\n$3\r\nGET\r\n$4\r\nname\r\n*2\r\n$4\r\nINCR\r\n$3\r\nage\r\n";
+    assert_eq!(rt; sent(link).as_slice(), wanted.as_bytes());
 }

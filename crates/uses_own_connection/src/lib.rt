@@ -5,9 +5,7 @@
 //! since it has none, so its whole meaning is whether it is broken. No proof file is needed.
 #![tactic(auto)]
 
-ghost use Rattle.std.specs.Prelude.{◌≡◌, true, if◌then◌else◌, Some, None};
-ghost use Rattle.resp_core.specs.Call.{broken_link, no_command};
-ghost use Rattle.resp_value.specs.declared.errors.redis_error.RedisError.TheVariants as form;
+ghost use Rattle.std.specs.Prelude.{◌≡◌};
 
 mod counted;
 
@@ -32,29 +30,6 @@ impl Stored {
             broken: false,
         }
     }
-
-    /// What a request is refused with before it is answered, if it is.
-    fn refusal(&self, is_empty: bool) -> Option<RedisError>
-        ensures { result ≡ (if self.now.broken then Some broken_link else
-            (if is_empty then Some no_command else None)) }
-    {
-        if self.broken {
-            return Some(RedisError::from((ErrorKind::Io, "link is broken")));
-        }
-        if is_empty {
-            return Some(RedisError::from((ErrorKind::Client, "empty command")));
-        }
-        None
-    }
-
-    /// Breaks the connection, which has ended.
-    fn end(&mut self) -> RedisError
-        ensures broken { self.new.broken ≡ true }
-        ensures error { result ≡ form.Io IoKind.UnexpectedEof }
-    {
-        self.broken = true;
-        RedisError::from(IoKind::UnexpectedEof)
-    }
 }
 
 impl ConnectionLike for Stored {
@@ -63,25 +38,37 @@ impl ConnectionLike for Stored {
     ghost connection = { λ c. untold c.broken };
 
     fn req_command(&mut self, cmd: &Cmd) -> RedisResult<Value> {
-        if let Some(error) = self.refusal(cmd.is_empty()) {
-            return Err(error);
+        if self.broken {
+            return Err(RedisError::from((ErrorKind::Io, "link is broken")));
+        }
+        if cmd.is_empty() {
+            return Err(RedisError::from((ErrorKind::Client, "empty command")));
         }
         if cmd.is_no_response() {
             return Ok(Value::Nil);
         }
         match self.replies.pop_front() {
             Some(reply) => Ok(reply),
-            None => Err(self.end()),
+            None => {
+                self.broken = true;
+                Err(RedisError::from(IoKind::UnexpectedEof))
+            }
         }
     }
 
     fn req_packed_command(&mut self, bytes: &[u8]) -> RedisResult<Value> {
-        if let Some(error) = self.refusal(bytes.is_empty()) {
-            return Err(error);
+        if self.broken {
+            return Err(RedisError::from((ErrorKind::Io, "link is broken")));
+        }
+        if bytes.is_empty() {
+            return Err(RedisError::from((ErrorKind::Client, "empty command")));
         }
         match self.replies.pop_front() {
             Some(reply) => Ok(reply),
-            None => Err(self.end()),
+            None => {
+                self.broken = true;
+                Err(RedisError::from(IoKind::UnexpectedEof))
+            }
         }
     }
 
@@ -91,12 +78,13 @@ impl ConnectionLike for Stored {
         offset: usize,
         count: usize,
     ) -> RedisResult<Vec<Value>> {
-        if let Some(error) = self.refusal(false) {
-            return Err(error);
+        if self.broken {
+            return Err(RedisError::from((ErrorKind::Io, "link is broken")));
         }
         let stored = self.replies.len();
         if stored < offset || stored - offset < count {
-            return Err(self.end());
+            self.broken = true;
+            return Err(RedisError::from(IoKind::UnexpectedEof));
         }
         let later = self.replies.split_off(offset + count)?;
         let mut taken = mem::replace(&mut self.replies, later);
