@@ -1,6 +1,7 @@
 //! Pipelines as bytes.
 
-use resp_core::{Cmd, ErrorKind, Pipeline, law_of_requests, pipe};
+use resp_core::laws::law_of_requests;
+use resp_core::{Cmd, ErrorKind, Pipeline, pipe};
 use std::collections::BTreeMap;
 use std::test::Fail;
 
