@@ -160,7 +160,8 @@ impl Cmd {
     /// Fails with the first server error in the reply, with kind `Parse` where the reply doesn't
     /// convert, and where the connection's `req_command` fails.
     pub fn query<T: FromRedisValue>(&self, con: &mut dyn ConnectionLike) -> RedisResult<T>
-        ensures { CommandQuery (connection con.old) (connection con.new) self.now T.of_value result }
+        ensures { CommandQuery (connection con.old) (connection con.new) self.now T.of_value
+            result }
     {
         let reply = con.req_command(self)?;
         answer(self.alloc, reply)

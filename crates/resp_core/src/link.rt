@@ -151,9 +151,11 @@ impl<S: ReplySource, K: CommandSink> ByteLink<S, K> {
     fn exchange_none(&mut self, bytes: &[u8]) -> RedisResult<Value>
         requires { self.old.broken ≡ false }
         ensures exchanged { Exchanges
-            (connection_of (inflow_of self.old.inbox.parser.unparsed (S.source self.old.inbox.source)
+            (connection_of
+            (inflow_of self.old.inbox.parser.unparsed (S.source self.old.inbox.source)
             self.old.inbox.pushes.items) (K.sink self.old.sink) self.old.broken)
-            (connection_of (inflow_of self.new.inbox.parser.unparsed (S.source self.new.inbox.source)
+            (connection_of
+            (inflow_of self.new.inbox.parser.unparsed (S.source self.new.inbox.source)
             self.new.inbox.pushes.items) (K.sink self.new.sink) self.new.broken)
             bytes.now 0 result (AnswersReply (λ reply. result ≡ Ok reply)) }
     {
@@ -167,9 +169,11 @@ impl<S: ReplySource, K: CommandSink> ByteLink<S, K> {
     fn exchange_one(&mut self, bytes: &[u8]) -> RedisResult<Value>
         requires { self.old.broken ≡ false }
         ensures exchanged { Exchanges
-            (connection_of (inflow_of self.old.inbox.parser.unparsed (S.source self.old.inbox.source)
+            (connection_of
+            (inflow_of self.old.inbox.parser.unparsed (S.source self.old.inbox.source)
             self.old.inbox.pushes.items) (K.sink self.old.sink) self.old.broken)
-            (connection_of (inflow_of self.new.inbox.parser.unparsed (S.source self.new.inbox.source)
+            (connection_of
+            (inflow_of self.new.inbox.parser.unparsed (S.source self.new.inbox.source)
             self.new.inbox.pushes.items) (K.sink self.new.sink) self.new.broken)
             bytes.now 1 result (AnswersReply (λ reply. result ≡ Ok reply)) }
     {
@@ -190,9 +194,11 @@ impl<S: ReplySource, K: CommandSink> ByteLink<S, K> {
         requires { self.old.broken ≡ false }
         ensures counted { IfOk result (λ vs. length vs.items ≡ count) }
         ensures exchanged { Exchanges
-            (connection_of (inflow_of self.old.inbox.parser.unparsed (S.source self.old.inbox.source)
+            (connection_of
+            (inflow_of self.old.inbox.parser.unparsed (S.source self.old.inbox.source)
             self.old.inbox.pushes.items) (K.sink self.old.sink) self.old.broken)
-            (connection_of (inflow_of self.new.inbox.parser.unparsed (S.source self.new.inbox.source)
+            (connection_of
+            (inflow_of self.new.inbox.parser.unparsed (S.source self.new.inbox.source)
             self.new.inbox.pushes.items) (K.sink self.new.sink) self.new.broken)
             bytes.now (offset + count) result (AnswersFrom (λ vs. vs.items) offset result) }
     {
