@@ -4,7 +4,7 @@ use Rattle.std.proofs.lemmas.List.{take_all, take_more, take_more_set, length-se
 use Rattle.std.specs.Prelude.{slice_set, slice_index_or}
 use Rattle.resp_value.specs.declared.errors.redis_error.RedisError.{RedisError}
 use Rattle.resp_args.specs.Args.{Args, Appends}
-use Rattle.resp_core.specs.Command.{Command}
+use Rattle.resp_command.specs.Command.{Command}
 use Rattle.resp_core.specs.Pipeline.{Plan, AppendsToLast, last_marked}
 
 -- writing at the last place marks the last

@@ -1,13 +1,5 @@
-pub mod DecimalReadsBack
 pub mod KeptItems
 pub mod LastCommand
-pub mod LinkExchanges
-pub mod PackedReadsBack
-pub mod PrefixOfPrefix
 pub mod Queries
-pub mod Receiving
 pub mod Requests
-pub mod SentSoFar
-pub mod OneTaking
 pub mod Transactions
-pub mod Values

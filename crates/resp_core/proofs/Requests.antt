@@ -1,32 +1,7 @@
--- What packed commands spell, one after another.
-use Rattle.std.proofs.Common.{ℕ, ◌<◌, ◌^◌, List, [], ◌∷◌, ◌++◌, length, map, refl, sym, ap, ◌∙◌, subst, arith, length-append, append-nil}
-use Rattle.std.specs.List.{flat_map}
-use Rattle.resp_value.specs.declared.value.Value.{Value}
-use Rattle.resp_args.specs.Args.{Args}
-use Rattle.resp_parse.specs.Reads.{Reads}
-use Rattle.resp_parse.specs.Grammar.{Good, Joined}
-use Rattle.resp_core.specs.Packed.{packed, as_value}
+-- What a pipeline's bytes spell.
+use Rattle.resp_command.proofs.Requests.{requests_read_only}
 use Rattle.resp_core.specs.Pipeline.{Plan, argument_lists}
-use Rattle.resp_core.specs.RequestLaw.{LawOfRequests, LawOfPipelines}
-use Rattle.resp_core.proofs.PackedReadsBack.{packed_reads_only, joined_once}
-
--- bytes that are joined of one value spell it
-only_one : (d : ℕ) (b : List ℕ) (v : Value) → Joined (Good d) b (v ∷ []) → Good d b v
-only_one d b v h = subst (λ (l : List ℕ). Good d l v) (sym (h.2 ∙ ap (λ t. h.0 ++ t) h.4 ∙ append-nil h.0)) h.3
-
-joined_values : (lists : List Args) → length (flat_map packed lists) < 2 ^ 63 → Joined (Good 100) (flat_map packed lists) (map as_value lists)
-unfolding Reads
-joined_values [] small = refl
-joined_values (args ∷ lists) small =
-    let both = length-append (packed args) (flat_map packed lists) in
-    let one = (packed_reads_only args (omega arith)).reads in
-    (packed args, flat_map packed lists, refl, only_one 100 (packed args) (as_value args) one, joined_values lists (omega arith))
-
-pub requests_read_only : (lists : List Args) → LawOfRequests lists
-unfolding Reads
-requests_read_only lists small =
-    let reads = joined_values lists small in
-    record { reads = reads; only = λ vs h. joined_once 100 (flat_map packed lists) vs (map as_value lists) h reads }
+use Rattle.resp_core.specs.PipelineLaw.{LawOfPipelines}
 
 pub pipeline_reads_only : (p : Plan) → LawOfPipelines p
 pipeline_reads_only p = requests_read_only (argument_lists p)

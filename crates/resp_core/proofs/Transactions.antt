@@ -4,7 +4,7 @@ use Rattle.std.proofs.lemmas.List.Concat.{flat_map-append}
 use Rattle.std.specs.Fmt.{digits}
 use Rattle.std.specs.List.{flat_map}
 use Rattle.resp_args.specs.Args.{Args}
-use Rattle.resp_core.specs.Packed.{packed}
+use Rattle.resp_command.specs.Packed.{packed}
 use Rattle.resp_core.specs.Pipeline.{as_transaction}
 
 -- `*1`, CR LF, `$5`, CR LF, `MULTI`, CR LF

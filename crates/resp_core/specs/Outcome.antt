@@ -7,7 +7,7 @@ use Rattle.resp_value.specs.declared.errors.kinds.ErrorKind.TheVariants.{Unexpec
 use Rattle.resp_value.specs.declared.errors.redis_error.RedisError.{RedisError}
 use Rattle.resp_value.specs.declared.errors.redis_error.RedisError.TheVariants.{General, Pipeline, OutOfMemory}
 use Rattle.resp_from.specs.Conversion.{ConvertsCall}
-use Rattle.resp_core.specs.Call.{Answers}
+use Rattle.resp_command.specs.Call.{Answers}
 use Rattle.resp_core.specs.Pipeline.{Plan}
 
 -- the items whose position isn't ignored, in order; a position past the marks isn't

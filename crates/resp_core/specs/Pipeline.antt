@@ -3,8 +3,8 @@ use Rattle.std.specs.Prelude.{◌≡◌, ℕ, ◌+◌, Bool, true, false, List, 
 use Rattle.std.specs.List.{flat_map}
 use Rattle.resp_value.specs.declared.value.Value.{Value}
 use Rattle.resp_args.specs.Args.{Args}
-use Rattle.resp_core.specs.Command.{Command}
-use Rattle.resp_core.specs.Packed.{packed, as_value}
+use Rattle.resp_command.specs.Command.{Command}
+use Rattle.resp_command.specs.Packed.{packed, as_value}
 
 -- the commands in order, a mark for each whether its reply is ignored, whether they are one
 -- transaction, and whether server errors among the replies are values as others are

@@ -11,33 +11,22 @@
 //! This crate gives out the public names of the crates below it, so a user names it alone.
 #![tactic(auto)]
 
-mod command;
 mod composing;
-mod inbox;
 pub mod laws;
-mod link;
-mod packing;
 mod pipeline;
-mod sink;
-mod start;
-mod writing;
 
-pub use command::Cmd;
-pub use link::{ByteLink, ConnectionLike};
-pub use packing::pack_command;
 pub use pipeline::{Pipeline, pipe};
 pub use resp_args::{
     ArgList, ExistenceCheck, ExpireOption, Expiry, FieldExistenceCheck, NumericBehavior,
     ProtocolVersion, RedisWrite, SetExpiry, ToRedisArgs, ToSingleRedisArg,
     is_valid_16_bytes_hex_digest, write_each_arg,
 };
+pub use resp_command::{Cmd, ConnectionLike, cmd, pack_command};
 pub use resp_from::{FromRedisValue, from_redis_value, from_redis_value_by, from_redis_value_ref};
+pub use resp_link::{ByteLink, CommandSink, Writing};
 pub use resp_parse::{Parser, Reading, ReplySource, parse_redis_value};
 pub use resp_value::{
     Boxed, Description, ErrorKind, FrameFault, IoKind, Items, MapIter, OwnedMapIter, ParsingError,
     PushInfo, PushKind, RedisError, RedisResult, ServerError, ServerErrorKind, Text, Value,
     VerbatimFormat, get_push_kind, verbatim_format,
 };
-pub use sink::CommandSink;
-pub use start::cmd;
-pub use writing::Writing;

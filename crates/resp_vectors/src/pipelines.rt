@@ -1,6 +1,6 @@
 //! Pipelines as bytes.
 
-use resp_core::laws::law_of_requests;
+use resp_core::laws::{law_of_pipelines, law_of_requests};
 use resp_core::{Cmd, ErrorKind, Pipeline, pipe};
 use std::collections::BTreeMap;
 use std::test::Fail;
@@ -22,6 +22,7 @@ fn a_pipeline_without_commands(rt: HostRuntime) -> Result<(), Fail> {
 #[test]
 fn a_transaction(rt: HostRuntime) -> Result<(), Fail> {
     law_of_requests();
+    law_of_pipelines();
     let mut pipeline = Pipeline::with_capacity(rt.alloc(), 2)?;
     let chain = pipeline.atomic().cmd("SET")?.arg("k")?.arg(1i64)?.ignore();
     let _ = chain.cmd("GET")?.arg("k")?;

@@ -21,7 +21,7 @@ impl OneAtATime {
 }
 
 impl ConnectionLike for OneAtATime {
-    ghost use Rattle.resp_core.specs.Connection.{untold};
+    ghost use Rattle.resp_core.specs.Connections.{untold};
 
     ghost connection = { λ c. untold c.broken };
 

@@ -33,7 +33,7 @@ impl Stored {
 }
 
 impl ConnectionLike for Stored {
-    ghost use Rattle.resp_core.specs.Connection.{untold};
+    ghost use Rattle.resp_core.specs.Connections.{untold};
 
     ghost connection = { λ c. untold c.broken };
 

@@ -1,6 +1,6 @@
 use Rattle.std.proofs.Common.{◌≡◌, ◌++◌, take}
 use Rattle.std.specs.List.{flat_map}
-use Rattle.resp_core.specs.Packed.{packed}
+use Rattle.resp_command.specs.Packed.{packed}
 use Rattle.resp_core.specs.Pipeline.{args_of_commands}
 use Rattle.resp_core.proofs.pipeline.append_commands.Given as goal
 

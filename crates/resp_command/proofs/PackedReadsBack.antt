@@ -1,0 +1,129 @@
+-- What a packed command spells.
+use Rattle.std.proofs.Common.{◌≡◌, ℕ, zero, suc, ◌<◌, ◌≤◌, ◌^◌, true, List, [], ◌∷◌, ◌++◌, length, map, Some, None, Ok, Err, refl, sym, ap, ◌∙◌, arith, length-append, append_assoc, append-nil}
+use Rattle.std.proofs.lemmas.Fmt.{IsAscii-decimal, digits_decimal}
+use Rattle.std.proofs.lemmas.List.{append_cancel_left}
+use Rattle.std.proofs.lemmas.Str.{IsUtf8-from_ascii}
+use Rattle.std.proofs.lemmas.Bool.{and_parts, leb-true}
+use Rattle.std.specs.Char.{is_ascii_digit}
+use Rattle.std.specs.Fmt.{decimal}
+use Rattle.std.specs.List.{flat_map}
+use Rattle.std.specs.Str.{IsUtf8, all_ascii_digits}
+use Rattle.resp_value.specs.declared.value.Value.{Value, Array, BulkString}
+use Rattle.resp_args.specs.Args.{Args}
+use Rattle.resp_parse.specs.Lines.{crlf, NoBreak}
+use Rattle.resp_parse.proofs.Prefixes.{law_of_prefixes}
+use Rattle.resp_parse.specs.Reads.{Reads}
+use Rattle.resp_parse.specs.declared.type_byte.TypeByte.{TypeByte}
+use Rattle.resp_parse.specs.declared.type_byte.TypeByte.TheVariants as type_byte
+use Rattle.resp_parse.specs.TypeBytes.{byte_of}
+use Rattle.resp_parse.specs.Grammar.{Good, Header, Joined, announced, body, elements, with_valid, or_nil}
+use Rattle.resp_value.specs.declared.errors.kinds.FrameFault.TheVariants.{NotInteger}
+use Rattle.resp_command.specs.Packed.{length_line, bulk, packed, as_value}
+use Rattle.resp_command.specs.PackingLaw.{LawOfPacking}
+use Rattle.resp_command.proofs.DecimalReadsBack.{own, number-decimal}
+
+-- no line break stands among digits
+digits_unbroken : (ds : List ℕ) → all_ascii_digits ds ≡ true → NoBreak ds
+digits_unbroken [] h [] y e = cc
+digits_unbroken [] h (x ∷ xs) y e = cc
+digits_unbroken (c ∷ cs) h [] y e =
+    let same : c ≡ 13 = cc in
+    let p = and_parts (is_ascii_digit c) (all_ascii_digits cs) h in
+    let q = and_parts _ _ p.0 in
+    let low = leb-true 48 c q.0 in
+    omega arith
+digits_unbroken (c ∷ cs) h (x ∷ xs) y e = digits_unbroken cs (and_parts (is_ascii_digit c) (all_ascii_digits cs) h).1 xs y (cc)
+
+-- the byte of a type, a length and what follows are a header
+headed : (kind : TypeByte) (len : ℕ) (rest b : List ℕ) → len < 2 ^ 63 → b ≡ length_line (byte_of kind) len ++ rest → Header b kind (decimal len) rest
+headed kind len rest b small e = record {
+  bytes = e ∙ ap (λ l. byte_of kind ∷ l) (append_assoc (decimal len) crlf rest);
+  unbroken = digits_unbroken (decimal len) (digits_decimal own len (omega arith));
+}
+
+text_of : (len : ℕ) → len < 2 ^ 63 → IsUtf8 (decimal len)
+text_of len small = IsUtf8-from_ascii (decimal len) (IsAscii-decimal len (omega arith))
+
+bulk_announced : (len : ℕ) → len < 2 ^ 63 → announced type_byte.BulkString (decimal len) ≡ body len (λ bytes. Ok (BulkString bytes))
+bulk_announced len small = ap (λ o. with_valid (elim o [ Some n ↦ Ok n | None ↦ Err NotInteger ]) (or_nil (λ k. body k (λ bytes. Ok (BulkString bytes))))) (number-decimal len small)
+
+array_announced : (len : ℕ) → len < 2 ^ 63 → announced type_byte.Array (decimal len) ≡ elements len (λ values. Ok (Array values))
+array_announced len small = ap (λ o. with_valid (elim o [ Some n ↦ Ok n | None ↦ Err NotInteger ]) (or_nil (λ k. elements k (λ values. Ok (Array values))))) (number-decimal len small)
+
+-- a frame spells its argument as a bulk string
+frame_good : (d : ℕ) (arg : List ℕ) → length arg < 2 ^ 63 → Good (suc d) (bulk arg) (BulkString arg)
+frame_good d arg small = (
+  type_byte.BulkString,
+  decimal (length arg),
+  arg ++ crlf,
+  headed type_byte.BulkString (length arg) (arg ++ crlf) (bulk arg) small refl,
+  text_of (length arg) small,
+  rw (bulk_announced (length arg) small) (arg, refl, refl, refl),
+)
+
+-- each argument is short
+abbrev AllShort : Args → Type 0
+AllShort [] = Unit {0}
+AllShort (arg ∷ args) = (length arg < 2 ^ 63) × AllShort args
+
+frames_joined : (d : ℕ) (args : Args) → AllShort args → Joined (Good (suc d)) (flat_map bulk args) (map BulkString args)
+frames_joined d [] h = refl
+frames_joined d (arg ∷ args) h = (bulk arg, flat_map bulk args, refl, frame_good d arg h.0, frames_joined d args h.1)
+
+length-map : (args : Args) → length (map BulkString args) ≡ length args
+length-map [] = refl
+length-map (arg ∷ args) = ap suc (length-map args)
+
+packed_good : (d : ℕ) (args : Args) → length args < 2 ^ 63 → AllShort args → Good (suc (suc d)) (packed args) (as_value args)
+packed_good d args few short = (
+  type_byte.Array,
+  decimal (length args),
+  flat_map bulk args,
+  headed type_byte.Array (length args) (flat_map bulk args) (packed args) few refl,
+  text_of (length args) few,
+  rw (array_announced (length args) few) (map BulkString args, length-map args, frames_joined d args short, refl),
+)
+
+frame_longer : (arg : List ℕ) → length arg < length (bulk arg)
+frame_longer arg = simp length-append (omega arith)
+
+few : (args : Args) → length args ≤ length (flat_map bulk args)
+few [] = omega arith
+few (arg ∷ args) = let rest = few args in let one = frame_longer arg in omega (arith, length-append (bulk arg) (flat_map bulk args))
+
+short : (args : Args) → length (flat_map bulk args) < 2 ^ 63 → AllShort args
+short [] h = tt
+short (arg ∷ args) h =
+    let both = length-append (bulk arg) (flat_map bulk args) in
+    let one = frame_longer arg in
+    (omega arith, short args (omega arith))
+
+-- no good list is empty
+pub good_some : (d : ℕ) (v : Value) → Good d [] v → ⊥
+good_some zero v h = h
+good_some (suc d) v h = let e = h.3.bytes in cc
+
+-- nor has an empty list a good prefix
+no_prefix : (d : ℕ) (x y : List ℕ) (v : Value) → x ++ y ≡ [] → Good d x v → ⊥
+no_prefix d [] y v e h = good_some d v h
+no_prefix d (b ∷ x) y v e h = cc
+
+-- bytes read as one list of values only
+pub joined_once : (d : ℕ) (b : List ℕ) (vs ws : List Value) → Joined (Good d) b vs → Joined (Good d) b ws → vs ≡ ws
+joined_once d b [] [] h k = refl
+joined_once d b [] (w ∷ ws) h k = absurd (no_prefix d k.0 k.1 w (sym k.2 ∙ h) k.3)
+joined_once d b (v ∷ vs) [] h k = absurd (no_prefix d h.0 h.1 v (sym h.2 ∙ k) h.3)
+joined_once d b (v ∷ vs) (w ∷ ws) h k =
+    let same = (law_of_prefixes d h.0 h.1 k.0 k.1).values v w (sym h.2 ∙ k.2) h.3 k.3 in
+    let rest : h.1 ≡ k.1 = append_cancel_left h.0 h.1 k.1 (sym h.2 ∙ k.2 ∙ ap (λ a. a ++ k.1) (sym same.0)) in
+    let others = joined_once d h.1 vs ws h.4 (rw (sym rest) at k.4) in
+    cc
+
+pub packed_reads_only : (args : Args) → LawOfPacking args
+unfolding Reads
+packed_reads_only args small =
+    let body = flat_map bulk args in
+    let some : length body < 2 ^ 63 = omega (arith, length-append (length_line (byte_of type_byte.Array) (length args)) body) in
+    let good = packed_good 98 args (let n = few args in omega arith) (short args some) in
+    let reads : Joined (Good 100) (packed args) (as_value args ∷ []) = (packed args, [], sym (append-nil (packed args)), good, refl) in
+    record { reads = reads; only = λ vs h. joined_once 100 (packed args) vs (as_value args ∷ []) h reads }

@@ -1,0 +1,64 @@
+-- What a call over a connection answers.
+use Rattle.std.specs.Prelude.{◌≡◌, ◌≢◌, ℕ, true, false, List, [], ◌∷◌, drop, Result, Ok, Err, None, codes, if◌then◌else◌, MatchOption, IsOkAnd}
+use Rattle.resp_value.specs.declared.value.Value.{Value, Nil}
+use Rattle.resp_value.specs.declared.errors.kinds.ErrorKind.TheVariants as kind
+use Rattle.resp_value.specs.declared.errors.redis_error.RedisError.{RedisError}
+use Rattle.resp_value.specs.declared.errors.redis_error.RedisError.TheVariants.{General, Server}
+use Rattle.resp_value.specs.FirstError.{first_error}
+use Rattle.resp_from.specs.Conversion.{ConvertsCall}
+use Rattle.resp_command.specs.Packed.{packed}
+use Rattle.resp_command.specs.Command.{Command}
+use Rattle.resp_command.specs.Connection.{Connection, SameKind, Exchange}
+
+-- what a connection answers that broke before
+abbrev pub broken_link : RedisError
+broken_link = General kind.Io (codes "link is broken") None
+
+-- what an empty command is refused with
+abbrev pub no_command : RedisError
+no_command = General kind.Client (codes "empty command") None
+
+-- the call is refused, and nothing changes
+pub record Refuses {A : Type 0} (old new : Connection) (e : RedisError)
+    (r : Result A RedisError) : Type 0 where
+  pub answer : r ≡ Err e
+  pub same : new ≡ old
+
+-- the contract of a call that sends q and needs n replies: refused of a broken connection, refused
+-- where the command is empty, and else an exchange
+pub record Call {A : Type 0} (old new : Connection) (IsEmpty : Type 0) (q : List ℕ) (n : ℕ)
+    (r : Result A RedisError) (answers : List Value → Type 0) : Type 0 where
+  pub same : SameKind old new
+  pub when_broken : old.broken ≡ true → Refuses old new broken_link r
+  pub when_empty : old.broken ≡ false → IsEmpty → Refuses old new no_command r
+  pub otherwise : old.broken ≡ false → (IsEmpty → ⊥) → Exchange old new q n r answers
+
+-- how many replies a command needs
+abbrev pub needed : Command → ℕ
+needed c = if c.no_response then 0 else 1
+
+-- what answers the replies to a command: its one reply, or nil for a command that needs none
+abbrev pub AnswersReply : (Value → Type 0) → List Value → Type 0
+AnswersReply answers [] = answers Nil
+AnswersReply answers (reply ∷ []) = answers reply
+AnswersReply answers (reply ∷ next ∷ more) = ⊥
+
+-- a call that sends a command
+abbrev pub CommandCall : {A : Type 0} → Connection → Connection → Command →
+    Result A RedisError → (Value → Type 0) → Type 0
+CommandCall old new c r answers =
+    Call old new (c.args ≡ []) (packed c.args) (needed c) r (AnswersReply answers)
+
+-- a call that sends a packed command and answers its reply
+abbrev pub PackedCall : Connection → Connection → List ℕ → Result Value RedisError → Type 0
+PackedCall old new q r = Call old new (q ≡ []) q 1 r (AnswersReply (λ reply. r ≡ Ok reply))
+
+-- the replies after the first of them are answered
+abbrev pub AnswersFrom : {V : Type 0} → (V → List Value) → ℕ → Result V RedisError →
+    List Value → Type 0
+AnswersFrom items offset r replies = IsOkAnd r (λ v. items v ≡ drop offset replies)
+
+-- what a query makes of a reply: its first server error, if there is one, else its conversion
+abbrev pub Answers : {A : Type 0} → (Value → A → Type 0) → Result A RedisError → Value → Type 0
+Answers of_value r reply =
+    MatchOption (first_error reply) (ConvertsCall (of_value reply) r) (λ e. r ≡ Err (Server e))

@@ -1,0 +1,162 @@
+-- What is known of a connection, and what one exchange over it leaves.
+use Rattle.std.specs.Prelude.{◌≡◌, ℕ, ◌⊎◌, Bool, true, false, List, [], ◌++◌, length, Result, Err, IsErrAnd}
+use Rattle.resp_value.specs.declared.value.Value.{Value}
+use Rattle.resp_value.specs.declared.value.PushInfo.{PushInfo}
+use Rattle.resp_value.specs.declared.errors.kinds.FrameFault.{FrameFault}
+use Rattle.resp_value.specs.declared.errors.kinds.IoKind.TheVariants.{UnexpectedEof}
+use Rattle.resp_value.specs.declared.errors.parsing_error.ParsingError.TheVariants.{Fault}
+use Rattle.resp_value.specs.declared.errors.redis_error.RedisError.{RedisError}
+use Rattle.resp_value.specs.declared.errors.redis_error.RedisError.TheVariants.{Io, Parse, OutOfMemory}
+use Rattle.resp_parse.specs.Source.{FailureCounted}
+use Rattle.resp_command.specs.Taken.{Taken, got, fault, early}
+
+pub record Connection : Type 0 where
+  -- whether the bytes below are known
+  pub observable : Bool
+  -- whether several commands may be sent at once
+  pub pipelines : Bool
+  pub sent : List ℕ
+  -- whether some of what was sent may wait to be flushed
+  pub unflushed : Bool
+  -- the bytes that were received and aren't taken, and then those that will come
+  pub incoming : List ℕ
+  -- the pushes that were set aside and aren't taken
+  pub pushes : List PushInfo
+  pub broken : Bool
+  pub source_failures : ℕ
+  pub sink_failures : ℕ
+
+-- a connection that doesn't tell its bytes and takes one command at a time: only whether it is
+-- broken is known
+abbrev pub untold : Bool → Connection
+untold broken = record {
+  observable = false;
+  pipelines = false;
+  sent = [];
+  unflushed = false;
+  incoming = [];
+  pushes = [];
+  broken = broken;
+  source_failures = 0;
+  sink_failures = 0;
+}
+
+-- what no call changes
+pub record SameKind (old new : Connection) : Type 0 where
+  pub observable : old.observable ≡ true → new.observable ≡ true
+  pub pipelines : new.pipelines ≡ old.pipelines
+
+-- what was sent grew by a prefix of the request
+pub record SentPrefix (old new q : List ℕ) : Type 0 where
+  pub prefix : List ℕ
+  pub rest : List ℕ
+  pub whole : q ≡ prefix ++ rest
+  pub sent : new ≡ old ++ prefix
+
+-- the request was sent, and nothing of it waits
+pub record Sent (old new : Connection) (q : List ℕ) : Type 0 where
+  pub bytes : old.observable ≡ true → new.sent ≡ old.sent ++ q
+  pub flushed : new.unflushed ≡ false
+
+pub record NoFailure (old new : Connection) : Type 0 where
+  pub source : new.source_failures ≡ old.source_failures
+  pub sink : new.sink_failures ≡ old.sink_failures
+
+-- the replies came: they are answered, the pushes before the last of them are set aside, every
+-- later byte is kept, and the connection is usable
+pub record Replied (old new : Connection) (q : List ℕ) (n : ℕ)
+    (answers : List Value → Type 0) : Type 0 where
+  pub replies : List Value
+  pub pushes : List PushInfo
+  pub enough : length replies ≡ n
+  pub sent : Sent old new q
+  pub takes : old.observable ≡ true → Taken n old.incoming (got replies pushes new.incoming)
+  pub listed : new.pushes ≡ old.pushes ++ pushes
+  pub usable : new.broken ≡ false
+  pub no_failure : NoFailure old new
+  pub answer : answers replies
+
+-- a fault stands in the place of a reply
+pub record Faulted {A : Type 0} (old new : Connection) (q : List ℕ) (n : ℕ)
+    (result : Result A RedisError) : Type 0 where
+  pub frame_fault : FrameFault
+  pub pushes : List PushInfo
+  pub sent : Sent old new q
+  pub takes : old.observable ≡ true → Taken n old.incoming (fault frame_fault pushes)
+  pub listed : new.pushes ≡ old.pushes ++ pushes
+  pub broken : new.broken ≡ true
+  pub no_failure : NoFailure old new
+  pub answer : result ≡ Err (Parse (Fault frame_fault))
+
+-- the incoming bytes end too early
+pub record Ended {A : Type 0} (old new : Connection) (q : List ℕ) (n : ℕ)
+    (result : Result A RedisError) : Type 0 where
+  pub pushes : List PushInfo
+  pub sent : Sent old new q
+  pub takes : old.observable ≡ true → Taken n old.incoming (early pushes)
+  pub listed : new.pushes ≡ old.pushes ++ pushes
+  pub broken : new.broken ≡ true
+  pub no_failure : NoFailure old new
+  pub answer : result ≡ Err (Io UnexpectedEof)
+
+abbrev pub IsIo : RedisError → Type 0
+IsIo (Io kind) = Unit {0}
+IsIo _ = ⊥
+
+-- the sink failed: a prefix of the request was sent, and nothing was taken
+pub record SendFailed {A : Type 0} (old new : Connection) (q : List ℕ)
+    (result : Result A RedisError) : Type 0 where
+  pub sent : old.observable ≡ true → SentPrefix old.sent new.sent q
+  pub incoming : old.observable ≡ true → new.incoming ≡ old.incoming
+  pub listed : new.pushes ≡ old.pushes
+  pub broken : new.broken ≡ true
+  pub source : new.source_failures ≡ old.source_failures
+  pub counted : FailureCounted old.sink_failures new.sink_failures
+  pub answer : IsErrAnd result IsIo
+
+-- a prefix of the bytes takes too little for n replies
+pub record TakesTooLittle (n : ℕ) (b : List ℕ) (pushes : List PushInfo) : Type 0 where
+  pub prefix : List ℕ
+  pub rest : List ℕ
+  pub whole : b ≡ prefix ++ rest
+  pub early : Taken n prefix (early pushes)
+
+-- the source failed: the request was sent, and a prefix of the incoming bytes was taken, which is
+-- too little
+pub record ReceiveFailed {A : Type 0} (old new : Connection) (q : List ℕ) (n : ℕ)
+    (result : Result A RedisError) : Type 0 where
+  pub pushes : List PushInfo
+  pub sent : Sent old new q
+  pub takes : old.observable ≡ true → TakesTooLittle n old.incoming pushes
+  pub listed : new.pushes ≡ old.pushes ++ pushes
+  pub broken : new.broken ≡ true
+  pub counted : FailureCounted old.source_failures new.source_failures
+  pub sink : new.sink_failures ≡ old.sink_failures
+  pub answer : IsErrAnd result IsIo
+
+-- the connection is broken, and a prefix of the request was sent; pushes that were set aside stay
+pub record BrokenMidway (old new : Connection) (q : List ℕ) : Type 0 where
+  pub pushes : List PushInfo
+  pub sent : old.observable ≡ true → SentPrefix old.sent new.sent q
+  pub listed : new.pushes ≡ old.pushes ++ pushes
+  pub broken : new.broken ≡ true
+
+-- memory ran out, and neither source nor sink failed: nothing was sent and nothing changed, or
+-- midway
+pub record RanOutOfMemory {A : Type 0} (old new : Connection) (q : List ℕ)
+    (result : Result A RedisError) : Type 0 where
+  pub answer : result ≡ Err OutOfMemory
+  pub no_failure : NoFailure old new
+  pub left : (new ≡ old) ⊎ BrokenMidway old new q
+
+-- what a call does that sends q and needs n replies; answers says what the replies make of it.
+-- What bytes were sent and taken is said where the connection tells them; how the connection is
+-- left, always
+pub data Exchange {A : Type 0} (old new : Connection) (q : List ℕ) (n : ℕ)
+    (result : Result A RedisError) (answers : List Value → Type 0) : Type 0 where
+  replied : Replied old new q n answers → Exchange old new q n result answers
+  faulted : Faulted old new q n result → Exchange old new q n result answers
+  ended : Ended old new q n result → Exchange old new q n result answers
+  send_failed : SendFailed old new q result → Exchange old new q n result answers
+  receive_failed : ReceiveFailed old new q n result → Exchange old new q n result answers
+  out_of_memory : RanOutOfMemory old new q result → Exchange old new q n result answers

@@ -1,0 +1,46 @@
+//! Connections.
+
+ghost use Rattle.std.specs.Prelude.{◌≡◌, ◌+◌, Ok, IfOk, length};
+ghost use Rattle.resp_command.specs.Connection.{Connection};
+ghost use Rattle.resp_command.specs.Call.{Call, CommandCall, PackedCall, AnswersFrom};
+
+use crate::command::Cmd;
+use resp_value::{RedisResult, Value};
+
+/// A connection to a server: something that takes requests and answers replies.
+///
+/// Each request is refused, in this order: where the connection broke before; for an empty
+/// command; for a fault of sending or flushing; for a fault of receiving; for an early end; for
+/// bytes that are no reply. `OutOfMemory` may come at any place. After a refusal of the last four,
+/// and on `OutOfMemory` once sending was begun, the connection is broken permanently.
+///
+/// Pushes that stand before the last reply to a request are set aside, and count as no reply.
+pub trait ConnectionLike {
+    /// What is known of it: what was sent, what is incoming, whether it is broken.
+    ghost connection: { Self → Connection };
+
+    /// Sends a command and answers its reply, or `Nil` at once where none is waited for.
+    fn req_command(&mut self, cmd: &Cmd) -> RedisResult<Value>
+        ensures { CommandCall (connection self.old) (connection self.new) cmd.now result
+            (λ reply. result ≡ Ok reply) };
+
+    /// Sends a packed command and answers its reply. No bytes are an empty command.
+    fn req_packed_command(&mut self, bytes: &[u8]) -> RedisResult<Value>
+        ensures { PackedCall (connection self.old) (connection self.new) bytes.now result };
+
+    /// Sends packed commands, drops the first replies, `offset` of them, and answers the next,
+    /// `count` of them.
+    fn req_packed_commands(
+        &mut self,
+        bytes: &[u8],
+        offset: usize,
+        count: usize,
+    ) -> RedisResult<Vec<Value>>
+        ensures call { Call (connection self.old) (connection self.new) ⊥ bytes.now (offset + count)
+            result (AnswersFrom (λ vs. vs.items) offset result) }
+        ensures counted { IfOk result (λ vs. length vs.items ≡ count) };
+
+    /// Whether several commands may be sent at once.
+    fn supports_pipelining(&self) -> bool
+        ensures { result ≡ (connection self.now).pipelines };
+}

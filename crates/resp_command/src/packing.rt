@@ -1,0 +1,71 @@
+//! Requests as bytes.
+
+ghost use Rattle.std.specs.Prelude.{◌≡◌, ◌++◌, length, take, IfOk, OnOk, OnErr};
+ghost use Rattle.resp_value.specs.Memory.{OnlyMemory};
+ghost use Rattle.resp_args.specs.Args.{args_of};
+ghost use Rattle.resp_command.specs.Packed.{length_line, bulk, packed};
+
+use itoa::Buffer;
+use resp_value::RedisResult;
+use std::alloc::Global;
+
+/// The bytes that send a command of these arguments (RESP, "Sending commands to a Redis server").
+///
+/// `*`, the number of arguments and CR LF; then for each argument `$`, its length in bytes, CR LF,
+/// its bytes and CR LF. No arguments at all give `*0` and CR LF. Fails only with `OutOfMemory`.
+pub fn pack_command(alloc: Global, args: &[Vec<u8>]) -> RedisResult<Vec<u8>>
+    ensures packed { IfOk result (λ bytes. bytes.items ≡ packed (args_of args.now)) }
+    ensures memory { OnlyMemory result }
+{
+    let mut bytes = Vec::new(alloc);
+    append_packed(&mut bytes, args)?;
+    Ok(bytes)
+}
+
+/// Appends a packed command; on `OutOfMemory` the bytes are as they were.
+pub fn write_packed(out: &mut Vec<u8>, args: &[Vec<u8>]) -> RedisResult<()>
+    ensures written { OnOk result (out.new.items ≡ out.old.items ++ packed (args_of args.now)) }
+    ensures unchanged { OnErr result (out.new.items ≡ out.old.items) }
+    ensures memory { OnlyMemory result }
+{
+    let before = out.len();
+    if let Err(error) = append_packed(out, args) {
+        out.truncate(before);
+        return Err(error);
+    }
+    Ok(())
+}
+
+fn append_packed(out: &mut Vec<u8>, args: &[Vec<u8>]) -> RedisResult<()>
+    ensures written { OnOk result (out.new.items ≡ out.old.items ++ packed (args_of args.now)) }
+    ensures prefix { take (length out.old.items) out.new.items ≡ out.old.items }
+    ensures memory { OnlyMemory result }
+{
+    append_length_line(out, b'*', args.len())?;
+    for arg in args {
+        append_bulk(out, arg.as_slice())?;
+    }
+    Ok(())
+}
+
+fn append_bulk(out: &mut Vec<u8>, arg: &[u8]) -> RedisResult<()>
+    ensures written { OnOk result (out.new.items ≡ out.old.items ++ bulk arg.now) }
+    ensures prefix { take (length out.old.items) out.new.items ≡ out.old.items }
+    ensures memory { OnlyMemory result }
+{
+    append_length_line(out, b'$', arg.len())?;
+    out.extend_from_slice(arg)?;
+    out.extend_from_slice(b"\r\n")?;
+    Ok(())
+}
+
+fn append_length_line(out: &mut Vec<u8>, mark: u8, len: usize) -> RedisResult<()>
+    ensures written { OnOk result (out.new.items ≡ out.old.items ++ length_line mark len) }
+    ensures prefix { take (length out.old.items) out.new.items ≡ out.old.items }
+    ensures memory { OnlyMemory result }
+{
+    out.push(mark)?;
+    out.extend_from_slice(Buffer::new().format(len).as_bytes())?;
+    out.extend_from_slice(b"\r\n")?;
+    Ok(())
+}

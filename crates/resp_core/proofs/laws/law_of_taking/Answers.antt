@@ -1,5 +1,0 @@
-use Rattle.resp_core.proofs.OneTaking.{takes_one_thing}
-use Rattle.resp_core.proofs.laws.law_of_taking.Goals as goal
-
-pub returns : goal.returns
-returns c = takes_one_thing

@@ -1,0 +1,10 @@
+-- What the contracts of commands and connections cite, given out for the crates of users.
+pub use Rattle.resp_command.specs.Call.{Call, CommandCall, PackedCall, Answers, Refuses}
+pub use Rattle.resp_command.specs.Command.{Command, new_command}
+pub use Rattle.resp_command.specs.CommandQuery.{CommandQuery}
+pub use Rattle.resp_command.specs.Connection.{Connection, Exchange, untold}
+pub use Rattle.resp_command.specs.Packed.{packed}
+pub use Rattle.resp_command.specs.Taken.{Taken, Taking, TakesOneThing}
+pub use Rattle.resp_link.specs.Linking.{connection_of}
+pub use Rattle.resp_link.specs.Receiving.{Inflow, inflow_of}
+pub use Rattle.resp_link.specs.Sink.{Sink, sink_of}

@@ -1,0 +1,3 @@
+pub mod LinkExchanges
+pub mod Receiving
+pub mod SentSoFar

@@ -1,0 +1,150 @@
+-- A request, and then its replies.
+use Rattle.std.proofs.Common.{◌≡◌, ◌&&◌, ℕ, ◌<◌, List, [], ◌∷◌, ◌++◌, length, true, false, Bool, append-nil, append_assoc, sym, ap, ◌∙◌, refl, Result, Ok, Err, inr}
+use Rattle.resp_value.specs.declared.value.Value.{Value}
+use Rattle.resp_value.specs.declared.value.PushInfo.{PushInfo}
+use Rattle.resp_value.specs.declared.errors.kinds.IoKind.{IoKind}
+use Rattle.resp_value.specs.declared.errors.kinds.FrameFault.{FrameFault}
+use Rattle.resp_value.specs.declared.errors.redis_error.RedisError.{RedisError}
+use Rattle.resp_value.specs.declared.errors.redis_error.RedisError.TheVariants.{Io}
+use Rattle.resp_parse.specs.Prefixes.{HasFaultyPrefix, IsUnfinished}
+use Rattle.resp_link.specs.Linking.{connection_of, Exchanges}
+use Rattle.resp_link.specs.Sink.{Sink, SendsAll}
+use Rattle.resp_command.specs.Taken.{Taken, got, fault, early, pushes_in, replies_in, PrefixReads}
+use Rattle.resp_link.specs.Receiving.{Inflow, ReadsOn, StopsReceiving, Receives, CannotReceive, HasUnfinishedPrefix, faulty, ended, interrupted, out_of_memory}
+use Rattle.resp_command.specs.Connection as connection
+use Rattle.resp_command.specs.Connection.{Connection, SameKind, Sent, Exchange, TakesTooLittle}
+
+both_true : (a b : Bool) → (a && b) ≡ true → (a ≡ true) × (b ≡ true)
+both_true true b h = (refl, h)
+both_true false b h = (h, cc)
+
+and_true : (a b : Bool) → a ≡ true → b ≡ true → (a && b) ≡ true
+and_true a b h k = rw (h, k) refl
+
+taken_got : (n : ℕ) (i i' : Inflow) (replies : List Value) (r : Receives n i i' replies) → i.observable ≡ true → Taken n i.incoming (got replies (pushes_in r.values) i'.incoming)
+unfolding Taken
+taken_got n i i' replies r told = record { values = r.values; prefix = r.on.prefix told; ends = r.ends; replies_are = r.replies_are; pushes_are = refl }
+
+-- what was read before it stopped
+module _ (n : ℕ) (i i' : Inflow) (e : RedisError) (r : CannotReceive n i i' e) (few : length (replies_in r.values) < n) where
+  taken_fault : (f : FrameFault) → (r.at.observable ≡ true → HasFaultyPrefix 100 r.at.incoming f) → i.observable ≡ true → Taken n i.incoming (fault f (pushes_in r.values))
+  unfolding Taken
+  taken_fault f bad told = record { values = r.values; rest = r.at.incoming; prefix = r.on.prefix told; few = few; pushes_are = refl; follows = bad (r.on.observable told) }
+
+  taken_early : (r.at.observable ≡ true → IsUnfinished 100 r.at.incoming) → i.observable ≡ true → Taken n i.incoming (early (pushes_in r.values))
+  unfolding Taken
+  taken_early unfinished told = record { values = r.values; rest = r.at.incoming; prefix = r.on.prefix told; few = few; pushes_are = refl; follows = unfinished (r.on.observable told) }
+
+  too_little : (r.at.observable ≡ true → HasUnfinishedPrefix r.at.incoming) → i.observable ≡ true → TakesTooLittle n i.incoming (pushes_in r.values)
+  unfolding Taken
+  too_little some told =
+      let p = r.on.prefix told in
+      let u = some (r.on.observable told) in
+      record {
+        prefix = p.prefix ++ u.prefix;
+        rest = u.rest;
+        whole = p.whole ∙ ap (λ s. p.prefix ++ s) u.whole ∙ sym (append_assoc p.prefix u.prefix u.rest);
+        early = record {
+          values = r.values;
+          rest = u.prefix;
+          prefix = record { prefix = p.prefix; whole = refl; reads = p.reads };
+          few = few;
+          pushes_are = refl;
+          follows = u.unfinished;
+        };
+      }
+
+-- what came in while nothing or everything was sent
+module _ (i i' : Inflow) (k k' : Sink) (b b' : Bool) where
+  same_kind : (i.observable ≡ true → i'.observable ≡ true) → (k.observable ≡ true → k'.observable ≡ true) → SameKind (connection_of i k b) (connection_of i' k' b')
+  same_kind f g = record {
+    observable = λ told. let t = both_true i.observable k.observable told in and_true i'.observable k'.observable (f t.0) (g t.1);
+    pipelines = refl;
+  }
+
+  sent_whole : (q : List ℕ) → SendsAll k k' q (Ok tt) → Sent (connection_of i k b) (connection_of i' k' b') q
+  sent_whole q sending = record { bytes = λ told. sending.bytes (both_true i.observable k.observable told).1; flushed = sending.flushed }
+
+-- the request wasn't sent whole
+pub unsent : {A : Type 0} (i : Inflow) (k k' : Sink) (b : Bool) (q : List ℕ) (n : ℕ) (kind : IoKind) (answers : List Value → Type 0) →
+    SendsAll k k' q (Err kind) → Exchanges {A = A} (connection_of i k b) (connection_of i k' true) q n (Err (Io kind)) answers
+unsent i k k' b q n kind answers sending = record {
+  same = same_kind i i k k' b true (λ t. t) sending.observable;
+  exchange = connection.send_failed (record {
+    sent = λ told. sending.bytes (both_true i.observable k.observable told).1;
+    incoming = λ _. refl;
+    listed = refl;
+    broken = refl;
+    source = refl;
+    counted = sending.failures;
+    answer = tt;
+  });
+}
+
+-- the replies came
+pub replied : {A : Type 0} (i i' : Inflow) (k k' : Sink) (b : Bool) (q : List ℕ) (n : ℕ) (replies : List Value) (result : Result A RedisError) (answers : List Value → Type 0) →
+    SendsAll k k' q (Ok tt) → Receives n i i' replies → answers replies → Exchanges (connection_of i k b) (connection_of i' k' false) q n result answers
+replied i i' k k' b q n replies result answers sending r answer = record {
+  same = same_kind i i' k k' b false r.on.observable sending.observable;
+  exchange = connection.replied (record {
+    replies = replies;
+    pushes = pushes_in r.values;
+    enough = ap length r.replies_are ∙ r.ends.enough;
+    sent = sent_whole i i' k k' b false q sending;
+    takes = λ told. taken_got n i i' replies r (both_true i.observable k.observable told).0;
+    listed = r.on.pushes;
+    usable = refl;
+    no_failure = record { source = r.on.failures; sink = sending.failures };
+    answer = answer;
+  });
+}
+
+missed : {A : Type 0} (i i' : Inflow) (k k' : Sink) (b : Bool) (q : List ℕ) (n : ℕ) (e : RedisError) (answers : List Value → Type 0) →
+    SendsAll k k' q (Ok tt) → (r : CannotReceive n i i' e) → StopsReceiving (length (replies_in r.values) < n) r.at i' e → Exchange {A = A} (connection_of i k b) (connection_of i' k' true) q n (Err e) answers
+missed i i' k k' b q n e answers sending r (faulty f few is bad same) = connection.faulted (record {
+  frame_fault = f;
+  pushes = pushes_in r.values;
+  sent = sent_whole i i' k k' b true q sending;
+  takes = λ told. taken_fault n i i' e r few f bad (both_true i.observable k.observable told).0;
+  listed = r.pushes ∙ r.on.pushes;
+  broken = refl;
+  no_failure = record { source = same ∙ r.on.failures; sink = sending.failures };
+  answer = ap Err is;
+})
+missed i i' k k' b q n e answers sending r (ended few is unfinished same) = connection.ended (record {
+  pushes = pushes_in r.values;
+  sent = sent_whole i i' k k' b true q sending;
+  takes = λ told. taken_early n i i' e r few unfinished (both_true i.observable k.observable told).0;
+  listed = r.pushes ∙ r.on.pushes;
+  broken = refl;
+  no_failure = record { source = same ∙ r.on.failures; sink = sending.failures };
+  answer = ap Err is;
+})
+missed i i' k k' b q n e answers sending r (interrupted kind few is some counted) = connection.receive_failed (record {
+  pushes = pushes_in r.values;
+  sent = sent_whole i i' k k' b true q sending;
+  takes = λ told. too_little n i i' e r few some (both_true i.observable k.observable told).0;
+  listed = r.pushes ∙ r.on.pushes;
+  broken = refl;
+  counted = rw (r.on.failures) at counted;
+  sink = sending.failures;
+  answer = rw is tt;
+})
+missed i i' k k' b q n e answers sending r (out_of_memory is same) = connection.out_of_memory (record {
+  answer = ap Err is;
+  no_failure = record { source = same ∙ r.on.failures; sink = sending.failures };
+  left = inr (record {
+    pushes = pushes_in r.values;
+    sent = λ told. record { prefix = q; rest = []; whole = sym (append-nil q); sent = sending.bytes (both_true i.observable k.observable told).1 };
+    listed = r.pushes ∙ r.on.pushes;
+    broken = refl;
+  });
+})
+
+-- fewer replies came than were needed
+pub unanswered : {A : Type 0} (i i' : Inflow) (k k' : Sink) (b : Bool) (q : List ℕ) (n : ℕ) (e : RedisError) (answers : List Value → Type 0) →
+    SendsAll k k' q (Ok tt) → CannotReceive n i i' e → Exchanges {A = A} (connection_of i k b) (connection_of i' k' true) q n (Err e) answers
+unanswered i i' k k' b q n e answers sending r = record {
+  same = same_kind i i' k k' b true (λ t. r.observable (r.on.observable t)) sending.observable;
+  exchange = missed i i' k k' b q n e answers sending r r.stops;
+}

@@ -1,0 +1,152 @@
+-- Reading on: what was received before, and then what is received next.
+use Rattle.std.proofs.Common.{◌≡◌, ℕ, ◌+◌, ◌<◌, ◌≤◌, Bool, true, false, List, [], ◌∷◌, ◌++◌, length, drop, refl, sym, ap, ◌∙◌, append_assoc, append-nil, arith, Ok, Err, None, Some}
+use Rattle.std.proofs.lemmas.Grind.{common_steps}
+use Rattle.resp_value.specs.declared.value.Value.{Value, Push}
+use Rattle.resp_value.specs.declared.value.PushInfo.{PushInfo}
+use Rattle.resp_value.specs.declared.errors.redis_error.RedisError.{RedisError}
+use Rattle.resp_value.specs.declared.errors.redis_error.RedisError.TheVariants as form
+use Rattle.resp_parse.specs.Prefixes.{HasGoodPrefix, HasFaultyPrefix, IsUnfinished}
+use Rattle.resp_parse.specs.Source.{Source}
+use Rattle.resp_parse.specs.State.{State}
+use Rattle.resp_parse.specs.Calls.{Parses, Parsed, CannotParse, faulty, early, interrupted, out_of_memory}
+use Rattle.resp_parse.proofs.LongerPrefixes.{HasGoodPrefix-whole, HasFaultyPrefix-whole, IsUnfinished-whole}
+use Rattle.resp_command.specs.Taken.{push_of, replies_in, pushes_in, PrefixReads, EndsAtReply}
+use Rattle.resp_link.specs.Receiving as receiving
+use Rattle.resp_link.specs.Receiving.{Inflow, inflow_of, ReadsOn, StopsReceiving, Receives, CannotReceive}
+use Rattle.resp_command.proofs.Values.{reads_nothing, reads_one, reads_both, replies_in-append, pushes_in-append, count-append, ends_at_nothing, ends_after_pushes, ends_after_both}
+
+pub on_nothing : (at : Inflow) → ReadsOn at at []
+on_nothing at = record { observable = λ t. t; prefix = λ t. reads_nothing at.incoming; pushes = sym (append-nil at.pushes); failures = refl }
+
+pub on_both : (a b c : Inflow) (vs ws : List Value) → ReadsOn a b vs → ReadsOn b c ws → ReadsOn a c (vs ++ ws)
+on_both a b c vs ws h k = record {
+  observable = λ t. k.observable (h.observable t);
+  prefix = λ t. reads_both a.incoming b.incoming c.incoming vs ws (h.prefix t) (k.prefix (h.observable t));
+  pushes = k.pushes ∙ ap (λ l. l ++ pushes_in ws) h.pushes ∙ append_assoc a.pushes (pushes_in vs) (pushes_in ws) ∙ ap (λ l. a.pushes ++ l) (sym (pushes_in-append vs ws));
+  failures = k.failures ∙ h.failures;
+}
+
+-- a value that was parsed, and set aside where it is a push
+on_value : (s t : Source) (unparsed : List ℕ) (new : State) (p : List PushInfo) (v : Value) → (s.observable ≡ true → t.observable ≡ true) → Parses unparsed new s t (Ok v) →
+    ReadsOn (inflow_of unparsed s p) (inflow_of new.unparsed t (p ++ pushes_in (v ∷ []))) (v ∷ [])
+on_value s t unparsed new p v observable parsed = record {
+  observable = observable;
+  prefix = λ told. reads_one (unparsed ++ s.bytes) (new.unparsed ++ t.bytes) v (HasGoodPrefix-whole unparsed parsed.filled s t (parsed.came told) v new.unparsed parsed.value);
+  pushes = refl;
+  failures = parsed.failures;
+}
+
+stops : (Needed : Type 0) (s t : Source) (unparsed : List ℕ) (new : State) (p : List PushInfo) (e : RedisError) → Needed → CannotParse unparsed e new s t → StopsReceiving Needed (inflow_of unparsed s p) (inflow_of new.unparsed t p) e
+stops Needed s t unparsed new p e needed (faulty f filled is bad failed) =
+    receiving.faulty f needed is (λ told. HasFaultyPrefix-whole unparsed filled s t (failed.came told) f bad) failed.failures
+stops Needed s t unparsed new p e needed (early filled is unfinished nothing failed) =
+    receiving.ended needed is (λ told. IsUnfinished-whole unparsed filled s t (failed.came told) (nothing told) unfinished) failed.failures
+stops Needed s t unparsed new p e needed (interrupted kind is midway) = receiving.interrupted kind needed is (λ told. record {
+  prefix = unparsed ++ midway.filled;
+  rest = t.bytes;
+  whole = (let came = midway.came told in grind (arith, common_steps));
+  unfinished = midway.unfinished;
+}) midway.failures
+stops Needed s t unparsed new p e needed (out_of_memory filled is failed) = receiving.out_of_memory is failed.failures
+
+-- a stop where more is needed still
+stops-needed : (Needed More : Type 0) (at now : Inflow) (e : RedisError) → (Needed → More) → StopsReceiving Needed at now e → StopsReceiving More at now e
+stops-needed Needed More at now e f (receiving.faulty fault n is bad same) = receiving.faulty fault (f n) is bad same
+stops-needed Needed More at now e f (receiving.ended n is unfinished same) = receiving.ended (f n) is unfinished same
+stops-needed Needed More at now e f (receiving.interrupted kind n is some counted) = receiving.interrupted kind (f n) is some counted
+stops-needed Needed More at now e f (receiving.out_of_memory is same) = receiving.out_of_memory is same
+
+-- pushes alone came so far
+pub record OnlyPushes (old at : Inflow) : Type 0 where
+  pub values : List Value
+  pub on : ReadsOn old at values
+  pub none : replies_in values ≡ []
+
+pub only_pushes_none : (at : Inflow) → OnlyPushes at at
+only_pushes_none at = record { values = []; on = on_nothing at; none = refl }
+
+-- one push more
+pub only_pushes_more : (old : Inflow) (s t : Source) (unparsed : List ℕ) (new : State) (p p' : List PushInfo) (v : Value) (info : PushInfo) →
+    OnlyPushes old (inflow_of unparsed s p) → (s.observable ≡ true → t.observable ≡ true) → Parses unparsed new s t (Ok v) →
+    push_of v ≡ Some info → p' ≡ p ++ info ∷ [] → OnlyPushes old (inflow_of new.unparsed t p')
+only_pushes_more old s t unparsed new p p' v info so_far observable parsed push listed =
+    let step = on_value s t unparsed new p v observable parsed in
+    let list : p ++ pushes_in (v ∷ []) ≡ p' = rw push (sym listed) in
+    record {
+      values = so_far.values ++ v ∷ [];
+      on = on_both old (inflow_of unparsed s p) (inflow_of new.unparsed t p') so_far.values (v ∷ []) so_far.on (rw list at step);
+      none = replies_in-append so_far.values (v ∷ []) ∙ rw (so_far.none, push) refl;
+    }
+
+-- the reply after the pushes
+pub received_one : (old : Inflow) (s t : Source) (unparsed : List ℕ) (new : State) (p : List PushInfo) (v : Value) → OnlyPushes old (inflow_of unparsed s p) →
+    (s.observable ≡ true → t.observable ≡ true) → Parses unparsed new s t (Ok v) → push_of v ≡ None → Receives 1 old (inflow_of new.unparsed t p) (v ∷ [])
+received_one old s t unparsed new p v so_far observable parsed reply =
+    let step = on_value s t unparsed new p v observable parsed in
+    let quiet : p ++ pushes_in (v ∷ []) ≡ p = rw reply (append-nil p) in
+    record {
+      values = so_far.values ++ v ∷ [];
+      on = on_both old (inflow_of unparsed s p) (inflow_of new.unparsed t p) so_far.values (v ∷ []) so_far.on (rw quiet at step);
+      ends = ends_after_pushes so_far.values v so_far.none reply;
+      replies_are = sym (replies_in-append so_far.values (v ∷ []) ∙ rw (so_far.none, reply) refl);
+    }
+
+-- no reply after the pushes
+pub received_none : (old : Inflow) (s t : Source) (unparsed : List ℕ) (new : State) (p : List PushInfo) (e : RedisError) → OnlyPushes old (inflow_of unparsed s p) →
+    (s.observable ≡ true → t.observable ≡ true) → Parses unparsed new s t (Err e) → CannotReceive 1 old (inflow_of new.unparsed t p) e
+received_none old s t unparsed new p e so_far observable parses = record {
+  values = so_far.values;
+  at = inflow_of unparsed s p;
+  on = so_far.on;
+  observable = observable;
+  pushes = refl;
+  stops = stops _ s t unparsed new p e (let none = ap length so_far.none in omega arith) parses;
+}
+
+-- a push that found no room
+pub no_room : (old : Inflow) (s t : Source) (unparsed : List ℕ) (new : State) (p : List PushInfo) (v : Value) → OnlyPushes old (inflow_of unparsed s p) →
+    (s.observable ≡ true → t.observable ≡ true) → Parses unparsed new s t (Ok v) → CannotReceive 1 old (inflow_of new.unparsed t p) form.OutOfMemory
+no_room old s t unparsed new p v so_far observable parsed = record {
+  values = so_far.values;
+  at = inflow_of unparsed s p;
+  on = so_far.on;
+  observable = observable;
+  pushes = refl;
+  stops = receiving.out_of_memory refl parsed.failures;
+}
+
+pub receives_none : (at : Inflow) → Receives 0 at at []
+receives_none at = record { values = []; on = on_nothing at; ends = ends_at_nothing; replies_are = refl }
+
+pub receives_both : (m n : ℕ) (a b c : Inflow) (rs ss : List Value) → Receives m a b rs → Receives n b c ss → Receives (m + n) a c (rs ++ ss)
+receives_both m n a b c rs ss h k = record {
+  values = h.values ++ k.values;
+  on = on_both a b c h.values k.values h.on k.on;
+  ends = ends_after_both m n h.values k.values h.ends k.ends;
+  replies_are = ap (λ l. l ++ ss) h.replies_are ∙ ap (λ l. replies_in h.values ++ l) k.replies_are ∙ sym (replies_in-append h.values k.values);
+}
+
+pub cannot_receive_after : (m k n : ℕ) (a b c : Inflow) (rs : List Value) (e : RedisError) → m + k ≤ n → Receives m a b rs → CannotReceive k b c e → CannotReceive n a c e
+cannot_receive_after m k n a b c rs e within h stop = record {
+  values = h.values ++ stop.values;
+  at = stop.at;
+  on = on_both a b stop.at h.values stop.values h.on stop.on;
+  observable = stop.observable;
+  pushes = stop.pushes;
+  stops = stops-needed _ _ stop.at c e (λ more. let some = h.ends.enough in let both = count-append h.values stop.values in omega arith) stop.stops;
+}
+
+-- replies that came, and for which there was no room
+pub no_room_after : (m n : ℕ) (a b : Inflow) (rs : List Value) → Receives m a b rs → CannotReceive n a b form.OutOfMemory
+no_room_after m n a b rs h = record {
+  values = h.values;
+  at = b;
+  on = h.on;
+  observable = λ t. t;
+  pushes = refl;
+  stops = receiving.out_of_memory refl refl;
+}
+
+-- what is kept of replies whose first were dropped
+pub kept_after : (n : ℕ) (a b : Inflow) (dropped kept : List Value) → Receives n a b dropped → kept ≡ drop n (dropped ++ kept)
+kept_after n a b dropped kept h = let len : length dropped ≡ n = ap length h.replies_are ∙ h.ends.enough in rw (← len) (grind (arith, common_steps))

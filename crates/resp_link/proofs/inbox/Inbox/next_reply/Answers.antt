@@ -1,0 +1,38 @@
+use Rattle.std.proofs.Common.{rules, refl}
+use Rattle.std.proofs.lemmas.Result.{err_from_is_err_and}
+use Rattle.resp_command.proofs.Values.{push_of-Push}
+use Rattle.resp_link.proofs.Receiving.{only_pushes_none, only_pushes_more, received_one, received_none}
+use Rattle.resp_link.proofs.inbox.Inbox.next_reply.Goals as goal
+
+pub loop-kind-init : goal.loop-kind-init
+loop-kind-init g c = record { rest = c.requires; only = only_pushes_none _ }
+
+pub returns-in_err-reply-clause-reply : goal.returns-in_err-reply-clause-reply
+returns-in_err-reply-clause-reply g c =
+    let source = g.S.ReplySource.source in
+    let at = c.loop-kind.self in
+    let p = err_from_is_err_and c.from_residual.result c.from_residual.ensures.1 in
+    rw (p.1, p.2) (received_none _ (source at.source) _ at.parser.unparsed c.parse_from.new.self _ _ c.loop-kind.invariant.only
+    c.parse_from.ensures.observable (rw c.in_err-reply.was at c.parse_from.ensures.parses at.parser.unparsed c.loop-kind.invariant.rest.stands))
+
+pub loop-kind-preserved : goal.loop-kind-preserved
+loop-kind-preserved g c =
+    let source = g.S.ReplySource.source in
+    let at = c.loop-kind.self in
+    let parsed = rw c.in_ok-reply.was at c.parse_from.ensures.parses at.parser.unparsed c.loop-kind.invariant.rest.stands in
+    record {
+      rest = parsed.rest;
+      only = only_pushes_more _ (source at.source) _ at.parser.unparsed c.parse_from.new.self _ _ c.in_ok-reply.reply (record { kind = c.in-Push.kind; payload = c.in-Push.payload }) c.loop-kind.invariant.only
+          c.parse_from.ensures.observable parsed (rw c.in-Push.is (push_of-Push _ _)) (search rules);
+    }
+
+pub returns-in_default : goal.returns-in_default
+returns-in_default g c =
+    let source = g.S.ReplySource.source in
+    let at = c.loop-kind.self in
+    let parsed = rw c.in_ok-reply.was at c.parse_from.ensures.parses at.parser.unparsed c.loop-kind.invariant.rest.stands in
+    record {
+      reply = received_one _ (source at.source) _ at.parser.unparsed c.parse_from.new.self _ c.in_ok-reply.reply c.loop-kind.invariant.only
+          c.parse_from.ensures.observable parsed (search rules);
+      rest = parsed.rest;
+    }

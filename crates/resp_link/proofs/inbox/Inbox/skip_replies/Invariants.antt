@@ -1,0 +1,15 @@
+use Rattle.std.proofs.Common.{◌-◌, ◌≤◌, ◌≡◌}
+use Rattle.resp_parse.specs.State.{IsBetweenValues}
+use Rattle.resp_link.specs.Receiving.{inflow_of, Skips}
+use Rattle.resp_link.proofs.inbox.Inbox.skip_replies.Given as goal
+
+abbrev pub invariant-loop : goal.invariant-loop
+invariant-loop g l =
+    let source = g.S.ReplySource.source in
+    record {
+      within : l.counter ≤ l.count;
+      rest : IsBetweenValues l.self.parser;
+      so_far : Skips l.counter
+          (inflow_of l.initial.self.parser.unparsed (source l.initial.self.source) l.initial.self.pushes.items)
+          (inflow_of l.self.parser.unparsed (source l.self.source) l.self.pushes.items);
+    }

@@ -1,0 +1,18 @@
+use Rattle.std.proofs.Common.{refl}
+use Rattle.std.proofs.lemmas.Result.{err_from_is_err_and}
+use Rattle.resp_link.proofs.LinkExchanges.{replied, unanswered}
+use Rattle.resp_link.proofs.link.ByteLink.exchange_one.Goals as goal
+
+pub returns-in_err-reply : goal.returns-in_err-reply
+returns-in_err-reply g c =
+    let p = err_from_is_err_and c.from_residual-in_err-reply.result c.from_residual-in_err-reply.ensures.1 in
+    record {
+      exchanged = rw (p.1, p.2) (unanswered _ _ _ _ _ _ 1 _ _ (rw c.in_ok-send_all.was at c.send_all.ensures)
+          (rw c.in_err-reply.was at c.next_reply.ensures.reply));
+    }
+
+pub returns : goal.returns
+returns g c = record {
+  exchanged = replied _ _ _ _ _ _ 1 _ _ _ (rw c.in_ok-send_all.was at c.send_all.ensures)
+      (rw c.in_ok-reply.was at c.next_reply.ensures.reply) refl;
+}

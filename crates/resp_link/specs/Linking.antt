@@ -1,0 +1,28 @@
+-- What a link over a source and a sink is as a connection.
+use Rattle.std.specs.Prelude.{◌≡◌, ℕ, ◌&&◌, Bool, true, List, ◌++◌, Result}
+use Rattle.resp_value.specs.declared.value.Value.{Value}
+use Rattle.resp_value.specs.declared.value.PushInfo.{PushInfo}
+use Rattle.resp_value.specs.declared.errors.redis_error.RedisError.{RedisError}
+use Rattle.resp_link.specs.Sink.{Sink}
+use Rattle.resp_command.specs.Connection.{Connection, SameKind, Exchange}
+use Rattle.resp_link.specs.Receiving.{Inflow}
+
+-- what comes in, what goes out, and whether the link is broken
+abbrev pub connection_of : Inflow → Sink → Bool → Connection
+connection_of inflow sink broken = record {
+  observable = inflow.observable && sink.observable;
+  pipelines = true;
+  sent = sink.bytes;
+  unflushed = sink.unflushed;
+  incoming = inflow.incoming;
+  pushes = inflow.pushes;
+  broken = broken;
+  source_failures = inflow.failures;
+  sink_failures = sink.failures;
+}
+
+-- what the exchange of a connection does that isn't broken
+pub record Exchanges {A : Type 0} (old new : Connection) (q : List ℕ) (n : ℕ)
+    (result : Result A RedisError) (answers : List Value → Type 0) : Type 0 where
+  pub same : SameKind old new
+  pub exchange : Exchange old new q n result answers

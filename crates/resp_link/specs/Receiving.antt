@@ -1,0 +1,82 @@
+-- What a receiver of replies does: it reads values, sets pushes aside, and stops at a reply or at
+-- what is none.
+use Rattle.std.specs.Prelude.{◌≡◌, ℕ, ◌<◌, Bool, true, List, [], ◌∷◌, ◌++◌, length}
+use Rattle.resp_value.specs.declared.value.Value.{Value}
+use Rattle.resp_value.specs.declared.value.PushInfo.{PushInfo}
+use Rattle.resp_value.specs.declared.errors.kinds.FrameFault.{FrameFault}
+use Rattle.resp_value.specs.declared.errors.kinds.IoKind.{IoKind}
+use Rattle.resp_value.specs.declared.errors.kinds.IoKind.TheVariants.{UnexpectedEof}
+use Rattle.resp_value.specs.declared.errors.parsing_error.ParsingError.TheVariants as parsing
+use Rattle.resp_value.specs.declared.errors.redis_error.RedisError.{RedisError}
+use Rattle.resp_value.specs.declared.errors.redis_error.RedisError.TheVariants as form
+use Rattle.resp_parse.specs.Prefixes.{HasFaultyPrefix, IsUnfinished}
+use Rattle.resp_parse.specs.Source.{Source, FailureCounted}
+use Rattle.resp_command.specs.Taken.{PrefixReads, EndsAtReply, replies_in, pushes_in}
+
+pub record Inflow : Type 0 where
+  -- whether the bytes below are known
+  pub observable : Bool
+  -- those that were received and aren't taken, and then those that will come
+  pub incoming : List ℕ
+  -- the pushes that were set aside
+  pub pushes : List PushInfo
+  -- how often the source has failed
+  pub failures : ℕ
+
+-- a parser's bytes come before those of its source
+abbrev pub inflow_of : List ℕ → Source → List PushInfo → Inflow
+inflow_of unparsed source pushes = record {
+  observable = source.observable;
+  incoming = unparsed ++ source.bytes;
+  pushes = pushes;
+  failures = source.failures;
+}
+
+-- these values were read, and the pushes among them set aside
+pub record ReadsOn (old new : Inflow) (values : List Value) : Type 0 where
+  pub observable : old.observable ≡ true → new.observable ≡ true
+  pub prefix : old.observable ≡ true → PrefixReads old.incoming values new.incoming
+  pub pushes : new.pushes ≡ old.pushes ++ pushes_in values
+  pub failures : new.failures ≡ old.failures
+
+-- a prefix of the bytes is unfinished
+pub record HasUnfinishedPrefix (b : List ℕ) : Type 0 where
+  pub prefix : List ℕ
+  pub rest : List ℕ
+  pub whole : b ≡ prefix ++ rest
+  pub unfinished : IsUnfinished 100 prefix
+
+-- why no value comes next: a fault, the end of the bytes or a failure of the source, where more
+-- were needed; or out of memory
+pub data StopsReceiving (Needed : Type 0) (at now : Inflow) (e : RedisError) : Type 0 where
+  faulty : (f : FrameFault) → Needed → e ≡ form.Parse (parsing.Fault f) →
+      (at.observable ≡ true → HasFaultyPrefix 100 at.incoming f) →
+      now.failures ≡ at.failures → StopsReceiving Needed at now e
+  ended : Needed → e ≡ form.Io UnexpectedEof →
+      (at.observable ≡ true → IsUnfinished 100 at.incoming) →
+      now.failures ≡ at.failures → StopsReceiving Needed at now e
+  interrupted : (kind : IoKind) → Needed → e ≡ form.Io kind →
+      (at.observable ≡ true → HasUnfinishedPrefix at.incoming) →
+      FailureCounted at.failures now.failures → StopsReceiving Needed at now e
+  out_of_memory : e ≡ form.OutOfMemory → now.failures ≡ at.failures → StopsReceiving Needed at now e
+
+-- n replies came
+pub record Receives (n : ℕ) (old new : Inflow) (replies : List Value) : Type 0 where
+  pub values : List Value
+  pub on : ReadsOn old new values
+  pub ends : EndsAtReply n values
+  pub replies_are : replies ≡ replies_in values
+
+-- fewer than n replies came and then none, or memory ran out
+pub record CannotReceive (n : ℕ) (old new : Inflow) (e : RedisError) : Type 0 where
+  pub values : List Value
+  pub at : Inflow
+  pub on : ReadsOn old at values
+  pub observable : at.observable ≡ true → new.observable ≡ true
+  pub pushes : new.pushes ≡ at.pushes
+  pub stops : StopsReceiving (length (replies_in values) < n) at new e
+
+-- n replies came and were dropped
+pub record Skips (n : ℕ) (old new : Inflow) : Type 0 where
+  pub replies : List Value
+  pub received : Receives n old new replies

@@ -1,0 +1,81 @@
+//! What comes in over a connection: replies, and pushes between them.
+
+ghost use Rattle.std.specs.Prelude.{◌≡◌, ◌∷◌, [], ◌+◌, OnOk, MatchResult};
+ghost use Rattle.resp_parse.specs.State.{IsBetweenValues};
+ghost use Rattle.resp_link.specs.Receiving.{inflow_of, Receives, CannotReceive, Skips};
+
+use resp_parse::{Parser, ReplySource};
+use resp_value::{PushInfo, RedisResult, Value};
+use std::alloc::Global;
+
+/// A source of replies, the parser of its bytes, and the pushes that were set aside.
+#[derive(Drop)]
+pub(crate) struct Inbox<S> {
+    pub(crate) source: S,
+    pub(crate) parser: Parser,
+    pub(crate) pushes: Vec<PushInfo>,
+}
+
+impl<S: ReplySource> Inbox<S> {
+    /// The next reply; each push that comes before it is set aside.
+    pub(crate) fn next_reply(&mut self) -> RedisResult<Value>
+        requires { IsBetweenValues self.old.parser }
+        ensures reply { MatchResult result
+            (λ v. Receives 1
+            (inflow_of self.old.parser.unparsed (S.source self.old.source) self.old.pushes.items)
+            (inflow_of self.new.parser.unparsed (S.source self.new.source) self.new.pushes.items)
+            (v ∷ []))
+            (λ e. CannotReceive 1
+            (inflow_of self.old.parser.unparsed (S.source self.old.source) self.old.pushes.items)
+            (inflow_of self.new.parser.unparsed (S.source self.new.source) self.new.pushes.items)
+            e) }
+        ensures rest { OnOk result (IsBetweenValues self.new.parser) }
+    {
+        loop {
+            match self.parser.parse_from(&mut self.source)? {
+                Value::Push { kind, payload } => self.pushes.push(PushInfo { kind, payload })?,
+                reply => return Ok(reply),
+            }
+        }
+    }
+
+    /// Takes n replies and drops them.
+    pub(crate) fn skip_replies(&mut self, count: usize) -> RedisResult<()>
+        requires { IsBetweenValues self.old.parser }
+        ensures skipped { MatchResult result
+            (λ _. Skips count
+            (inflow_of self.old.parser.unparsed (S.source self.old.source) self.old.pushes.items)
+            (inflow_of self.new.parser.unparsed (S.source self.new.source) self.new.pushes.items))
+            (λ e. CannotReceive count
+            (inflow_of self.old.parser.unparsed (S.source self.old.source) self.old.pushes.items)
+            (inflow_of self.new.parser.unparsed (S.source self.new.source) self.new.pushes.items)
+            e) }
+        ensures rest { OnOk result (IsBetweenValues self.new.parser) }
+    {
+        for _ in 0..count {
+            let _ = self.next_reply()?;
+        }
+        Ok(())
+    }
+
+    /// Takes n replies and answers them.
+    pub(crate) fn take_replies(&mut self, alloc: Global, count: usize) -> RedisResult<Vec<Value>>
+        requires { IsBetweenValues self.old.parser }
+        ensures replies { MatchResult result
+            (λ vs. Receives count
+            (inflow_of self.old.parser.unparsed (S.source self.old.source) self.old.pushes.items)
+            (inflow_of self.new.parser.unparsed (S.source self.new.source) self.new.pushes.items)
+            vs.items)
+            (λ e. CannotReceive count
+            (inflow_of self.old.parser.unparsed (S.source self.old.source) self.old.pushes.items)
+            (inflow_of self.new.parser.unparsed (S.source self.new.source) self.new.pushes.items)
+            e) }
+        ensures rest { OnOk result (IsBetweenValues self.new.parser) }
+    {
+        let mut replies = Vec::new(alloc);
+        for _ in 0..count {
+            replies.push(self.next_reply()?)?;
+        }
+        Ok(replies)
+    }
+}
