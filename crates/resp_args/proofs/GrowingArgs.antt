@@ -6,8 +6,8 @@ use Rattle.std.proofs.lemmas.List.Sorted.{IsPermutation-refl}
 use Rattle.std.proofs.lemmas.List.{flat_map_more, get_or_append_left}
 use Rattle.std.proofs.Math.Seq.{get_or-append_seam}
 use Rattle.std.specs.List.{AllZip, Any}
-use Rattle.resp_value.specs.declared.errors.redis_error.RedisError.{RedisError}
-use Rattle.resp_value.specs.declared.errors.redis_error.RedisError.TheVariants.{OutOfMemory}
+use Rattle.resp_errors.specs.declared.redis_error.RedisError.{RedisError}
+use Rattle.resp_errors.specs.declared.redis_error.RedisError.TheVariants.{OutOfMemory}
 use Rattle.resp_args.specs.Args.{Args, args_of, extended, Appends, GivesEach, IsPrefix, IsRefusal, Writes, GivesBoth, InSomeOrder, GivesInSomeOrder, IfRefused, RefusedPair, RefusedAt, RefusedInSomeOrder}
 
 AllZip-append : {A B : Type 0} (R : A → B → Type 0) (xs : List A) (ys : List B) (x : A) (y : B) → AllZip R xs ys → R x y → AllZip R (xs ++ x ∷ []) (ys ++ y ∷ [])

@@ -4,10 +4,10 @@ use Rattle.std.specs.Prelude.{◌<◌, ◌≡◌, ℕ, Bool, true, false, List, 
 use Rattle.std.specs.Global.{Global}
 use Rattle.std.specs.List.{Any, AllZip, flat_map}
 use Rattle.std.specs.List.Sorted.{IsPermutation}
-use Rattle.resp_value.specs.declared.errors.redis_error.RedisError.{RedisError}
-use Rattle.resp_value.specs.declared.errors.redis_error.RedisError.TheVariants.{General, OutOfMemory}
-use Rattle.resp_value.specs.declared.errors.kinds.ErrorKind.TheVariants.{Client}
-use Rattle.resp_value.specs.Errors.{kind_of}
+use Rattle.resp_errors.specs.declared.redis_error.RedisError.{RedisError}
+use Rattle.resp_errors.specs.declared.redis_error.RedisError.TheVariants.{General, OutOfMemory}
+use Rattle.resp_errors.specs.declared.kinds.ErrorKind.TheVariants.{Client}
+use Rattle.resp_errors.specs.Errors.{kind_of}
 use Rattle.resp_args.specs.declared.args.NumericBehavior.{NumericBehavior}
 use Rattle.resp_args.specs.declared.args.NumericBehavior.TheVariants.{NonNumeric}
 

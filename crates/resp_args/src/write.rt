@@ -2,7 +2,7 @@
 
 ghost use Rattle.std.specs.Prelude.{◌≡◌, ◌<◌, [], ◌∷◌, ◌++◌, length, OnOk, OnErr};
 ghost use Rattle.resp_args.specs.Args.{Args, args_of, extended};
-ghost use Rattle.resp_value.specs.Memory.{OnlyMemory};
+ghost use Rattle.resp_errors.specs.Memory.{OnlyMemory};
 
 use resp_value::RedisResult;
 

@@ -3,7 +3,7 @@ use Rattle.std.proofs.Common.{◌≡◌, ℕ, zero, suc, ◌+◌, ◌<◌, ◌�
 use Rattle.std.proofs.lemmas.List.{append_cancel_left}
 use Rattle.resp_value.specs.declared.value.Value.{Value}
 use Rattle.resp_value.specs.declared.value.PushInfo.{PushInfo}
-use Rattle.resp_value.specs.declared.errors.kinds.FrameFault.{FrameFault}
+use Rattle.resp_errors.specs.declared.kinds.FrameFault.{FrameFault}
 use Rattle.resp_parse.specs.Grammar.{Good, Joined}
 use Rattle.resp_parse.specs.Laws.{LawOfPrefixes}
 use Rattle.resp_parse.specs.Prefixes.{HasGoodPrefix, HasFaultyPrefix, IsUnfinished}

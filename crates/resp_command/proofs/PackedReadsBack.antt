@@ -17,7 +17,7 @@ use Rattle.resp_parse.specs.declared.type_byte.TypeByte.{TypeByte}
 use Rattle.resp_parse.specs.declared.type_byte.TypeByte.TheVariants as type_byte
 use Rattle.resp_parse.specs.TypeBytes.{byte_of}
 use Rattle.resp_parse.specs.Grammar.{Good, Header, Joined, announced, body, elements, with_valid, or_nil}
-use Rattle.resp_value.specs.declared.errors.kinds.FrameFault.TheVariants.{NotInteger}
+use Rattle.resp_errors.specs.declared.kinds.FrameFault.TheVariants.{NotInteger}
 use Rattle.resp_command.specs.Packed.{length_line, bulk, packed, as_value}
 use Rattle.resp_command.specs.PackingLaw.{LawOfPacking}
 use Rattle.resp_command.proofs.DecimalReadsBack.{own, number-decimal}

@@ -1,10 +1,10 @@
 -- What a call of a connection answers, as what a query over it answers.
 use Rattle.std.proofs.Common.{◌≡◌, ℕ, List, [], ◌∷◌, length, Result, Ok, Err, ap, subst}
 use Rattle.resp_value.specs.declared.value.Value.{Value, Nil}
-use Rattle.resp_value.specs.declared.errors.redis_error.RedisError.{RedisError}
-use Rattle.resp_value.specs.declared.errors.redis_error.RedisError.TheVariants.{Io, Parse, OutOfMemory}
-use Rattle.resp_value.specs.declared.errors.kinds.IoKind.TheVariants.{UnexpectedEof}
-use Rattle.resp_value.specs.declared.errors.parsing_error.ParsingError.TheVariants.{Fault}
+use Rattle.resp_errors.specs.declared.redis_error.RedisError.{RedisError}
+use Rattle.resp_errors.specs.declared.redis_error.RedisError.TheVariants.{Io, Parse, OutOfMemory}
+use Rattle.resp_errors.specs.declared.kinds.IoKind.TheVariants.{UnexpectedEof}
+use Rattle.resp_errors.specs.declared.parsing_error.ParsingError.TheVariants.{Fault}
 use Rattle.resp_command.specs.Call.{Call, CommandCall, Refuses, broken_link, no_command, AnswersReply, Answers, needed}
 use Rattle.resp_command.specs.Command.{Command}
 use Rattle.resp_command.specs.CommandQuery.{CommandQuery}

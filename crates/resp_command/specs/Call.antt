@@ -1,9 +1,9 @@
 -- What a call over a connection answers.
 use Rattle.std.specs.Prelude.{◌≡◌, ◌≢◌, ℕ, true, false, List, [], ◌∷◌, drop, Result, Ok, Err, None, codes, if◌then◌else◌, MatchOption, IsOkAnd}
 use Rattle.resp_value.specs.declared.value.Value.{Value, Nil}
-use Rattle.resp_value.specs.declared.errors.kinds.ErrorKind.TheVariants as kind
-use Rattle.resp_value.specs.declared.errors.redis_error.RedisError.{RedisError}
-use Rattle.resp_value.specs.declared.errors.redis_error.RedisError.TheVariants.{General, Server}
+use Rattle.resp_errors.specs.declared.kinds.ErrorKind.TheVariants as kind
+use Rattle.resp_errors.specs.declared.redis_error.RedisError.{RedisError}
+use Rattle.resp_errors.specs.declared.redis_error.RedisError.TheVariants.{General, Server}
 use Rattle.resp_value.specs.FirstError.{first_error}
 use Rattle.resp_from.specs.Conversion.{ConvertsCall}
 use Rattle.resp_command.specs.Packed.{packed}

@@ -1,7 +1,7 @@
 -- What the query of a command over a connection does: its theorem.
 use Rattle.std.specs.Prelude.{List, Result}
 use Rattle.resp_value.specs.declared.value.Value.{Value}
-use Rattle.resp_value.specs.declared.errors.redis_error.RedisError.{RedisError}
+use Rattle.resp_errors.specs.declared.redis_error.RedisError.{RedisError}
 use Rattle.resp_command.specs.Call.{CommandCall, Answers, needed}
 use Rattle.resp_command.specs.Command.{Command}
 use Rattle.resp_command.specs.Connection.{Connection}

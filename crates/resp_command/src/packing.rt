@@ -1,7 +1,7 @@
 //! Requests as bytes.
 
 ghost use Rattle.std.specs.Prelude.{◌≡◌, ◌++◌, length, take, IfOk, OnOk, OnErr};
-ghost use Rattle.resp_value.specs.Memory.{OnlyMemory};
+ghost use Rattle.resp_errors.specs.Memory.{OnlyMemory};
 ghost use Rattle.resp_args.specs.Args.{args_of};
 ghost use Rattle.resp_command.specs.Packed.{length_line, bulk, packed};
 

@@ -1,7 +1,7 @@
 //! The first step of a command.
 
 ghost use Rattle.std.specs.Prelude.{◌≡◌, ◌∷◌, [], IfOk, false};
-ghost use Rattle.resp_value.specs.Memory.{OnlyMemory};
+ghost use Rattle.resp_errors.specs.Memory.{OnlyMemory};
 
 use crate::command::Cmd;
 use resp_args::RedisWrite;

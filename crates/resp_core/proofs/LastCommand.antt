@@ -2,7 +2,7 @@
 use Rattle.std.proofs.Common.{◌≡◌, ◌+◌, ℕ, zero, suc, ◌++◌, Bool, true, List, [], ◌∷◌, length, take, Result, Ok, Err, OnOk, refl, sym, ap, ◌∙◌, arith}
 use Rattle.std.proofs.lemmas.List.{take_all, take_more, take_more_set, length-set}
 use Rattle.std.specs.Prelude.{slice_set, slice_index_or}
-use Rattle.resp_value.specs.declared.errors.redis_error.RedisError.{RedisError}
+use Rattle.resp_errors.specs.declared.redis_error.RedisError.{RedisError}
 use Rattle.resp_args.specs.Args.{Args, Appends}
 use Rattle.resp_command.specs.Command.{Command}
 use Rattle.resp_core.specs.Pipeline.{Plan, AppendsToLast, last_marked}

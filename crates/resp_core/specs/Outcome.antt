@@ -2,10 +2,10 @@
 use Rattle.std.specs.Prelude.{◌≡◌, ◌≢◌, ℕ, ◌+◌, ◌⊎◌, Bool, true, false, List, [], ◌∷◌, ◌++◌, None, Result, Err, codes}
 use Rattle.resp_value.specs.declared.value.Value.{Value, Nil, Array, out-Value}
 use Rattle.resp_value.specs.declared.value.Value.TheOpen.{Value-F}
-use Rattle.resp_value.specs.declared.errors.server_error.ServerError.{ServerError}
-use Rattle.resp_value.specs.declared.errors.kinds.ErrorKind.TheVariants.{UnexpectedReturnType}
-use Rattle.resp_value.specs.declared.errors.redis_error.RedisError.{RedisError}
-use Rattle.resp_value.specs.declared.errors.redis_error.RedisError.TheVariants.{General, Pipeline, OutOfMemory}
+use Rattle.resp_errors.specs.declared.server_error.ServerError.{ServerError}
+use Rattle.resp_errors.specs.declared.kinds.ErrorKind.TheVariants.{UnexpectedReturnType}
+use Rattle.resp_errors.specs.declared.redis_error.RedisError.{RedisError}
+use Rattle.resp_errors.specs.declared.redis_error.RedisError.TheVariants.{General, Pipeline, OutOfMemory}
 use Rattle.resp_from.specs.Conversion.{ConvertsCall}
 use Rattle.resp_command.specs.Call.{Answers}
 use Rattle.resp_core.specs.Pipeline.{Plan}

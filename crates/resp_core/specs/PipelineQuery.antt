@@ -1,9 +1,9 @@
 -- What the query of a pipeline over a connection does: its theorem.
 use Rattle.std.specs.Prelude.{◌≡◌, ℕ, ◌⊎◌, true, false, List, Result, None, codes}
 use Rattle.resp_value.specs.declared.value.Value.{Value}
-use Rattle.resp_value.specs.declared.errors.kinds.ErrorKind.TheVariants as kind
-use Rattle.resp_value.specs.declared.errors.redis_error.RedisError.{RedisError}
-use Rattle.resp_value.specs.declared.errors.redis_error.RedisError.TheVariants.{General, OutOfMemory}
+use Rattle.resp_errors.specs.declared.kinds.ErrorKind.TheVariants as kind
+use Rattle.resp_errors.specs.declared.redis_error.RedisError.{RedisError}
+use Rattle.resp_errors.specs.declared.redis_error.RedisError.TheVariants.{General, OutOfMemory}
 use Rattle.resp_command.specs.Call.{Refuses, broken_link}
 use Rattle.resp_command.specs.Connection.{Connection, SameKind, Exchange}
 use Rattle.resp_core.specs.Outcome.{Outcome}

@@ -4,7 +4,7 @@ ghost use Rattle.std.specs.Prelude.{◌≡◌, ◌↔◌, ◌<◌, [], ◌∷◌
 ghost use Rattle.std.specs.Prelude.{IfOk, IfErr, OnOk, OnErr, false, true};
 ghost use Rattle.std.specs.List.{flat_map};
 ghost use Rattle.std.specs.Slice.Iter.{iter_rest};
-ghost use Rattle.resp_value.specs.Memory.{OnlyMemory};
+ghost use Rattle.resp_errors.specs.Memory.{OnlyMemory};
 ghost use Rattle.resp_args.specs.Args.{Args, IsRefusal};
 ghost use Rattle.resp_core.specs.Outcome.{Composes, Concludes, Outcome};
 ghost use Rattle.resp_command.specs.Packed.{packed};

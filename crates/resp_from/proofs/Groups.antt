@@ -8,7 +8,7 @@ use Rattle.std.proofs.lemmas.List.Concat.{flat_map-append}
 use Rattle.std.specs.Bool.{MatchBool}
 use Rattle.std.specs.List.{AllZip, AllByRecursion, flat_map}
 use Rattle.resp_value.specs.declared.value.Value.{Value, Array}
-use Rattle.resp_value.specs.declared.errors.parsing_error.ParsingError.{ParsingError}
+use Rattle.resp_errors.specs.declared.parsing_error.ParsingError.{ParsingError}
 use Rattle.resp_from.specs.Conversion.{ConvertsList}
 use Rattle.resp_from.specs.Rules.{AreGroups, ArePieces, OfList, is_one_each}
 use Rattle.resp_from.proofs.Conversions.{RefusesIf-along}

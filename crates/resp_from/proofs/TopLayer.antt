@@ -2,7 +2,7 @@
 use Rattle.std.proofs.Common.{◌≡◌, ℕ, Bool, List, Vec, Global, rules, sym, subst, Result}
 use Rattle.resp_value.specs.declared.value.Value.{Value, Array, BulkString, Set, out-Value, the_lemmas}
 use Rattle.resp_value.specs.declared.value.Value.TheOpen.{Value-F}
-use Rattle.resp_value.specs.declared.errors.parsing_error.ParsingError.{ParsingError}
+use Rattle.resp_errors.specs.declared.parsing_error.ParsingError.{ParsingError}
 use Rattle.resp_from.specs.Conversion.{Converts, ConvertsList}
 use Rattle.resp_from.specs.Lists.{IsVec, OfVec}
 use Rattle.resp_from.proofs.Conversions.{Converts-list}

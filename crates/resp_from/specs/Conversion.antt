@@ -2,10 +2,10 @@
 use Rattle.std.specs.Prelude.{◌≡◌, ◌≢◌, ◌⊎◌, List, Result, Ok, Err, Option, None, Some}
 use Rattle.std.specs.declared.alloc.Global.{Global}
 use Rattle.std.specs.declared.vec.Vec.{Vec}
-use Rattle.resp_value.specs.declared.errors.parsing_error.ParsingError.{ParsingError}
-use Rattle.resp_value.specs.declared.errors.parsing_error.ParsingError.TheVariants as parsing
-use Rattle.resp_value.specs.declared.errors.redis_error.RedisError.{RedisError}
-use Rattle.resp_value.specs.declared.errors.redis_error.RedisError.TheVariants as form
+use Rattle.resp_errors.specs.declared.parsing_error.ParsingError.{ParsingError}
+use Rattle.resp_errors.specs.declared.parsing_error.ParsingError.TheVariants as parsing
+use Rattle.resp_errors.specs.declared.redis_error.RedisError.{RedisError}
+use Rattle.resp_errors.specs.declared.redis_error.RedisError.TheVariants as form
 use Rattle.resp_value.specs.declared.value.Value.{Value}
 
 -- the error may be answered where the fact holds: a refusal needs it, out of memory doesn't, and a

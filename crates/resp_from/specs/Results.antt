@@ -1,10 +1,10 @@
 -- Replies as results: a value, or an error of the server (RESP, "Simple errors", "Bulk errors").
 use Rattle.std.specs.Prelude.{◌≡◌, Bool, true, false, Result, Ok, Err, IfSome}
-use Rattle.resp_value.specs.ServerErrors.{display_of}
-use Rattle.resp_value.specs.declared.errors.parsing_error.ParsingError.{ParsingError}
-use Rattle.resp_value.specs.declared.errors.parsing_error.ParsingError.TheVariants as parsing
-use Rattle.resp_value.specs.declared.errors.redis_error.RedisError.{RedisError}
-use Rattle.resp_value.specs.declared.errors.redis_error.RedisError.TheVariants as form
+use Rattle.resp_errors.specs.ServerErrors.{display_of}
+use Rattle.resp_errors.specs.declared.parsing_error.ParsingError.{ParsingError}
+use Rattle.resp_errors.specs.declared.parsing_error.ParsingError.TheVariants as parsing
+use Rattle.resp_errors.specs.declared.redis_error.RedisError.{RedisError}
+use Rattle.resp_errors.specs.declared.redis_error.RedisError.TheVariants as form
 use Rattle.resp_value.specs.declared.value.Value.{Value, ServerError, out-Value}
 use Rattle.resp_value.specs.declared.value.Value.TheOpen.{Value-F}
 

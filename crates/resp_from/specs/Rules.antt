@@ -3,7 +3,7 @@
 use Rattle.std.specs.Prelude.{◌≡◌, ℕ, ◌*◌, ◌==◌, ◌||◌, ◌⊎◌, pos, Bool, false, cond, List, [], ◌∷◌, length, map, Result, Err}
 use Rattle.std.specs.Bool.{MatchBool}
 use Rattle.std.specs.List.{AllZip, AllByRecursion, flat_map, list_all}
-use Rattle.resp_value.specs.declared.errors.parsing_error.ParsingError.{ParsingError}
+use Rattle.resp_errors.specs.declared.parsing_error.ParsingError.{ParsingError}
 use Rattle.resp_value.specs.declared.value.Value.{Value, Array, BulkString, Int, out-Value}
 use Rattle.resp_value.specs.declared.value.Value.TheOpen.{Value-F}
 use Rattle.resp_from.specs.Conversion.{Decides, IsDescribed}

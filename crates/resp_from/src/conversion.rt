@@ -2,8 +2,8 @@
 
 ghost use Rattle.std.specs.Prelude.{◌≡◌, ℕ, Bool, false, IfErr, MatchResult};
 ghost use Rattle.resp_value.specs.declared.value.Value.{Value};
-ghost use Rattle.resp_value.specs.declared.errors.parsing_error.ParsingError.{ParsingError};
-ghost use Rattle.resp_value.specs.declared.errors.parsing_error.ParsingError.TheVariants as parsing;
+ghost use Rattle.resp_errors.specs.declared.parsing_error.ParsingError.{ParsingError};
+ghost use Rattle.resp_errors.specs.declared.parsing_error.ParsingError.TheVariants as parsing;
 ghost use Rattle.resp_from.specs.Conversion.{AnyError, OfMade, OrMemory, Converts, ConvertsList};
 ghost use Rattle.resp_from.specs.Conversion.{ConvertsMaybe};
 ghost use Rattle.resp_from.specs.Rules.{OfList, OfEach, OfBytes};

@@ -2,7 +2,7 @@
 
 ghost use Rattle.std.specs.Prelude.{◌≡◌, ◌<◌, ◌==◌, ◌∷◌, [], IfOk, MatchResult, length, map, pos};
 ghost use Rattle.std.specs.List.{AllZip, list_all};
-ghost use Rattle.resp_value.specs.declared.errors.parsing_error.ParsingError.TheVariants as parsing;
+ghost use Rattle.resp_errors.specs.declared.parsing_error.ParsingError.TheVariants as parsing;
 ghost use Rattle.resp_value.specs.declared.value.Value.{Int, out-Value};
 ghost use Rattle.resp_from.specs.Conversion.{ConvertsList, Decides};
 ghost use Rattle.resp_from.specs.Rules.{AreGroups, ArePieces, has_values};

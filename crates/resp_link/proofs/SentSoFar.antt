@@ -3,7 +3,7 @@ use Rattle.std.proofs.Common.{◌≡◌, ℕ, ◌+◌, ◌-◌, ◌≤◌, ◌++
 use Rattle.std.proofs.lemmas.Grind.{common_steps}
 use Rattle.std.proofs.lemmas.List.{take-append-drop, take_all}
 use Rattle.std.proofs.Math.Seq.{take-add}
-use Rattle.resp_value.specs.declared.errors.kinds.IoKind.{IoKind}
+use Rattle.resp_errors.specs.declared.kinds.IoKind.{IoKind}
 use Rattle.resp_link.specs.Sink.{Sink, Sends, SendsAll}
 
 -- the first bytes of the request were sent

@@ -2,7 +2,7 @@
 use Rattle.std.specs.Prelude.{◌≡◌, ℕ, ◌&&◌, Bool, true, List, ◌++◌, Result}
 use Rattle.resp_value.specs.declared.value.Value.{Value}
 use Rattle.resp_value.specs.declared.value.PushInfo.{PushInfo}
-use Rattle.resp_value.specs.declared.errors.redis_error.RedisError.{RedisError}
+use Rattle.resp_errors.specs.declared.redis_error.RedisError.{RedisError}
 use Rattle.resp_link.specs.Sink.{Sink}
 use Rattle.resp_command.specs.Connection.{Connection, SameKind, Exchange}
 use Rattle.resp_link.specs.Receiving.{Inflow}

@@ -3,12 +3,12 @@
 use Rattle.std.specs.Prelude.{◌≡◌, ℕ, ◌<◌, Bool, true, List, [], ◌∷◌, ◌++◌, length}
 use Rattle.resp_value.specs.declared.value.Value.{Value}
 use Rattle.resp_value.specs.declared.value.PushInfo.{PushInfo}
-use Rattle.resp_value.specs.declared.errors.kinds.FrameFault.{FrameFault}
-use Rattle.resp_value.specs.declared.errors.kinds.IoKind.{IoKind}
-use Rattle.resp_value.specs.declared.errors.kinds.IoKind.TheVariants.{UnexpectedEof}
-use Rattle.resp_value.specs.declared.errors.parsing_error.ParsingError.TheVariants as parsing
-use Rattle.resp_value.specs.declared.errors.redis_error.RedisError.{RedisError}
-use Rattle.resp_value.specs.declared.errors.redis_error.RedisError.TheVariants as form
+use Rattle.resp_errors.specs.declared.kinds.FrameFault.{FrameFault}
+use Rattle.resp_errors.specs.declared.kinds.IoKind.{IoKind}
+use Rattle.resp_errors.specs.declared.kinds.IoKind.TheVariants.{UnexpectedEof}
+use Rattle.resp_errors.specs.declared.parsing_error.ParsingError.TheVariants as parsing
+use Rattle.resp_errors.specs.declared.redis_error.RedisError.{RedisError}
+use Rattle.resp_errors.specs.declared.redis_error.RedisError.TheVariants as form
 use Rattle.resp_parse.specs.Prefixes.{HasFaultyPrefix, IsUnfinished}
 use Rattle.resp_parse.specs.Source.{Source, FailureCounted}
 use Rattle.resp_command.specs.Taken.{PrefixReads, EndsAtReply, replies_in, pushes_in}

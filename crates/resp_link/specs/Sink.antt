@@ -1,6 +1,6 @@
 -- What is known of a place to send bytes to, and what its calls do.
 use Rattle.std.specs.Prelude.{◌≡◌, ℕ, ◌<◌, ◌≤◌, Bool, true, false, List, [], ◌++◌, length, take, Result, Option, is_some, unwrap_or, IfOk, OnOk, MatchResult}
-use Rattle.resp_value.specs.declared.errors.kinds.IoKind.{IoKind}
+use Rattle.resp_errors.specs.declared.kinds.IoKind.{IoKind}
 use Rattle.resp_parse.specs.Source.{FailureCounted}
 use Rattle.resp_command.specs.Connection.{SentPrefix}
 

@@ -1,8 +1,8 @@
 -- A plain parser that asked a source once.
 use Rattle.std.proofs.Common.{◌≡◌, ℕ, zero, suc, ◌∷◌, ◌<◌, ◌≤◌, Bool, true, false, List, [], ◌++◌, length, take, drop, refl, ap, sym, ◌∙◌, arith, Ok, Err}
-use Rattle.resp_value.specs.declared.errors.kinds.IoKind.{IoKind}
-use Rattle.resp_value.specs.declared.errors.kinds.IoKind.TheVariants.{UnexpectedEof}
-use Rattle.resp_value.specs.declared.errors.redis_error.RedisError.TheVariants as form
+use Rattle.resp_errors.specs.declared.kinds.IoKind.{IoKind}
+use Rattle.resp_errors.specs.declared.kinds.IoKind.TheVariants.{UnexpectedEof}
+use Rattle.resp_errors.specs.declared.redis_error.RedisError.TheVariants as form
 use Rattle.resp_parse.specs.State.{State, StandsAfter}
 use Rattle.resp_parse.specs.Source.{Source, Fills}
 use Rattle.resp_parse.specs.Calls.{Filled, Asks, CannotFill}

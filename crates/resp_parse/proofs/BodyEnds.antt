@@ -1,6 +1,6 @@
 -- The CR LF of a body, by place, and bodies by their length.
 use Rattle.std.proofs.Common.{◌≡◌, ◌≢◌, ℕ, zero, suc, ◌<◌, ◌≤◌, List, [], ◌∷◌, ◌++◌, length, take, drop, get_or, refl, ap, ◌∙◌, arith}
-use Rattle.resp_value.specs.declared.errors.kinds.FrameFault.TheVariants.{BodyEnd}
+use Rattle.resp_errors.specs.declared.kinds.FrameFault.TheVariants.{BodyEnd}
 use Rattle.resp_parse.specs.PlainReading.{ReadOutcome, got, fault, unfinished, then, end_of_body, read_body}
 use Rattle.resp_parse.proofs.ByteTests.{eq_true, eq_false}
 

@@ -1,8 +1,8 @@
 -- Reading a body gives its bytes, or the byte that isn't its CR LF.
 use Rattle.std.proofs.Common.{◌≡◌, ◌≢◌, ℕ, zero, suc, Bool, true, false, cond, ◌==◌, List, [], ◌∷◌, ◌++◌, length, refl, ap, sym, ◌∙◌, append_assoc, inl, inr}
 use Rattle.std.proofs.lemmas.Bool.Decides.{Decides-eqb}
-use Rattle.resp_value.specs.declared.errors.kinds.FrameFault.{FrameFault}
-use Rattle.resp_value.specs.declared.errors.kinds.FrameFault.TheVariants.{BodyEnd}
+use Rattle.resp_errors.specs.declared.kinds.FrameFault.{FrameFault}
+use Rattle.resp_errors.specs.declared.kinds.FrameFault.TheVariants.{BodyEnd}
 use Rattle.resp_parse.specs.Lines.{crlf}
 use Rattle.resp_parse.specs.Grammar.{EndsWrong, no_cr, no_lf}
 use Rattle.resp_parse.specs.PlainReading.{ReadOutcome, got, fault, unfinished, end_of_body, read_body}

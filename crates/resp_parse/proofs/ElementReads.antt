@@ -1,7 +1,7 @@
 -- Reading elements, where each element is read as the relations of elements say.
 use Rattle.std.proofs.Common.{◌≡◌, ℕ, zero, suc, ◌<◌, List, [], ◌∷◌, ◌++◌, length, refl, ap, sym, ◌∙◌, subst, append_assoc, arith, inl, inr}
 use Rattle.resp_value.specs.declared.value.Value.{Value}
-use Rattle.resp_value.specs.declared.errors.kinds.FrameFault.{FrameFault}
+use Rattle.resp_errors.specs.declared.kinds.FrameFault.{FrameFault}
 use Rattle.resp_parse.specs.Grammar.{Joined, ElementWrong}
 use Rattle.resp_parse.specs.PlainReading.{ReadOutcome, got, fault, then, read_elements}
 use Rattle.resp_parse.proofs.ReadingsInSequence.{then-got, then-fault}

@@ -2,7 +2,7 @@
 use Rattle.std.proofs.Common.{◌≡◌, ℕ, suc, false, List, ◌∷◌, Some, refl}
 use Rattle.std.specs.Str.{IsUtf8, is_utf8}
 use Rattle.std.proofs.lemmas.Str.{IsUtf8-from_is_utf8, is_utf8-from_IsUtf8}
-use Rattle.resp_value.specs.declared.errors.kinds.FrameFault.TheVariants.{LineNotUtf8}
+use Rattle.resp_errors.specs.declared.kinds.FrameFault.TheVariants.{LineNotUtf8}
 use Rattle.resp_parse.specs.declared.type_byte.TypeByte.{TypeByte}
 use Rattle.resp_parse.specs.TypeBytes.{type_of}
 use Rattle.resp_parse.specs.Grammar.{announced}

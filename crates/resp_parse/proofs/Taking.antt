@@ -2,9 +2,9 @@
 use Rattle.std.proofs.Common.{◌≡◌, ℕ, ◌+◌, Bool, true, false, List, drop, refl, ap, sym, ◌∙◌, subst, arith, Ok, Err, Some, None}
 use Rattle.std.proofs.lemmas.Grind.{common_steps}
 use Rattle.resp_value.specs.declared.value.Value.{Value}
-use Rattle.resp_value.specs.declared.errors.kinds.FrameFault.{FrameFault}
-use Rattle.resp_value.specs.declared.errors.parsing_error.ParsingError.TheVariants as parsing
-use Rattle.resp_value.specs.declared.errors.redis_error.RedisError.TheVariants as form
+use Rattle.resp_errors.specs.declared.kinds.FrameFault.{FrameFault}
+use Rattle.resp_errors.specs.declared.parsing_error.ParsingError.TheVariants as parsing
+use Rattle.resp_errors.specs.declared.redis_error.RedisError.TheVariants as form
 use Rattle.resp_parse.specs.declared.stop.Stop.TheVariants as stop
 use Rattle.resp_parse.specs.Prefixes.{HasGoodPrefix}
 use Rattle.resp_parse.specs.FirstValue.{FindsFirst}

@@ -2,12 +2,12 @@
 -- asked, how that went from s to t.
 use Rattle.std.specs.Prelude.{◌≡◌, ◌≢◌, ◌<◌, ◌≤◌, ℕ, true, List, [], ◌++◌, length, Option, None, Some, Result, Ok, Err}
 use Rattle.resp_value.specs.declared.value.Value.{Value}
-use Rattle.resp_value.specs.declared.errors.kinds.FrameFault.{FrameFault}
-use Rattle.resp_value.specs.declared.errors.kinds.IoKind.{IoKind}
-use Rattle.resp_value.specs.declared.errors.kinds.IoKind.TheVariants.{UnexpectedEof}
-use Rattle.resp_value.specs.declared.errors.parsing_error.ParsingError.TheVariants as parsing
-use Rattle.resp_value.specs.declared.errors.redis_error.RedisError.{RedisError}
-use Rattle.resp_value.specs.declared.errors.redis_error.RedisError.TheVariants as form
+use Rattle.resp_errors.specs.declared.kinds.FrameFault.{FrameFault}
+use Rattle.resp_errors.specs.declared.kinds.IoKind.{IoKind}
+use Rattle.resp_errors.specs.declared.kinds.IoKind.TheVariants.{UnexpectedEof}
+use Rattle.resp_errors.specs.declared.parsing_error.ParsingError.TheVariants as parsing
+use Rattle.resp_errors.specs.declared.redis_error.RedisError.{RedisError}
+use Rattle.resp_errors.specs.declared.redis_error.RedisError.TheVariants as form
 use Rattle.resp_parse.specs.Prefixes.{HasGoodPrefix, HasFaultyPrefix, IsUnfinished}
 use Rattle.resp_parse.specs.State.{State, StandsAfter, FailedAfter, IsBetweenValues}
 use Rattle.resp_parse.specs.Source.{Source, Came, FailureCounted, source_of}

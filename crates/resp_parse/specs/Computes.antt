@@ -1,7 +1,7 @@
 -- What a function of the parser answers: what a definition computes, or out of memory, which says
 -- nothing of the bytes.
 use Rattle.std.specs.Prelude.{◌≡◌, ℕ, List, Result, Ok, Err, Option, Some, None}
-use Rattle.resp_value.specs.declared.errors.kinds.FrameFault.{FrameFault}
+use Rattle.resp_errors.specs.declared.kinds.FrameFault.{FrameFault}
 use Rattle.resp_parse.specs.declared.stop.Stop.{Stop}
 use Rattle.resp_parse.specs.declared.stop.Stop.TheVariants.{Memory, Unfinished, Fault}
 use Rattle.resp_parse.specs.PlainReading.{ReadOutcome, got, fault, unfinished}

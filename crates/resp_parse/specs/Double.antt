@@ -3,8 +3,8 @@ use Rattle.std.specs.Prelude.{ℕ, ◌+◌, Bool, cond, ◌&&◌, ◌||◌, ◌=
 use Rattle.std.specs.Str.{trim, bytes_eq, str_to_ascii_lowercase}
 use Rattle.std.specs.Str.Parse.{without_leading_sign}
 use Rattle.resp_value.specs.declared.value.Value.{Value, Double}
-use Rattle.resp_value.specs.declared.errors.kinds.FrameFault.{FrameFault}
-use Rattle.resp_value.specs.declared.errors.kinds.FrameFault.TheVariants.{NotDouble}
+use Rattle.resp_errors.specs.declared.kinds.FrameFault.{FrameFault}
+use Rattle.resp_errors.specs.declared.kinds.FrameFault.TheVariants.{NotDouble}
 use Rattle.resp_parse.specs.Number.{is_digits, is_decimal}
 
 abbrev pub is_point : ℕ → Bool

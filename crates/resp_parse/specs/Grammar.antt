@@ -6,10 +6,10 @@ use Rattle.std.specs.Str.{IsUtf8, is_utf8, bytes_eq, encode_utf8_all}
 use Rattle.bstr.specs.Utf8.{lossy_chars}
 use Rattle.resp_value.specs.declared.value.Value.{Value, Nil, Okay, Int, SimpleString, BulkString, Array, Map, Attribute, ServerError, Boolean, BigNumber, Set, VerbatimString, Push}
 use Rattle.resp_value.specs.declared.names.PushKind.{PushKind}
-use Rattle.resp_value.specs.declared.errors.kinds.FrameFault.{FrameFault}
-use Rattle.resp_value.specs.declared.errors.kinds.FrameFault.TheVariants.{TooDeep, UnknownType, LineNotUtf8, BodyEnd, NotBoolean, NoVerbatimFormat, BadPushKind}
+use Rattle.resp_errors.specs.declared.kinds.FrameFault.{FrameFault}
+use Rattle.resp_errors.specs.declared.kinds.FrameFault.TheVariants.{TooDeep, UnknownType, LineNotUtf8, BodyEnd, NotBoolean, NoVerbatimFormat, BadPushKind}
 use Rattle.resp_value.specs.Names.{kind_named, format_named}
-use Rattle.resp_value.specs.ServerErrors.{server_error}
+use Rattle.resp_errors.specs.ServerErrors.{server_error}
 use Rattle.resp_value.specs.Views.{pairs}
 use Rattle.resp_parse.specs.declared.type_byte.TypeByte.{TypeByte}
 use Rattle.resp_parse.specs.declared.type_byte.TypeByte.TheVariants as type_byte

@@ -1,7 +1,7 @@
 -- The law of prefixes: bytes have at most one reading, however they go on.
 use Rattle.std.specs.Prelude.{◌≡◌, ℕ, List, ◌++◌}
 use Rattle.resp_value.specs.declared.value.Value.{Value}
-use Rattle.resp_value.specs.declared.errors.kinds.FrameFault.{FrameFault}
+use Rattle.resp_errors.specs.declared.kinds.FrameFault.{FrameFault}
 use Rattle.resp_parse.specs.Grammar.{Good, Faulty}
 
 -- of two prefixes of the same bytes, a x and b y: good ones are one list and have one value, faulty

@@ -3,8 +3,8 @@
 use Rattle.std.specs.Prelude.{ℕ, zero, suc, cond, ◌&&◌, ◌==◌, List, [], ◌∷◌, Option, None, Some, Result, Ok, Err}
 use Rattle.std.specs.Str.{is_utf8}
 use Rattle.resp_value.specs.declared.value.Value.{Value}
-use Rattle.resp_value.specs.declared.errors.kinds.FrameFault.{FrameFault}
-use Rattle.resp_value.specs.declared.errors.kinds.FrameFault.TheVariants.{TooDeep, UnknownType, LineNotUtf8, BodyEnd}
+use Rattle.resp_errors.specs.declared.kinds.FrameFault.{FrameFault}
+use Rattle.resp_errors.specs.declared.kinds.FrameFault.TheVariants.{TooDeep, UnknownType, LineNotUtf8, BodyEnd}
 use Rattle.resp_parse.specs.declared.type_byte.TypeByte.{TypeByte}
 use Rattle.resp_parse.specs.TypeBytes.{type_of}
 use Rattle.resp_parse.specs.Grammar.{Announcement, complete, body, elements, invalid, announced}

@@ -1,7 +1,7 @@
 -- What stands at the start of bytes.
 use Rattle.std.specs.Prelude.{◌≡◌, ℕ, List, ◌++◌}
 use Rattle.resp_value.specs.declared.value.Value.{Value}
-use Rattle.resp_value.specs.declared.errors.kinds.FrameFault.{FrameFault}
+use Rattle.resp_errors.specs.declared.kinds.FrameFault.{FrameFault}
 use Rattle.resp_parse.specs.Grammar.{Good, Faulty}
 
 -- a prefix of the bytes spells the value, and the rest follows it

@@ -1,7 +1,7 @@
 -- The parser's own form of what a header announces.
 use Rattle.std.specs.Prelude.{◌≡◌, ℕ, List, Result, Ok, Err}
 use Rattle.resp_value.specs.declared.value.Value.{Value, BulkString, Array, Map, Set}
-use Rattle.resp_value.specs.declared.errors.kinds.FrameFault.{FrameFault}
+use Rattle.resp_errors.specs.declared.kinds.FrameFault.{FrameFault}
 use Rattle.resp_parse.specs.declared.shape.BodyKind.{BodyKind}
 use Rattle.resp_parse.specs.declared.shape.BodyKind.TheVariants as body_kind
 use Rattle.resp_parse.specs.declared.shape.ElementsKind.{ElementsKind}

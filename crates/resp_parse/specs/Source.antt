@@ -1,6 +1,6 @@
 -- What is known of a source of bytes, and what filling a buffer from it does.
 use Rattle.std.specs.Prelude.{◌≡◌, ℕ, ◌+◌, ◌-◌, ◌<◌, ◌≤◌, ◌^◌, min, Bool, true, List, [], ◌++◌, length, take, Result, Option, is_some, unwrap_or, IfOk, MatchResult}
-use Rattle.resp_value.specs.declared.errors.kinds.IoKind.{IoKind}
+use Rattle.resp_errors.specs.declared.kinds.IoKind.{IoKind}
 
 -- whether its incoming bytes are known; these bytes; the failures so far
 pub record Source : Type 0 where

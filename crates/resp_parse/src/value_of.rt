@@ -2,7 +2,7 @@
 
 ghost use Rattle.std.specs.Prelude.{◌≡◌, [], IfOk, string_bytes};
 ghost use Rattle.resp_value.specs.declared.value.Value.TheVariants as value;
-ghost use Rattle.resp_value.specs.ServerErrors.{server_error};
+ghost use Rattle.resp_errors.specs.ServerErrors.{server_error};
 ghost use Rattle.resp_value.specs.Views.{pairs as pairs_of};
 ghost use Rattle.resp_parse.specs.Grammar.{simple, bulk_error, lossy, verbatim, attribute};
 ghost use Rattle.resp_parse.specs.Grammar.{push_kind, push, empty_push};

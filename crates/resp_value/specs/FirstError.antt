@@ -3,7 +3,7 @@
 use Rattle.std.specs.Prelude.{List, [], ◌∷◌, Option, None, Some}
 use Rattle.resp_value.specs.declared.value.Value.{Value, fold-Value}
 use Rattle.resp_value.specs.declared.value.Value.TheOpen.{Value-F}
-use Rattle.resp_value.specs.declared.errors.server_error.ServerError.{ServerError}
+use Rattle.resp_errors.specs.declared.server_error.ServerError.{ServerError}
 
 abbrev pub or_else : {A : Type 0} → Option A → Option A → Option A
 or_else None other = other

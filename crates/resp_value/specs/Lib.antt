@@ -1,10 +1,4 @@
-pub mod Descriptions
-pub mod Equality
-pub mod Errors
-pub mod Names
 pub mod FirstError
 pub mod MapIters
-pub mod Memory
-pub mod ServerErrors
+pub mod Names
 pub mod Views
-pub mod formers

@@ -4,7 +4,7 @@ ghost use Rattle.std.specs.Prelude.{◌≡◌, IfOk, Some, string_bytes};
 ghost use Rattle.resp_value.specs.Names.{kind_named, name_of_push_kind};
 ghost use Rattle.resp_value.specs.Names.{format_named, name_of_format};
 
-use crate::text::Text;
+use resp_containers::Text;
 use std::alloc::{AllocError, Global};
 use std::fmt;
 

@@ -2,14 +2,12 @@
 
 ghost use Rattle.std.specs.Prelude.{◌≡◌, IfOk, map, is_some, MatchOption, Ok, Err};
 ghost use Rattle.resp_value.specs.FirstError.{first_error, first_some, first_of_pairs};
-ghost use Rattle.resp_value.specs.declared.errors.redis_error.RedisError.TheVariants as form;
+ghost use Rattle.resp_errors.specs.declared.redis_error.RedisError.TheVariants as form;
 ghost use Rattle.resp_value.specs.declared.value.Value.TheVariants as value;
 
-use crate::boxed::Boxed;
-use crate::errors::{RedisError, RedisResult, ServerError};
-use crate::items::Items;
 use crate::names::{PushKind, VerbatimFormat};
-use crate::text::Text;
+use resp_containers::{Boxed, Items, Text};
+use resp_errors::{RedisError, RedisResult, ServerError};
 use std::alloc::{AllocError, Global};
 use std::fmt;
 

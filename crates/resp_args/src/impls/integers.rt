@@ -5,7 +5,7 @@ ghost use Rattle.std.specs.Fmt.{decimal, signed_decimal};
 ghost use Rattle.resp_args.specs.Args.{GivesOne, bytes_as_one};
 ghost use Rattle.resp_args.specs.Args.Slices.{by_rule};
 ghost use Rattle.resp_args.specs.declared.args.NumericBehavior.TheVariants.{NumberIsInteger};
-ghost use Rattle.resp_value.specs.Memory.{OnlyMemory};
+ghost use Rattle.resp_errors.specs.Memory.{OnlyMemory};
 
 use crate::args::{NumericBehavior, ToRedisArgs};
 use crate::write::RedisWrite;
