@@ -8,7 +8,7 @@ use Rattle.resp_errors.specs.declared.parsing_error.ParsingError.TheVariants.{Fa
 use Rattle.resp_errors.specs.declared.redis_error.RedisError.{RedisError}
 use Rattle.resp_errors.specs.declared.redis_error.RedisError.TheVariants.{Io, Parse, OutOfMemory}
 use Rattle.resp_parse.specs.Source.{FailureCounted}
-use Rattle.resp_command.specs.Taken.{Taken, got, fault, early}
+use Rattle.resp_command.specs.Taken.{Taken, got, fault, early, PushesOfPrefix}
 
 pub record Connection : Type 0 where
   -- whether the bytes below are known
@@ -134,10 +134,12 @@ pub record ReceiveFailed {A : Type 0} (old new : Connection) (q : List ℕ) (n :
   pub sink : new.sink_failures ≡ old.sink_failures
   pub answer : IsErrAnd result IsIo
 
--- the connection is broken, and a prefix of the request was sent; pushes that were set aside stay
+-- the connection is broken, and a prefix of the request was sent; pushes among the first of the
+-- incoming values were set aside
 pub record BrokenMidway (old new : Connection) (q : List ℕ) : Type 0 where
   pub pushes : List PushInfo
   pub sent : old.observable ≡ true → SentPrefix old.sent new.sent q
+  pub among : old.observable ≡ true → PushesOfPrefix old.incoming pushes
   pub listed : new.pushes ≡ old.pushes ++ pushes
   pub broken : new.broken ≡ true
 

@@ -28,6 +28,13 @@ pub record PrefixReads (b : List ℕ) (values : List Value) (rest : List ℕ) : 
   pub whole : b ≡ prefix ++ rest
   pub reads : Reads 100 prefix values
 
+-- the pushes among values that a prefix of the bytes reads as
+pub record PushesOfPrefix (b : List ℕ) (pushes : List PushInfo) : Type 0 where
+  pub values : List Value
+  pub rest : List ℕ
+  pub prefix : PrefixReads b values rest
+  pub pushes_are : pushes ≡ pushes_in values
+
 -- n of the values are replies, and the last value is the last of them: all that stand before it
 -- hold fewer
 pub record EndsAtReply (n : ℕ) (values : List Value) : Type 0 where

@@ -10,8 +10,8 @@ use resp_value::{RedisResult, Value};
 /// A connection to a server: something that takes requests and answers replies.
 ///
 /// Each request is refused, in this order: where the connection broke before; for an empty
-/// command; for a fault of sending or flushing; for a fault of receiving; for an early end; for
-/// bytes that are no reply. `OutOfMemory` may come at any place. After a refusal of the last four,
+/// command, but several packed commands may be none; for a fault of sending or flushing; for a
+/// fault of receiving; for an early end; for bytes that are no reply. `OutOfMemory` may come at any place. After a refusal of the last four,
 /// and on `OutOfMemory` once sending was begun, the connection is broken permanently.
 ///
 /// Pushes that stand before the last reply to a request are set aside, and count as no reply.

@@ -10,7 +10,7 @@ use std::{fmt, slice};
 
 /// A `Vec` of which contracts see only the list of its elements.
 ///
-/// The values of this crate hold their elements in `Items` and not in a plain `Vec`, so that
+/// Replies and errors hold their elements in `Items` and not in a plain `Vec`, so that
 /// equality in a contract is the equality of the elements, whatever the capacity of the memory
 /// behind them.
 /// `Items` is made from a `Vec` by `From` and gives it back by [`Items::into_vec`]; neither takes

@@ -1,4 +1,4 @@
-//! Laws of replies and errors: functions that do nothing, and whose clauses are proved.
+//! Laws of errors: functions that do nothing, and whose clauses are proved.
 
 ghost use Rattle.std.specs.Prelude.{◌≡◌, ◌↔◌, IsTrue};
 ghost use Rattle.resp_errors.specs.Equality.{without_words};

@@ -10,7 +10,7 @@ use Rattle.resp_from.specs.Integers.{IsInteger, OfInteger, SignedNumber, SignedT
 use Rattle.resp_from.specs.Lists.{IsVec, OfVec, single_maps}
 use Rattle.resp_from.specs.Laws.{IsFunction}
 use Rattle.resp_from.specs.Rules.{OfList, byte_replies}
-use Rattle.resp_from.specs.Attributes.{bare}
+use Rattle.resp_from.specs.Attributes.{stripped}
 use Rattle.resp_from.specs.Texts.{IsText, OfText}
 use Rattle.resp_from.specs.Wrappers.{OfOption}
 use Rattle.resp_from.proofs.Groups.{one_list_of_pieces}
@@ -22,10 +22,10 @@ integer_function Number Writes f g (Value-F.BulkString b) x y h k = g b x y h.1 
 integer_function Number Writes f g _ x y h k = absurd h
 
 pub signed_function : (w : Width) → IsFunction (OfInteger (SignedNumber w) (SignedText w))
-signed_function w reply x y h k = integer_function (SignedNumber w) (SignedText w) (λ n a b p q. p.1 ∙ sym q.1) (λ t a b p q. p.1.1 ∙ sym q.1.1) (out-Value (bare reply)) x y h k
+signed_function w reply x y h k = integer_function (SignedNumber w) (SignedText w) (λ n a b p q. p.1 ∙ sym q.1) (λ t a b p q. p.1.1 ∙ sym q.1.1) (out-Value (stripped reply)) x y h k
 
 pub unsigned_function : (k : ℕ) → IsFunction (OfInteger (UnsignedNumber k) (UnsignedText k))
-unsigned_function b reply x y h k = integer_function (UnsignedNumber b) (UnsignedText b) (λ n a c p q. let e : pos a ≡ pos c = sym p.1 ∙ q.1 in cc) (λ t a c p q. p.2 ∙ sym q.2) (out-Value (bare reply)) x y h k
+unsigned_function b reply x y h k = integer_function (UnsignedNumber b) (UnsignedText b) (λ n a c p q. let e : pos a ≡ pos c = sym p.1 ∙ q.1 in cc) (λ t a c p q. p.2 ∙ sym q.2) (out-Value (stripped reply)) x y h k
 
 differ : (x y : ℕ) → y < x → x ≡ y → ⊥
 differ x y below same = omega arith
@@ -55,7 +55,7 @@ truth_function (Value-F.BulkString b) x y h k = truth_text_function b x y h k
 truth_function _ x y h k = absurd h
 
 pub bool_function : IsFunction OfBool
-bool_function reply x y h k = truth_function (out-Value (bare reply)) x y h k
+bool_function reply x y h k = truth_function (out-Value (stripped reply)) x y h k
 
 text_layer_function : (layer : Value-F Value) (x y : List ℕ) → IsText layer x → IsText layer y → x ≡ y
 text_layer_function (Value-F.BulkString b) x y h k = h.1 ∙ sym k.1
@@ -66,13 +66,13 @@ text_layer_function (Value-F.Int n) x y h k = h ∙ sym k
 text_layer_function _ x y h k = absurd h
 
 pub text_function : IsFunction OfText
-text_function reply x y h k = text_layer_function (out-Value (bare reply)) x y h k
+text_function reply x y h k = text_layer_function (out-Value (stripped reply)) x y h k
 
 pub option_function : {X : Type 0} (Of : Value → X → Type 0) → IsFunction Of → IsFunction (OfOption Of)
 option_function Of f reply None None h k = refl
 option_function Of f reply None (Some y) h k = let e : true ≡ false = sym h ∙ k.0 in cc
 option_function Of f reply (Some x) None h k = let e : true ≡ false = sym k ∙ h.0 in cc
-option_function Of f reply (Some x) (Some y) h k = ap Some (f (bare reply) x y h.1 k.1)
+option_function Of f reply (Some x) (Some y) h k = ap Some (f (stripped reply) x y h.1 k.1)
 
 AllZip-function : {X : Type 0} (Of : Value → X → Type 0) → IsFunction Of → (replies : List Value) (xs ys : List X) → AllZip Of replies xs → AllZip Of replies ys → xs ≡ ys
 AllZip-function Of f [] [] [] h k = refl

@@ -3,7 +3,7 @@ use Rattle.std.specs.Prelude.{◌≡◌, ◌≢◌, ℕ, pos, Bool, true, false,
 use Rattle.std.specs.Bool.{MatchBool}
 use Rattle.resp_value.specs.declared.value.Value.{Value, out-Value}
 use Rattle.resp_value.specs.declared.value.Value.TheOpen.{Value-F}
-use Rattle.resp_from.specs.Attributes.{bare}
+use Rattle.resp_from.specs.Attributes.{stripped}
 
 -- the text is that of a truth value
 abbrev pub TruthText : List ℕ → Bool → Type 0
@@ -21,4 +21,4 @@ IsTruth _ truth = ⊥
 
 -- the reply is this truth value
 abbrev pub OfBool : Value → Bool → Type 0
-OfBool reply truth = IsTruth (out-Value (bare reply)) truth
+OfBool reply truth = IsTruth (out-Value (stripped reply)) truth

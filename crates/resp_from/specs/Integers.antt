@@ -5,7 +5,7 @@ use Rattle.std.specs.Str.{IsUtf8}
 use Rattle.std.specs.Str.Parse.{IsNumeral, digits_value, signed_digits_value, without_leading_plus, without_leading_sign}
 use Rattle.resp_value.specs.declared.value.Value.{Value, out-Value}
 use Rattle.resp_value.specs.declared.value.Value.TheOpen.{Value-F}
-use Rattle.resp_from.specs.Attributes.{bare}
+use Rattle.resp_from.specs.Attributes.{stripped}
 
 -- the number n is the integer x of the signed type of this width
 abbrev pub SignedNumber : Width → ℤ → ℤ → Type 0
@@ -37,4 +37,4 @@ IsInteger Number Writes _ x = ⊥
 
 -- the reply is the integer x
 abbrev pub OfInteger : {X : Type 0} → (ℤ → X → Type 0) → (List ℕ → X → Type 0) → Value → X → Type 0
-OfInteger Number Writes reply x = IsInteger Number Writes (out-Value (bare reply)) x
+OfInteger Number Writes reply x = IsInteger Number Writes (out-Value (stripped reply)) x

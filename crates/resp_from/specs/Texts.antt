@@ -4,7 +4,7 @@ use Rattle.std.specs.Fmt.{signed_decimal}
 use Rattle.std.specs.Str.{IsUtf8}
 use Rattle.resp_value.specs.declared.value.Value.{Value, out-Value}
 use Rattle.resp_value.specs.declared.value.Value.TheOpen.{Value-F}
-use Rattle.resp_from.specs.Attributes.{bare}
+use Rattle.resp_from.specs.Attributes.{stripped}
 
 -- a reply without its attribute is this text; a number is its decimal text
 abbrev pub IsText : Value-F Value → List ℕ → Type 0
@@ -17,4 +17,4 @@ IsText _ text = ⊥
 
 -- the reply is this text
 abbrev pub OfText : Value → List ℕ → Type 0
-OfText reply text = IsText (out-Value (bare reply)) text
+OfText reply text = IsText (out-Value (stripped reply)) text

@@ -6,7 +6,7 @@ use Rattle.resp_errors.specs.declared.parsing_error.ParsingError.{ParsingError}
 use Rattle.resp_value.specs.declared.value.Value.{Value, out-Value}
 use Rattle.resp_value.specs.declared.value.Value.TheOpen.{Value-F}
 use Rattle.resp_from.specs.Conversion.{RefusesIf}
-use Rattle.resp_from.specs.Attributes.{bare}
+use Rattle.resp_from.specs.Attributes.{stripped}
 
 -- each key before its value
 abbrev pub in_turn : List (Value × Value) → List Value
@@ -26,7 +26,7 @@ held n _ = None
 
 -- the reply holds n values, and they are as the fact says
 abbrev pub Holds : ℕ → Value → (List Value → Type 0) → Type 0
-Holds n reply Are = elim (held n (out-Value (bare reply))) [ Some values ↦ Are values | None ↦ ⊥ ]
+Holds n reply Are = elim (held n (out-Value (stripped reply))) [ Some values ↦ Are values | None ↦ ⊥ ]
 
 -- the first value is this element, and the others are as the fact says
 abbrev pub First : {X : Type 0} → (Value → X → Type 0) → X → (List Value → Type 0) → List Value

@@ -4,7 +4,7 @@ ghost use Rattle.std.specs.Prelude.{◌≡◌, List, IfOk};
 ghost use Rattle.std.specs.Vec.Iter.{into_iter_items};
 ghost use Rattle.resp_value.specs.declared.value.Value.{Value, out-Value};
 ghost use Rattle.resp_from.specs.Conversion.{Converts};
-ghost use Rattle.resp_from.specs.Attributes.{bare};
+ghost use Rattle.resp_from.specs.Attributes.{stripped};
 ghost use Rattle.resp_from.specs.Tuples.{FindsHeld, Holds, held, in_turn, of_length};
 
 use crate::attributes::strip_attribute;
@@ -37,7 +37,7 @@ fn if_long(values: Vec<Value>, width: usize) -> Result<Vec<Value>, ParsingError>
 
 /// The `width` values that a reply holds.
 fn held_values(alloc: Global, width: usize, reply: Value) -> Result<Vec<Value>, ParsingError>
-    ensures finds { FindsHeld (held width (out-Value (bare reply))) result }
+    ensures finds { FindsHeld (held width (out-Value (stripped reply))) result }
 {
     match strip_attribute(reply) {
         Value::Array(items) => if_long(items.into_vec(), width),

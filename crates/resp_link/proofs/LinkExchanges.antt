@@ -136,6 +136,7 @@ missed i i' k k' b q n e answers sending r (out_of_memory is same) = connection.
   left = inr (record {
     pushes = pushes_in r.values;
     sent = λ told. record { prefix = q; rest = []; whole = sym (append-nil q); sent = sending.bytes (both_true i.observable k.observable told).1 };
+    among = λ told. record { values = r.values; rest = r.at.incoming; prefix = r.on.prefix (both_true i.observable k.observable told).0; pushes_are = refl };
     listed = r.pushes ∙ r.on.pushes;
     broken = refl;
   });

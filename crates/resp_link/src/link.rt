@@ -29,7 +29,7 @@ pub struct ByteLink<S, K> {
     inbox: Inbox<S>,
     sink: K,
     broken: bool,
-    ghost rested: { broken ≡ false → IsBetweenValues inbox.parser } by { Prim.hlevel IsBetweenValues-prop },
+    ghost between: { broken ≡ false → IsBetweenValues inbox.parser } by { Prim.hlevel IsBetweenValues-prop },
 }
 
 impl<R: Read, W: Write> ByteLink<Reading<R>, Writing<W>> {

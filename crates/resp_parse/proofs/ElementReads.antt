@@ -2,7 +2,7 @@
 use Rattle.std.proofs.Common.{◌≡◌, ℕ, zero, suc, ◌<◌, List, [], ◌∷◌, ◌++◌, length, refl, ap, sym, ◌∙◌, subst, append_assoc, arith, inl, inr}
 use Rattle.resp_value.specs.declared.value.Value.{Value}
 use Rattle.resp_errors.specs.declared.kinds.FrameFault.{FrameFault}
-use Rattle.resp_parse.specs.Grammar.{Joined, ElementWrong}
+use Rattle.resp_parse.specs.Grammar.{Joined, ElementIsFaulty}
 use Rattle.resp_parse.specs.PlainReading.{ReadOutcome, got, fault, then, read_elements}
 use Rattle.resp_parse.proofs.ReadingsInSequence.{then-got, then-fault}
 
@@ -47,7 +47,7 @@ module _ (R : List ℕ → ReadOutcome Value) (G : List ℕ → Value → Type 0
       let first : R (x ++ (y ++ rest)) ≡ got v (z ++ (y ++ rest)) = ap (λ s. R (s ++ (y ++ rest))) e ∙ ap R (append_assoc a z (y ++ rest)) ∙ good a (z ++ (y ++ rest)) v g in
       rw (first, element-fails good bad vs n z y rest f (omega arith) j w) refl
 
-  pub elements-fail : ReadsGood R G → ReadsFaulty R F → (n : ℕ) (b rest : List ℕ) (f : FrameFault) → ElementWrong G F n b f → read_elements R n (b ++ rest) ≡ fault f rest
+  pub elements-fail : ReadsGood R G → ReadsFaulty R F → (n : ℕ) (b rest : List ℕ) (f : FrameFault) → ElementIsFaulty G F n b f → read_elements R n (b ++ rest) ≡ fault f rest
   elements-fail good bad n b rest f (vs, x, y, l, e, j, w) =
       ap (λ s. read_elements R n (s ++ rest)) e ∙ ap (read_elements R n) (append_assoc x y rest) ∙ element-fails good bad vs n x y rest f l j w
 
@@ -71,7 +71,7 @@ module _ (R : List ℕ → ReadOutcome Value) (G : List ℕ → Value → Type 0
       subst (λ ws. ElementsPrefix (suc n) bs rest ws) ev
       (g.0 ++ h.0, append-prefix bs g.0 p.1 h.0 q.1 rest g.1 h.1 er, ap suc h.2, (g.0, h.0, refl, g.2, h.3))
 
-  pub elements-fault : GivesGood R G → GivesFaulty R F → (n : ℕ) (bs rest : List ℕ) (f : FrameFault) → read_elements R n bs ≡ fault f rest → (x : List ℕ) × (bs ≡ x ++ rest) × ElementWrong G F n x f
+  pub elements-fault : GivesGood R G → GivesFaulty R F → (n : ℕ) (bs rest : List ℕ) (f : FrameFault) → read_elements R n bs ≡ fault f rest → (x : List ℕ) × (bs ≡ x ++ rest) × ElementIsFaulty G F n x f
   elements-fault good bad zero bs rest f e = absurd (cc)
   elements-fault good bad (suc n) bs rest f e = elim (then-fault (R bs) (λ v r. then (read_elements R n r) (λ ws s. got (v ∷ ws) s)) f rest e) [
     | inl h ↦ let b = bad bs rest f h in (b.0, b.1, ([], [], b.0, omega arith, refl, refl, b.2))
@@ -81,7 +81,7 @@ module _ (R : List ℕ → ReadOutcome Value) (G : List ℕ → Value → Type 0
     ]
   ]
     where
-      later : (v : Value) (r : List ℕ) → Prefix G bs r v → ((x : List ℕ) × (r ≡ x ++ rest) × ElementWrong G F n x f) → (x : List ℕ) × (bs ≡ x ++ rest) × ElementWrong G F (suc n) x f
+      later : (v : Value) (r : List ℕ) → Prefix G bs r v → ((x : List ℕ) × (r ≡ x ++ rest) × ElementIsFaulty G F n x f) → (x : List ℕ) × (bs ≡ x ++ rest) × ElementIsFaulty G F (suc n) x f
       later v r (a, ea, ga) (b, eb, (vs, x, y, l, e2, j, w)) = (
         a ++ b,
         append-prefix bs a r b rest rest ea eb refl,

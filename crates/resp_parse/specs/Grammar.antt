@@ -151,24 +151,24 @@ Good (suc d) b v = (kind : TypeByte) × (text : List ℕ) × (rest : List ℕ)
     × Header b kind text rest × IsUtf8 text × Follows (Good d) (announced kind text) rest v
 
 -- a body of n bytes, and then a byte that isn't CR, or CR and a byte that isn't LF
-pub data EndsWrong (n : ℕ) (rest : List ℕ) : Type 0 where
-  no_cr : (x : List ℕ) (c : ℕ) → length x ≡ n → c ≢ 13 → rest ≡ x ++ (c ∷ []) → EndsWrong n rest
+pub data EndIsFaulty (n : ℕ) (rest : List ℕ) : Type 0 where
+  no_cr : (x : List ℕ) (c : ℕ) → length x ≡ n → c ≢ 13 → rest ≡ x ++ (c ∷ []) → EndIsFaulty n rest
   no_lf : (x : List ℕ) (c : ℕ) → length x ≡ n → c ≢ 10 → rest ≡ x ++ (13 ∷ c ∷ []) →
-      EndsWrong n rest
+      EndIsFaulty n rest
 
 -- fewer than n elements as P says, and then an element at fault as Q says
-abbrev pub ElementWrong : (List ℕ → Value → Type 0) → (List ℕ → FrameFault → Type 0) →
+abbrev pub ElementIsFaulty : (List ℕ → Value → Type 0) → (List ℕ → FrameFault → Type 0) →
     ℕ → List ℕ → FrameFault → Type 0
-ElementWrong P Q n rest f = (vs : List Value) × (x : List ℕ) × (y : List ℕ)
+ElementIsFaulty P Q n rest f = (vs : List Value) × (x : List ℕ) × (y : List ℕ)
     × (length vs < n) × (rest ≡ x ++ y) × Joined P x vs × Q y f
 
 -- the bytes after a header end exactly where the fault shows
 abbrev pub FaultFollows : (List ℕ → Value → Type 0) → (List ℕ → FrameFault → Type 0) →
     Announcement → List ℕ → FrameFault → Type 0
 FaultFollows P Q (complete w) rest f = ⊥
-FaultFollows P Q (body n make) rest f = ((f ≡ BodyEnd) × EndsWrong n rest)
+FaultFollows P Q (body n make) rest f = ((f ≡ BodyEnd) × EndIsFaulty n rest)
     ⊎ ((x : List ℕ) × (length x ≡ n) × (rest ≡ x ++ crlf) × (make x ≡ Err f))
-FaultFollows P Q (elements n make) rest f = ElementWrong P Q n rest f
+FaultFollows P Q (elements n make) rest f = ElementIsFaulty P Q n rest f
     ⊎ ((vs : List Value) × (length vs ≡ n) × Joined P rest vs × (make vs ≡ Err f))
 FaultFollows P Q (invalid g) rest f = (rest ≡ []) × (f ≡ g)
 

@@ -28,7 +28,7 @@ pub record IsBetweenValues (s : State) : Type 0 where
 abbrev pub has_failed : RedisError
 has_failed = form.Parse (parsing.Described (codes "parser has failed"))
 
--- there is at most one proof that a parser is at rest
+-- there is at most one proof that a parser stands between values
 pub IsBetweenValues-prop : (s : State) → IsProp (IsBetweenValues s)
 unfolding StandsAfter
 IsBetweenValues-prop s = hlevel props

@@ -113,12 +113,39 @@ fn one_read_a_fill(rt: HostRuntime) {
 }
 
 #[test]
+fn nothing_is_asked_after_a_refusal(rt: HostRuntime) {
+    for (script, calls) in [
+        (&[Step::Moves(b":x\r\n"), Step::Moves(b":1\r\n")][..], 1),
+        (
+            &[Step::Moves(b":1"), Step::Moves(b""), Step::Moves(b"\r\n")][..],
+            2,
+        ),
+    ] {
+        let mut link = ByteLink::new(
+            rt.alloc(),
+            ScriptedReader::new(script),
+            ScriptedWriter::new(&[], &[]),
+        );
+        assert!(rt; ping(&rt).query::<i64>(&mut link).is_err());
+        let (source, _sink) = link.into_ends();
+        assert_eq!(rt; source.into_inner().calls, calls);
+    }
+}
+
+#[test]
 fn one_write_a_send(rt: HostRuntime) {
     let script = &[Step::Fails(ErrorKind::Interrupted), Step::Moves(b"x")];
     let mut sink = Writing::new(ScriptedWriter::new(script, &[]));
     assert_eq!(rt; sink.send(b"x"), Err(IoKind::Interrupted));
     let writer = sink.into_inner();
     assert_eq!(rt; (writer.writes, writer.flushes), (1, 0));
+}
+
+#[test]
+fn a_write_of_nothing(rt: HostRuntime) {
+    let mut sink = Writing::new(ScriptedWriter::new(&[Step::Moves(b"")], &[]));
+    assert_eq!(rt; sink.send(b"x"), Err(IoKind::WriteZero));
+    assert_eq!(rt; sink.send(b"x"), Ok(1));
 }
 
 #[test]

@@ -30,6 +30,19 @@ fn arguments_of_each_type(rt: HostRuntime) -> Result<(), Fail> {
 }
 
 #[test]
+fn an_argument_in_pieces(rt: HostRuntime) -> Result<(), Fail> {
+    let mut command = cmd(rt.alloc(), "GET")?;
+    command.open_arg()?;
+    command.extend_arg(b"key")?;
+    let packed = command.get_packed_command()?;
+    assert_eq!(rt;
+        packed.as_slice(),
+        b"*2\r\n$3\r\nGET\r\n$3\r\nkey\r\n".as_slice()
+    );
+    Ok(())
+}
+
+#[test]
 fn empty_command(rt: HostRuntime) -> Result<(), Fail> {
     let command = Cmd::new(rt.alloc());
     assert!(rt; command.is_empty());

@@ -1,6 +1,7 @@
 //! Pushes between replies, over a link.
 
 use crate::memory::{commands, link_over, next_integer, ping};
+use resp_core::laws::law_of_taking;
 use resp_core::{ConnectionLike, ErrorKind, FrameFault, IoKind, PushInfo, PushKind, Text, Value};
 use std::process::Abort;
 
@@ -20,6 +21,7 @@ const BETWEEN: &[u8] = b":1\r\n>3\r\n+message\r\n+c\r\n+hi\r\n:2\r\n:9\r\n";
 
 #[test]
 fn a_push_between_replies_is_listed(rt: HostRuntime) {
+    law_of_taking();
     let mut link = link_over(&rt, BETWEEN);
     let both: (i64, i64) = commands(&rt, &["FOO", "BAR"])
         .query(&mut link)

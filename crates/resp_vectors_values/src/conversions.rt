@@ -1,5 +1,6 @@
 //! Replies as Rust values.
 
+use resp_core::laws::law_of_one_value;
 use resp_core::{
     FromRedisValue, RedisError, RedisResult, ServerError, Value, from_redis_value,
     from_redis_value_ref, parse_redis_value,
@@ -202,6 +203,14 @@ fn a_short_last_group_is_one_refusal(rt: HostRuntime) {
     );
     assert_eq!(rt; answers.len(), 1);
     assert!(rt; answers.iter().all(|answer| answer.is_err()));
+}
+
+#[test]
+fn a_borrowed_list_of_replies(rt: HostRuntime) {
+    law_of_one_value();
+    let values = [Value::Int(1), Value::Int(2)];
+    let both = i64::from_redis_value_refs(rt.alloc(), values.as_slice()).expect(&rt, "no refusal");
+    assert_eq!(rt; both.as_slice(), [1, 2].as_slice());
 }
 
 #[test]
