@@ -18,6 +18,10 @@ use Rattle.resp_errors.specs.contracts.kinds.ServerErrorKind as the_server_kind
 use Rattle.resp_errors.specs.contracts.kinds.FrameFault as the_fault
 use Rattle.resp_errors.specs.contracts.kinds.IoKind as the_io_kind
 
+-- values of which a test says no aren't tested further
+no : {A : Type 0} → false ≡ true → A
+no h = cc
+
 -- the test says that two values are the same
 abbrev Tells : {A : Type 0} → (A → A → Bool) → Type 0
 Tells {A} eq = (a b : A) → eq a b ≡ true → a ≡ b
@@ -46,7 +50,7 @@ tells_kind kind.EmptySentinelList kind.EmptySentinelList h = refl
 tells_kind kind.ClusterConnectionNotFound kind.ClusterConnectionNotFound h = refl
 tells_kind kind.RESP3NotSupported kind.RESP3NotSupported h = refl
 tells_kind kind.OutOfMemory kind.OutOfMemory h = refl
-tells_kind _ _ h = cc
+tells_kind _ _ h = no h
 
 pub tells_text : (a b : List ℕ) → pointwise nat_eq a b ≡ true → a ≡ b
 tells_text a b h = (bytes_decides a b).0 h
@@ -55,7 +59,7 @@ pub tells_parsing : Tells parsing_errors.ghosts.eq
 tells_parsing (parsing.Described a) (parsing.Described b) h = ap parsing.Described (tells_text a b h)
 tells_parsing (parsing.Fault a) (parsing.Fault b) h = ap parsing.Fault (tells_fault a b h)
 tells_parsing parsing.OutOfMemory parsing.OutOfMemory h = refl
-tells_parsing _ _ h = cc
+tells_parsing _ _ h = no h
 
 pub both : (s t : Bool) → (s && t) ≡ true → (s ≡ true) × (t ≡ true)
 both true t h = (refl, h)
@@ -64,7 +68,7 @@ both false t h = cc
 tells_detail : (a b : Option (List ℕ)) → option_eq (pointwise nat_eq) a b ≡ true → a ≡ b
 tells_detail (Some a) (Some b) h = ap Some (tells_text a b h)
 tells_detail None None h = refl
-tells_detail _ _ h = cc
+tells_detail _ _ h = no h
 
 pub tells_server : Tells server_errors.ghosts.eq
 tells_server (server.Known k d) (server.Known k' d') h =
@@ -73,7 +77,7 @@ tells_server (server.Known k d) (server.Known k' d') h =
 tells_server (server.Extension c d) (server.Extension c' d') h =
     let parts = both (pointwise nat_eq c c') _ h in
     λ i. server.Extension (tells_text c c' parts.0 i) (tells_detail d d' parts.1 i)
-tells_server _ _ h = cc
+tells_server _ _ h = no h
 
 tells_entry : (a b : ℕ × ServerError) → (eqb a.0 b.0 && server_errors.ghosts.eq a.1 b.1) ≡ true → a ≡ b
 tells_entry a b h =
@@ -85,4 +89,4 @@ tells_entries [] [] h = refl
 tells_entries (x ∷ xs) (y ∷ ys) h =
     let parts = both (eqb x.0 y.0 && server_errors.ghosts.eq x.1 y.1) _ h in
     λ i. tells_entry x y parts.0 i ∷ tells_entries xs ys parts.1 i
-tells_entries _ _ h = cc
+tells_entries _ _ h = no h

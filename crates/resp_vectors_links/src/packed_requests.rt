@@ -2,7 +2,7 @@
 
 use crate::fakes::AskedOnce;
 use crate::memory::{commands, fixed_text, link_over, next_integer, sent};
-use resp_core::{ByteLink, ConnectionLike, ErrorKind, Value};
+use resp_core::{ByteLink, ConnectionLike, ErrorKind, RedisError, Value};
 
 #[test]
 fn no_bytes_are_an_empty_command(rt: HostRuntime) {
@@ -29,15 +29,15 @@ fn a_broken_link_refuses_packed_commands(rt: HostRuntime) {
     let mut link = link_over(&rt, b":x\r\n:7\r\n");
     let fault = link.req_packed_command(b"x").expect_err(&rt, "a refusal");
     assert_eq!(rt; fault.kind(), ErrorKind::Parse);
-    let one = link.req_packed_command(b"").expect_err(&rt, "a refusal");
-    assert_eq!(rt; one.kind(), ErrorKind::Io);
-    assert_eq!(rt; fixed_text(&one), "link is broken");
-    let many = link
-        .req_packed_commands(b"y", 0, 1)
-        .expect_err(&rt, "a refusal");
-    assert_eq!(rt; many.kind(), ErrorKind::Io);
-    assert_eq!(rt; fixed_text(&many), "link is broken");
+    assert!(rt; is_broken_link(link.req_packed_command(b"").expect_err(&rt, "a refusal")));
+    let many = link.req_packed_commands(b"y", 0, 1);
+    assert!(rt; is_broken_link(many.expect_err(&rt, "a refusal")));
     assert_eq!(rt; sent(link).as_slice(), b"x".as_slice());
+}
+
+/// Whether the error is what a broken link answers.
+fn is_broken_link(error: RedisError) -> bool {
+    error.kind() == ErrorKind::Io && fixed_text(&error) == "link is broken"
 }
 
 #[test]

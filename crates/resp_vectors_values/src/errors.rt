@@ -100,27 +100,33 @@ fn alike(rt: &(impl Abort + AllocGlobal), a: &RedisError, b: &RedisError) -> boo
 }
 
 #[test]
-fn equal_errors(rt: HostRuntime) {
+fn equal_refusals(rt: HostRuntime) {
+    law_of_equal_errors();
     let refused = RedisError::from((ErrorKind::Client, "empty command"));
     let other_text = RedisError::from((ErrorKind::Client, "formatting failed"));
     assert!(rt; alike(&rt, &refused, &other_text));
     let broken = RedisError::from((ErrorKind::Io, "link is broken"));
     assert!(rt; !alike(&rt, &refused, &broken));
+    assert!(rt; !alike(&rt, &broken, &RedisError::from(IoKind::UnexpectedEof)));
+}
+
+#[test]
+fn equal_faults_of_devices(rt: HostRuntime) {
     let early = RedisError::from(IoKind::UnexpectedEof);
-    assert!(rt; !alike(&rt, &broken, &early));
     assert!(rt; alike(&rt, &early, &RedisError::from(IoKind::UnexpectedEof)));
     assert!(rt; !alike(&rt, &early, &RedisError::from(IoKind::TimedOut)));
+}
+
+#[test]
+fn equal_parse_errors(rt: HostRuntime) {
     let described = RedisError::from(ParsingError::from("unknown type byte"));
     let fault = RedisError::from(ParsingError::from(FrameFault::UnknownType));
     assert!(rt; !alike(&rt, &described, &fault));
     let by_hand = RedisError::Parse(ParsingError::OutOfMemory);
+    assert_eq!(rt; by_hand.kind(), ErrorKind::Parse);
     let memory = RedisError::from(ParsingError::OutOfMemory);
+    assert_eq!(rt; memory.kind(), ErrorKind::OutOfMemory);
     assert!(rt; !alike(&rt, &by_hand, &memory));
-    assert_eq!(rt;
-        (by_hand.kind(), memory.kind()),
-        (ErrorKind::Parse, ErrorKind::OutOfMemory)
-    );
-    law_of_equal_errors();
 }
 
 #[test]
