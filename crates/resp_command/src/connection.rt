@@ -11,8 +11,9 @@ use resp_value::{RedisResult, Value};
 ///
 /// Each request is refused, in this order: where the connection broke before; for an empty
 /// command, but several packed commands may be none; for a fault of sending or flushing; for a
-/// fault of receiving; for an early end; for bytes that are no reply. `OutOfMemory` may come at any place. After a refusal of the last four,
-/// and on `OutOfMemory` once sending was begun, the connection is broken permanently.
+/// fault of receiving; for an early end; for bytes that are no reply. `OutOfMemory` may come at any
+/// place. After a refusal of the last four, and on `OutOfMemory` once sending was begun, the
+/// connection is broken permanently.
 ///
 /// Pushes that stand before the last reply to a request are set aside, and count as no reply.
 pub trait ConnectionLike {
