@@ -3,7 +3,7 @@ ghost use Rattle.std.specs.Option.{option_copied};
 ghost use Rattle.resp_args.specs.Args.{args_of};
 
 use crate::write::RedisWrite;
-use resp_value::RedisResult;
+use resp_errors::RedisResult;
 use std::alloc::{AllocError, Global};
 use std::marker::Model;
 

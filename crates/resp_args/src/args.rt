@@ -9,7 +9,7 @@ ghost use Rattle.resp_args.specs.declared.args.NumericBehavior.{NumericBehavior}
 ghost use Rattle.resp_args.specs.declared.args.NumericBehavior.TheVariants.{NonNumeric};
 
 use crate::write::RedisWrite;
-use resp_value::RedisResult;
+use resp_errors::RedisResult;
 use std::alloc::Global;
 
 /// What kind of number a value is written as, if it is one.

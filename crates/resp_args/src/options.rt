@@ -10,7 +10,7 @@ ghost use Rattle.resp_args.specs.declared.options.ProtocolVersion.TheVariants as
 
 use crate::args::{NumericBehavior, ToRedisArgs};
 use crate::write::RedisWrite;
-use resp_value::RedisResult;
+use resp_errors::RedisResult;
 
 /// When a key expires that a command reads or writes.
 ///

@@ -4,7 +4,7 @@ ghost use Rattle.std.specs.Prelude.{◌≡◌, ◌<◌, [], ◌∷◌, ◌++◌,
 ghost use Rattle.resp_args.specs.Args.{Args, args_of, extended};
 ghost use Rattle.resp_errors.specs.Memory.{OnlyMemory};
 
-use resp_value::RedisResult;
+use resp_errors::RedisResult;
 
 /// A list of arguments that grows at its end.
 ///

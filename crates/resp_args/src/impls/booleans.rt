@@ -4,7 +4,7 @@ ghost use Rattle.resp_args.specs.Args.{GivesOne, digit_of};
 
 use crate::args::{NumericBehavior, ToRedisArgs};
 use crate::write::RedisWrite;
-use resp_value::RedisResult;
+use resp_errors::RedisResult;
 
 impl ToRedisArgs for bool {
     ghost gives = { GivesOne digit_of };

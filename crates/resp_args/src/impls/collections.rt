@@ -8,7 +8,7 @@ ghost use Rattle.resp_args.specs.Args.{RefusedInSomeOrder, IfRefused};
 
 use crate::args::{NumericBehavior, ToRedisArgs};
 use crate::write::RedisWrite;
-use resp_value::{ErrorKind, RedisError, RedisResult};
+use resp_errors::{ErrorKind, RedisError, RedisResult};
 use std::collections::{BTreeMap, BTreeSet, HashMap, HashSet};
 use std::hash::Hash;
 

@@ -5,7 +5,7 @@ ghost use Rattle.resp_args.specs.Args.{behaviour_of_option};
 
 use crate::args::{NumericBehavior, ToRedisArgs};
 use crate::write::RedisWrite;
-use resp_value::RedisResult;
+use resp_errors::RedisResult;
 use std::rc::Rc;
 
 /// `None` gives no argument.

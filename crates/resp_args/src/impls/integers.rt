@@ -10,7 +10,7 @@ ghost use Rattle.resp_errors.specs.Memory.{OnlyMemory};
 use crate::args::{NumericBehavior, ToRedisArgs};
 use crate::write::RedisWrite;
 use itoa::{Buffer, Integer};
-use resp_value::RedisResult;
+use resp_errors::RedisResult;
 
 /// Appends one argument, the decimal text of the number.
 fn write_decimal<I: Integer, W: RedisWrite>(n: I, out: &mut W) -> RedisResult<()>

@@ -5,7 +5,7 @@ ghost use Rattle.resp_args.specs.Args.{GivesSlice, RefusesSlice, count_of_slice,
 
 use crate::args::{NumericBehavior, ToRedisArgs};
 use crate::write::RedisWrite;
-use resp_value::RedisResult;
+use resp_errors::RedisResult;
 use std::borrow::CowSlice;
 use std::boxed::BoxedSlice;
 use std::rc::RcSlice;

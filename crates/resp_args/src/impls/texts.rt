@@ -5,7 +5,7 @@ ghost use Rattle.resp_args.specs.Args.{GivesOne};
 
 use crate::args::{NumericBehavior, ToRedisArgs};
 use crate::write::RedisWrite;
-use resp_value::RedisResult;
+use resp_errors::RedisResult;
 use std::borrow::CowStr;
 
 impl ToRedisArgs for &str {

@@ -5,7 +5,7 @@ ghost use Rattle.resp_args.specs.Args.{GivesBoth};
 
 use crate::args::{NumericBehavior, ToRedisArgs};
 use crate::write::RedisWrite;
-use resp_value::RedisResult;
+use resp_errors::RedisResult;
 
 impl<A: ToRedisArgs> ToRedisArgs for (A,) {
     ghost gives = { λ x. A.gives x.0 };
