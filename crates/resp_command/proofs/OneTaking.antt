@@ -1,18 +1,17 @@
 -- From any bytes n replies take one thing: there is one, and there is no other.
-use Rattle.std.proofs.Common.{◌≡◌, ℕ, zero, suc, ◌+◌, ◌<◌, ◌≤◌, Option, None, Some, is_none, List, [], ◌∷◌, ◌++◌, length, refl, sym, ap, ◌∙◌, subst, append_assoc, append-nil, length-append, arith, ◌⊎◌, inl, inr}
+use Rattle.std.proofs.Common.{◌≡◌, ℕ, zero, suc, ◌+◌, ◌<◌, ◌≤◌, Option, None, Some, List, [], ◌∷◌, ◌++◌, length, refl, sym, ap, ◌∙◌, subst, append_assoc, length-append, arith, ◌⊎◌, inl, inr}
 use Rattle.std.proofs.lemmas.List.{append_cancel_left}
 use Rattle.resp_value.specs.declared.value.Value.{Value}
 use Rattle.resp_value.specs.declared.value.PushInfo.{PushInfo}
 use Rattle.resp_errors.specs.declared.kinds.FrameFault.{FrameFault}
 use Rattle.resp_parse.specs.Grammar.{Good, Joined}
-use Rattle.resp_parse.specs.Laws.{LawOfPrefixes}
 use Rattle.resp_parse.specs.Prefixes.{HasGoodPrefix, HasFaultyPrefix, IsUnfinished}
 use Rattle.resp_parse.specs.Reads.{Reads}
 use Rattle.resp_parse.specs.PlainReading as reading
 use Rattle.resp_parse.specs.PlainReading.{ReadOutcome, read}
 use Rattle.resp_parse.proofs.Prefixes.{law_of_prefixes}
 use Rattle.resp_parse.proofs.PrefixReads.{HasGoodPrefix-from_read, HasFaultyPrefix-from_fault_read, IsUnfinished-from_read}
-use Rattle.resp_command.specs.Taken.{push_of, pushes_in, replies_in, PrefixReads, EndsAtReply, Taking, got, fault, early, TakesAll, TakesFewer, Taken, TakesOneThing}
+use Rattle.resp_command.specs.Taken.{push_of, pushes_in, replies_in, PrefixReads, Taking, got, fault, early, TakesAll, TakesFewer, Taken, TakesOneThing}
 use Rattle.resp_command.proofs.PackedReadsBack.{good_some}
 use Rattle.resp_command.proofs.Values.{reads_nothing, reads_one, reads_both, count-append, ends_at_nothing}
 
@@ -28,18 +27,19 @@ one_more vs ws r s v (first_shorter w after more e h) = first_shorter w after mo
 one_more vs ws r s v (second_shorter w after more e h) = second_shorter w after more (ap (λ l. v ∷ l) e) h
 
 begins : (r x y b c s : List ℕ) (w : Value) → r ≡ x ++ s → x ≡ b ++ c → Good 100 b w → HasGoodPrefix 100 r w (c ++ s)
-unfolding HasGoodPrefix
-begins r x y b c s w e f g = (b, e ∙ ap (λ l. l ++ s) f ∙ append_assoc b c s, g)
+begins r x y b c s w e f g = record { prefix = b; whole = e ∙ ap (λ l. l ++ s) f ∙ append_assoc b c s; good = g }
 
 compare : (x r y s : List ℕ) (vs ws : List Value) → x ++ r ≡ y ++ s → Joined (Good 100) x vs → Joined (Good 100) y ws → Compared vs ws r s
 compare x r y s [] [] e h k = same refl (rw (h, k) at e)
-compare x r y s [] (w ∷ ws) e h (a, b, f, g, j) = first_shorter w ws (b ++ s) refl (begins r y [] a b s w (rw h at e) f g)
-compare x r y s (v ∷ vs) [] e (a, b, f, g, j) k = second_shorter v vs (b ++ r) refl (begins s x [] a b r v (sym (rw k at e)) f g)
-compare x r y s (v ∷ vs) (w ∷ ws) e (a, b, f, g, j) (a', b', f', g', j') =
-    let whole : a ++ (b ++ r) ≡ a' ++ (b' ++ s) = sym (append_assoc a b r) ∙ ap (λ l. l ++ r) (sym f) ∙ e ∙ ap (λ l. l ++ s) f' ∙ append_assoc a' b' s in
-    let one = (law_of_prefixes 100 a (b ++ r) a' (b' ++ s)).values v w whole g g' in
-    let rest : b ++ r ≡ b' ++ s = append_cancel_left a (b ++ r) (b' ++ s) (whole ∙ ap (λ l. l ++ (b' ++ s)) (sym one.0)) in
-    subst (λ z. Compared (v ∷ vs) (z ∷ ws) r s) one.1 (one_more vs ws r s v (compare b r b' s vs ws rest j j'))
+compare x r y s [] (w ∷ ws) e h k = first_shorter w ws (k.others ++ s) refl (begins r y [] k.first k.others s w (rw h at e) k.whole k.first_is)
+compare x r y s (v ∷ vs) [] e h k = second_shorter v vs (h.others ++ r) refl (begins s x [] h.first h.others r v (sym (rw k at e)) h.whole h.first_is)
+compare x r y s (v ∷ vs) (w ∷ ws) e h k =
+    let left : x ++ r ≡ h.first ++ (h.others ++ r) = ap (λ l. l ++ r) h.whole ∙ append_assoc h.first h.others r in
+    let right : y ++ s ≡ k.first ++ (k.others ++ s) = ap (λ l. l ++ s) k.whole ∙ append_assoc k.first k.others s in
+    let whole : h.first ++ (h.others ++ r) ≡ k.first ++ (k.others ++ s) = sym left ∙ e ∙ right in
+    let one = (law_of_prefixes 100 h.first (h.others ++ r) k.first (k.others ++ s)).values v w whole h.first_is k.first_is in
+    let rest : h.others ++ r ≡ k.others ++ s = append_cancel_left h.first (h.others ++ r) (k.others ++ s) (whole ∙ ap (λ l. l ++ (k.others ++ s)) (sym one.0)) in
+    subst (λ z. Compared (v ∷ vs) (z ∷ ws) r s) one.1 (one_more vs ws r s v (compare h.others r k.others s vs ws rest h.others_are k.others_are))
 
 compared : (b r s : List ℕ) (vs ws : List Value) → PrefixReads b vs r → PrefixReads b ws s → Compared vs ws r s
 unfolding Reads
@@ -53,12 +53,10 @@ unfinished_no_value : NoValue (IsUnfinished 100)
 unfinished_no_value r more v h g = h.no_value v more g
 
 fault_no_value : (f : FrameFault) → NoValue (λ r. HasFaultyPrefix 100 r f)
-unfolding HasGoodPrefix HasFaultyPrefix
-fault_no_value f r more v (x, rest, e, w) (y, i, g) = (law_of_prefixes 100 y more x rest).apart v f (sym i ∙ e) g w
+fault_no_value f r more v h g = (law_of_prefixes 100 g.prefix more h.prefix h.rest).apart v f (sym g.whole ∙ h.whole) g.good h.faulty
 
 one_fault : (r : List ℕ) (f g : FrameFault) → HasFaultyPrefix 100 r f → HasFaultyPrefix 100 r g → f ≡ g
-unfolding HasFaultyPrefix
-one_fault r f g (x, rest, e, w) (y, more, i, z) = ((law_of_prefixes 100 x rest y more).faults f g (sym e ∙ i) w z).1
+one_fault r f g h k = ((law_of_prefixes 100 h.prefix h.rest k.prefix k.rest).faults f g (sym h.whole ∙ k.whole) h.faulty k.faulty).1
 
 -- the replies that come first are as many at most
 at_most : (vs ws after : List Value) (w : Value) → ws ≡ vs ++ w ∷ after → length (replies_in vs) ≤ length (replies_in ws)
@@ -161,9 +159,11 @@ value_before n m b rest v g count some (early p) h = (
 
 -- a value takes a byte at least
 shorter : (b rest : List ℕ) (v : Value) → HasGoodPrefix 100 b v rest → length rest < length b
-unfolding HasGoodPrefix
-shorter b rest v ([], e, g) = absurd (good_some 100 v g)
-shorter b rest v (c ∷ x, e, g) = let l = ap length e ∙ length-append (c ∷ x) rest in omega arith
+shorter b rest v h = by_prefix h.prefix h.whole h.good
+  where
+    by_prefix : (x : List ℕ) → b ≡ x ++ rest → Good 100 x v → length rest < length b
+    by_prefix [] e g = absurd (good_some 100 v g)
+    by_prefix (c ∷ x) e g = let l = ap length e ∙ length-append (c ∷ x) rest in omega arith
 
 -- one value more, a reply or a push
 count_one : (v : Value) → (length (replies_in (v ∷ [])) ≡ 0) ⊎ (length (replies_in (v ∷ [])) ≡ 1)

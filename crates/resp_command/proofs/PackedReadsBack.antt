@@ -50,58 +50,64 @@ bulk_announced len small = ap (λ o. with_valid (elim o [ Some n ↦ Ok n | None
 array_announced : (len : ℕ) → len < 2 ^ 63 → announced type_byte.Array (decimal len) ≡ elements len (λ values. Ok (Array values))
 array_announced len small = ap (λ o. with_valid (elim o [ Some n ↦ Ok n | None ↦ Err NotInteger ]) (or_nil (λ k. elements k (λ values. Ok (Array values))))) (number-decimal len small)
 
--- a frame spells its argument as a bulk string
-frame_good : (d : ℕ) (arg : List ℕ) → length arg < 2 ^ 63 → Good (suc d) (bulk arg) (BulkString arg)
-frame_good d arg small = (
-  type_byte.BulkString,
-  decimal (length arg),
-  arg ++ crlf,
-  headed type_byte.BulkString (length arg) (arg ++ crlf) (bulk arg) small refl,
-  text_of (length arg) small,
-  rw (bulk_announced (length arg) small) (arg, refl, refl, refl),
-)
+-- a bulk string spells its argument
+bulk_good : (d : ℕ) (arg : List ℕ) → length arg < 2 ^ 63 → Good (suc d) (bulk arg) (BulkString arg)
+bulk_good d arg small = record {
+  kind = type_byte.BulkString;
+  text = decimal (length arg);
+  rest = arg ++ crlf;
+  header = headed type_byte.BulkString (length arg) (arg ++ crlf) (bulk arg) small refl;
+  text_is_utf8 = text_of (length arg) small;
+  follows = rw (bulk_announced (length arg) small) (record { content = arg; size = refl; whole = refl; makes = refl });
+}
 
 -- each argument is short
 abbrev AllShort : Args → Type 0
 AllShort [] = Unit {0}
 AllShort (arg ∷ args) = (length arg < 2 ^ 63) × AllShort args
 
-frames_joined : (d : ℕ) (args : Args) → AllShort args → Joined (Good (suc d)) (flat_map bulk args) (map BulkString args)
-frames_joined d [] h = refl
-frames_joined d (arg ∷ args) h = (bulk arg, flat_map bulk args, refl, frame_good d arg h.0, frames_joined d args h.1)
+bulks_joined : (d : ℕ) (args : Args) → AllShort args → Joined (Good (suc d)) (flat_map bulk args) (map BulkString args)
+bulks_joined d [] h = refl
+bulks_joined d (arg ∷ args) h = record {
+  first = bulk arg;
+  others = flat_map bulk args;
+  whole = refl;
+  first_is = bulk_good d arg h.0;
+  others_are = bulks_joined d args h.1;
+}
 
 length-map : (args : Args) → length (map BulkString args) ≡ length args
 length-map [] = refl
 length-map (arg ∷ args) = ap suc (length-map args)
 
 packed_good : (d : ℕ) (args : Args) → length args < 2 ^ 63 → AllShort args → Good (suc (suc d)) (packed args) (as_value args)
-packed_good d args few short = (
-  type_byte.Array,
-  decimal (length args),
-  flat_map bulk args,
-  headed type_byte.Array (length args) (flat_map bulk args) (packed args) few refl,
-  text_of (length args) few,
-  rw (array_announced (length args) few) (map BulkString args, length-map args, frames_joined d args short, refl),
-)
+packed_good d args few short = record {
+  kind = type_byte.Array;
+  text = decimal (length args);
+  rest = flat_map bulk args;
+  header = headed type_byte.Array (length args) (flat_map bulk args) (packed args) few refl;
+  text_is_utf8 = text_of (length args) few;
+  follows = rw (array_announced (length args) few) (record { values = map BulkString args; size = length-map args; joined = bulks_joined d args short; makes = refl });
+}
 
-frame_longer : (arg : List ℕ) → length arg < length (bulk arg)
-frame_longer arg = simp length-append (omega arith)
+bulk_longer : (arg : List ℕ) → length arg < length (bulk arg)
+bulk_longer arg = simp length-append (omega arith)
 
 few : (args : Args) → length args ≤ length (flat_map bulk args)
 few [] = omega arith
-few (arg ∷ args) = let rest = few args in let one = frame_longer arg in omega (arith, length-append (bulk arg) (flat_map bulk args))
+few (arg ∷ args) = let rest = few args in let one = bulk_longer arg in omega (arith, length-append (bulk arg) (flat_map bulk args))
 
 short : (args : Args) → length (flat_map bulk args) < 2 ^ 63 → AllShort args
 short [] h = tt
 short (arg ∷ args) h =
     let both = length-append (bulk arg) (flat_map bulk args) in
-    let one = frame_longer arg in
+    let one = bulk_longer arg in
     (omega arith, short args (omega arith))
 
 -- no good list is empty
 pub good_some : (d : ℕ) (v : Value) → Good d [] v → ⊥
 good_some zero v h = h
-good_some (suc d) v h = let e = h.3.bytes in cc
+good_some (suc d) v h = let e = h.header.bytes in cc
 
 -- nor has an empty list a good prefix
 no_prefix : (d : ℕ) (x y : List ℕ) (v : Value) → x ++ y ≡ [] → Good d x v → ⊥
@@ -111,12 +117,12 @@ no_prefix d (b ∷ x) y v e h = cc
 -- bytes read as one list of values only
 pub joined_once : (d : ℕ) (b : List ℕ) (vs ws : List Value) → Joined (Good d) b vs → Joined (Good d) b ws → vs ≡ ws
 joined_once d b [] [] h k = refl
-joined_once d b [] (w ∷ ws) h k = absurd (no_prefix d k.0 k.1 w (sym k.2 ∙ h) k.3)
-joined_once d b (v ∷ vs) [] h k = absurd (no_prefix d h.0 h.1 v (sym h.2 ∙ k) h.3)
+joined_once d b [] (w ∷ ws) h k = absurd (no_prefix d k.first k.others w (sym k.whole ∙ h) k.first_is)
+joined_once d b (v ∷ vs) [] h k = absurd (no_prefix d h.first h.others v (sym h.whole ∙ k) h.first_is)
 joined_once d b (v ∷ vs) (w ∷ ws) h k =
-    let same = (law_of_prefixes d h.0 h.1 k.0 k.1).values v w (sym h.2 ∙ k.2) h.3 k.3 in
-    let rest : h.1 ≡ k.1 = append_cancel_left h.0 h.1 k.1 (sym h.2 ∙ k.2 ∙ ap (λ a. a ++ k.1) (sym same.0)) in
-    let others = joined_once d h.1 vs ws h.4 (rw (sym rest) at k.4) in
+    let same = (law_of_prefixes d h.first h.others k.first k.others).values v w (sym h.whole ∙ k.whole) h.first_is k.first_is in
+    let rest : h.others ≡ k.others = append_cancel_left h.first h.others k.others (sym h.whole ∙ k.whole ∙ ap (λ a. a ++ k.others) (sym same.0)) in
+    let others = joined_once d h.others vs ws h.others_are (rw (sym rest) at k.others_are) in
     cc
 
 pub packed_reads_only : (args : Args) → LawOfPacking args
@@ -125,5 +131,11 @@ packed_reads_only args small =
     let body = flat_map bulk args in
     let some : length body < 2 ^ 63 = omega (arith, length-append (length_line (byte_of type_byte.Array) (length args)) body) in
     let good = packed_good 98 args (let n = few args in omega arith) (short args some) in
-    let reads : Joined (Good 100) (packed args) (as_value args ∷ []) = (packed args, [], sym (append-nil (packed args)), good, refl) in
+    let reads : Joined (Good 100) (packed args) (as_value args ∷ []) = record {
+      first = packed args;
+      others = [];
+      whole = sym (append-nil (packed args));
+      first_is = good;
+      others_are = refl;
+    } in
     record { reads = reads; only = λ vs h. joined_once 100 (packed args) vs (as_value args ∷ []) h reads }

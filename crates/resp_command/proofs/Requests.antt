@@ -11,7 +11,7 @@ use Rattle.resp_command.proofs.PackedReadsBack.{packed_reads_only, joined_once}
 
 -- bytes that are joined of one value spell it
 only_one : (d : ℕ) (b : List ℕ) (v : Value) → Joined (Good d) b (v ∷ []) → Good d b v
-only_one d b v h = subst (λ (l : List ℕ). Good d l v) (sym (h.2 ∙ ap (λ t. h.0 ++ t) h.4 ∙ append-nil h.0)) h.3
+only_one d b v h = subst (λ (l : List ℕ). Good d l v) (sym (h.whole ∙ ap (λ t. h.first ++ t) h.others_are ∙ append-nil h.first)) h.first_is
 
 joined_values : (lists : List Args) → length (flat_map packed lists) < 2 ^ 63 → Joined (Good 100) (flat_map packed lists) (map as_value lists)
 unfolding Reads
@@ -19,7 +19,13 @@ joined_values [] small = refl
 joined_values (args ∷ lists) small =
     let both = length-append (packed args) (flat_map packed lists) in
     let one = (packed_reads_only args (omega arith)).reads in
-    (packed args, flat_map packed lists, refl, only_one 100 (packed args) (as_value args) one, joined_values lists (omega arith))
+    record {
+      first = packed args;
+      others = flat_map packed lists;
+      whole = refl;
+      first_is = only_one 100 (packed args) (as_value args) one;
+      others_are = joined_values lists (omega arith);
+    }
 
 pub requests_read_only : (lists : List Args) → LawOfRequests lists
 unfolding Reads

@@ -1,9 +1,8 @@
 -- Values that are read one after another, and the replies among them.
-use Rattle.std.proofs.Common.{◌≡◌, ℕ, ◌+◌, ◌<◌, ◌≤◌, Option, None, Some, is_none, filter, filter_map, List, [], ◌∷◌, ◌++◌, length, refl, sym, ap, ◌∙◌, append_assoc, append-nil, length-append, arith, rules}
+use Rattle.std.proofs.Common.{◌≡◌, ℕ, ◌+◌, None, Some, is_none, List, [], ◌∷◌, ◌++◌, length, refl, sym, ap, ◌∙◌, append_assoc, append-nil, length-append, arith, rules}
 use Rattle.std.proofs.lemmas.List.Elements.{filter-append, filter_map-append}
 use Rattle.resp_value.specs.declared.value.Value.{Value, Push, the_lemmas}
 use Rattle.resp_value.specs.declared.names.PushKind.{PushKind}
-use Rattle.resp_value.specs.declared.value.PushInfo.{PushInfo}
 use Rattle.resp_parse.specs.Grammar.{Good, Joined}
 use Rattle.resp_parse.specs.Prefixes.{HasGoodPrefix}
 use Rattle.resp_parse.specs.Reads.{Reads}
@@ -15,15 +14,25 @@ push_of-Push kind payload = search (rules, the_lemmas)
 
 Joined-append : (P : List ℕ → Value → Type 0) (x y : List ℕ) (vs ws : List Value) → Joined P x vs → Joined P y ws → Joined P (x ++ y) (vs ++ ws)
 Joined-append P x y [] ws e h = rw e h
-Joined-append P x y (v ∷ vs) ws (a, b, e, g, j) h = (a, b ++ y, ap (λ s. s ++ y) e ∙ append_assoc a b y, g, Joined-append P b y vs ws j h)
+Joined-append P x y (v ∷ vs) ws j h = record {
+  first = j.first;
+  others = j.others ++ y;
+  whole = ap (λ s. s ++ y) j.whole ∙ append_assoc j.first j.others y;
+  first_is = j.first_is;
+  others_are = Joined-append P j.others y vs ws j.others_are h;
+}
 
 pub reads_nothing : (b : List ℕ) → PrefixReads b [] b
 unfolding Reads
 reads_nothing b = record { prefix = []; whole = refl; reads = refl }
 
 pub reads_one : (b rest : List ℕ) (v : Value) → HasGoodPrefix 100 b v rest → PrefixReads b (v ∷ []) rest
-unfolding HasGoodPrefix Reads
-reads_one b rest v h = record { prefix = h.0; whole = h.1; reads = (h.0, [], sym (append-nil h.0), h.2, refl) }
+unfolding Reads
+reads_one b rest v h = record {
+  prefix = h.prefix;
+  whole = h.whole;
+  reads = record { first = h.prefix; others = []; whole = sym (append-nil h.prefix); first_is = h.good; others_are = refl };
+}
 
 pub reads_both : (b mid rest : List ℕ) (vs ws : List Value) → PrefixReads b vs mid → PrefixReads mid ws rest → PrefixReads b (vs ++ ws) rest
 unfolding Reads

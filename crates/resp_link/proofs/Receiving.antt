@@ -1,16 +1,15 @@
 -- Reading on: what was received before, and then what is received next.
-use Rattle.std.proofs.Common.{◌≡◌, ℕ, ◌+◌, ◌<◌, ◌≤◌, Bool, true, false, List, [], ◌∷◌, ◌++◌, length, drop, refl, sym, ap, ◌∙◌, append_assoc, append-nil, arith, Ok, Err, None, Some}
+use Rattle.std.proofs.Common.{◌≡◌, ℕ, ◌+◌, ◌≤◌, true, List, [], ◌∷◌, ◌++◌, length, drop, refl, sym, ap, ◌∙◌, append_assoc, append-nil, arith, Ok, Err, None, Some}
 use Rattle.std.proofs.lemmas.Grind.{common_steps}
-use Rattle.resp_value.specs.declared.value.Value.{Value, Push}
+use Rattle.resp_value.specs.declared.value.Value.{Value}
 use Rattle.resp_value.specs.declared.value.PushInfo.{PushInfo}
 use Rattle.resp_errors.specs.declared.redis_error.RedisError.{RedisError}
 use Rattle.resp_errors.specs.declared.redis_error.RedisError.TheVariants as form
-use Rattle.resp_parse.specs.Prefixes.{HasGoodPrefix, HasFaultyPrefix, IsUnfinished}
 use Rattle.resp_parse.specs.Source.{Source}
 use Rattle.resp_parse.specs.State.{State}
-use Rattle.resp_parse.specs.Calls.{Parses, Parsed, CannotParse, faulty, early, interrupted, out_of_memory}
+use Rattle.resp_parse.specs.Calls.{Parses, CannotParse, faulty, early_end, source_failed, out_of_memory}
 use Rattle.resp_parse.proofs.LongerPrefixes.{HasGoodPrefix-whole, HasFaultyPrefix-whole, IsUnfinished-whole}
-use Rattle.resp_command.specs.Taken.{push_of, replies_in, pushes_in, PrefixReads, EndsAtReply}
+use Rattle.resp_command.specs.Taken.{push_of, replies_in, pushes_in}
 use Rattle.resp_link.specs.Receiving as receiving
 use Rattle.resp_link.specs.Receiving.{Inflow, inflow_of, ReadsOn, StopsReceiving, Receives, CannotReceive}
 use Rattle.resp_command.proofs.Values.{reads_nothing, reads_one, reads_both, replies_in-append, pushes_in-append, count-append, ends_at_nothing, ends_after_pushes, ends_after_both}
@@ -39,9 +38,9 @@ on_value s t unparsed new p v observable parsed = record {
 stops : (Needed : Type 0) (s t : Source) (unparsed : List ℕ) (new : State) (p : List PushInfo) (e : RedisError) → Needed → CannotParse unparsed e new s t → StopsReceiving Needed (inflow_of unparsed s p) (inflow_of new.unparsed t p) e
 stops Needed s t unparsed new p e needed (faulty f filled is bad failed) =
     receiving.faulty f needed is (λ told. HasFaultyPrefix-whole unparsed filled s t (failed.came told) f bad) failed.failures
-stops Needed s t unparsed new p e needed (early filled is unfinished nothing failed) =
+stops Needed s t unparsed new p e needed (early_end filled is unfinished nothing failed) =
     receiving.ended needed is (λ told. IsUnfinished-whole unparsed filled s t (failed.came told) (nothing told) unfinished) failed.failures
-stops Needed s t unparsed new p e needed (interrupted kind is midway) = receiving.interrupted kind needed is (λ told. record {
+stops Needed s t unparsed new p e needed (source_failed kind is midway) = receiving.interrupted kind needed is (λ told. record {
   prefix = unparsed ++ midway.filled;
   rest = t.bytes;
   whole = (let came = midway.came told in grind (arith, common_steps));

@@ -26,17 +26,17 @@ module _ (now : State) (b buffer buffer' : List ℕ) (consumed : ℕ) (failed : 
   works : failed ≡ false
   works = ap (λ (s : State). s.failed) e ∙ StandsAfter-works now b h
 
-  pub Asks-memory : (s : Source) → CannotFill b form.OutOfMemory (state_of buffer' consumed true) s s
-  Asks-memory s = CannotFill.out_of_memory refl (λ _. refl) refl (FailedAfter-from_unparsed (state_of buffer' consumed true) b refl unparsed)
+  pub Asks-out_of_memory : (s : Source) → CannotFill b form.OutOfMemory (state_of buffer' consumed true) s s
+  Asks-out_of_memory s = CannotFill.out_of_memory refl (λ _. refl) refl (FailedAfter-from_unparsed (state_of buffer' consumed true) b refl unparsed)
 
-  pub Asks-ended : (s t : Source) (before after : List ℕ) (n : ℕ) → n ≡ 0 → 0 < length before → Fills s t before after (Ok n) → CannotFill b (form.Io UnexpectedEof) (state_of buffer' consumed true) s t
-  Asks-ended s t before after n z l f =
-      CannotFill.ended refl (λ told. (f.bytes told).0 ∙ ap (λ m. take m after ++ t.bytes) z) (λ told. (f.bytes told).1 z l) f.failures
+  pub Asks-early_end : (s t : Source) (before after : List ℕ) (n : ℕ) → n ≡ 0 → 0 < length before → Fills s t before after (Ok n) → CannotFill b (form.Io UnexpectedEof) (state_of buffer' consumed true) s t
+  Asks-early_end s t before after n z l f =
+      CannotFill.early_end refl (λ told. (f.bytes told).0 ∙ ap (λ m. take m after ++ t.bytes) z) (λ told. (f.bytes told).1 z l) f.failures
       (FailedAfter-from_unparsed (state_of buffer' consumed true) b refl unparsed)
 
-  pub Asks-broken : (s t : Source) (before after : List ℕ) (kind : IoKind) → Fills s t before after (Err kind) → CannotFill b (form.Io kind) (state_of buffer' consumed failed) s t
-  Asks-broken s t before after kind f =
-      CannotFill.broken kind refl (λ told. sym (f.bytes told)) f.failures (StandsAfter-from_unparsed (state_of buffer' consumed failed) b works unparsed)
+  pub Asks-source_failed : (s t : Source) (before after : List ℕ) (kind : IoKind) → Fills s t before after (Err kind) → CannotFill b (form.Io kind) (state_of buffer' consumed failed) s t
+  Asks-source_failed s t before after kind f =
+      CannotFill.source_failed kind refl (λ told. sym (f.bytes told)) f.failures (StandsAfter-from_unparsed (state_of buffer' consumed failed) b works unparsed)
 
   filled : (s t : Source) (before after more : List ℕ) (n : ℕ) → consumed ≤ length buffer → more ≡ buffer' ++ take n after → Fills s t before after (Ok n) → Filled b (state_of more consumed failed) s t
   filled s t before after more n l m f = record {
@@ -51,4 +51,4 @@ module _ (now : State) (b buffer buffer' : List ℕ) (consumed : ℕ) (failed : 
   Asks-filled s t before after more n l m f size some =
       let most : length (take n after) ≤ n = take-most n after in
       let bound : n ≤ length before = f.bound in
-      (filled s t before after more n l m f, some, omega (arith, most, bound, size))
+      record { more = filled s t before after more n l m f; some = some; size = omega (arith, most, bound, size) }

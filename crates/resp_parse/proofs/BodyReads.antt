@@ -1,5 +1,5 @@
 -- Reading a body gives its bytes, or the byte that isn't its CR LF.
-use Rattle.std.proofs.Common.{◌≡◌, ◌≢◌, ℕ, zero, suc, Bool, true, false, cond, ◌==◌, List, [], ◌∷◌, ◌++◌, length, refl, ap, sym, ◌∙◌, append_assoc, inl, inr}
+use Rattle.std.proofs.Common.{◌≡◌, ◌≢◌, ℕ, zero, suc, Bool, true, false, cond, ◌==◌, List, [], ◌∷◌, ◌++◌, length, refl, ap, sym, ◌∙◌, append_assoc}
 use Rattle.std.proofs.lemmas.Bool.Decides.{Decides-eqb}
 use Rattle.resp_errors.specs.declared.kinds.FrameFault.{FrameFault}
 use Rattle.resp_errors.specs.declared.kinds.FrameFault.TheVariants.{BodyEnd}
@@ -7,7 +7,7 @@ use Rattle.resp_parse.specs.Lines.{crlf}
 use Rattle.resp_parse.specs.Grammar.{EndIsFaulty, no_cr, no_lf}
 use Rattle.resp_parse.specs.PlainReading.{ReadOutcome, got, fault, unfinished, end_of_body, read_body}
 use Rattle.resp_parse.proofs.ByteTests.{eq_true, eq_false}
-use Rattle.resp_parse.proofs.ReadingsInSequence.{then-got, then-fault}
+use Rattle.resp_parse.proofs.ReadingsInSequence.{then-got, then-fault, at_first, at_next}
 
 body-spelled : (x rest : List ℕ) → read_body (length x) (x ++ (crlf ++ rest)) ≡ got x rest
 body-spelled [] rest = refl
@@ -60,14 +60,17 @@ body-got zero bs x rest e = let p = end-got bs x rest e in (ap length p.0, p.1 �
 body-got (suc n) [] x rest e = absurd (cc)
 body-got (suc n) (b ∷ bs) x rest e =
     let p = then-got (read_body n bs) (λ u r. got (b ∷ u) r) x rest e in
-    let q = body-got n bs p.0 p.1 p.2 in
-    let ex : b ∷ p.0 ≡ x = (let k = p.3 in cc) in
-    let er : p.1 ≡ rest = (let k = p.3 in cc) in
-    (ap length (sym ex) ∙ ap suc q.0, ap (λ s. b ∷ s) q.1 ∙ ap (λ s. s ++ (crlf ++ p.1)) ex ∙ ap (λ s. x ++ (crlf ++ s)) er)
+    let q = body-got n bs p.first p.mid p.got_first in
+    let ex : b ∷ p.first ≡ x = (let k = p.next in cc) in
+    let er : p.mid ≡ rest = (let k = p.next in cc) in
+    (ap length (sym ex) ∙ ap suc q.0, ap (λ s. b ∷ s) q.1 ∙ ap (λ s. s ++ (crlf ++ p.mid)) ex ∙ ap (λ s. x ++ (crlf ++ s)) er)
 
 -- a prefix of the bytes is a body that has a faulty end, and the rest follows
-abbrev pub FaultyBodyPrefix : ℕ → List ℕ → FrameFault → List ℕ → Type 0
-FaultyBodyPrefix n bs f rest = (x : List ℕ) × (bs ≡ x ++ rest) × (f ≡ BodyEnd) × EndIsFaulty n x
+pub record FaultyBodyPrefix (n : ℕ) (bs : List ℕ) (f : FrameFault) (rest : List ℕ) : Type 0 where
+  pub prefix : List ℕ
+  pub whole : bs ≡ prefix ++ rest
+  pub fault_is : f ≡ BodyEnd
+  pub bad_end : EndIsFaulty n prefix
 
 abbrev faulty_end : List ℕ → ReadOutcome (List ℕ)
 faulty_end rest = fault BodyEnd rest
@@ -78,28 +81,28 @@ end-fault (b ∷ []) f rest e = by_test (b == 13) refl e
   where
     by_test : (m : Bool) → (b == 13) ≡ m → cond m unfinished (faulty_end []) ≡ fault f rest → FaultyBodyPrefix 0 (b ∷ []) f rest
     by_test true p k = absurd (cc)
-    by_test false p k = (
-      b ∷ [],
-      (let i : [] ≡ rest = cc in ap (λ s. b ∷ s) i),
-      (let i : f ≡ BodyEnd = cc in i),
-      no_cr [] b refl (λ e. absurd (let t = eq_true b 13 e in cc)) refl,
-    )
+    by_test false p k = record {
+      prefix = b ∷ [];
+      whole = (let i : [] ≡ rest = cc in ap (λ s. b ∷ s) i);
+      fault_is = (let i : f ≡ BodyEnd = cc in i);
+      bad_end = no_cr [] b refl (λ e. absurd (let t = eq_true b 13 e in cc)) refl;
+    }
 end-fault (b ∷ c ∷ bs) f rest e = by_tests (b == 13) refl (c == 10) refl e
   where
     by_tests : (m : Bool) → (b == 13) ≡ m → (n : Bool) → (c == 10) ≡ n → cond m (cond n (got [] bs) (faulty_end bs)) (faulty_end (c ∷ bs)) ≡ fault f rest → FaultyBodyPrefix 0 (b ∷ c ∷ bs) f rest
     by_tests true p true q k = absurd (cc)
-    by_tests true p false q k = (
-      13 ∷ c ∷ [],
-      (let i : bs ≡ rest = cc in let j : b ≡ 13 = (Decides-eqb b 13).0 p in cc),
-      (let i : f ≡ BodyEnd = cc in i),
-      no_lf [] c refl (λ e. absurd (let t = eq_true c 10 e in cc)) refl,
-    )
-    by_tests false p n q k = (
-      b ∷ [],
-      (let i : c ∷ bs ≡ rest = cc in ap (λ s. b ∷ s) i),
-      (let i : f ≡ BodyEnd = cc in i),
-      no_cr [] b refl (λ e. absurd (let t = eq_true b 13 e in cc)) refl,
-    )
+    by_tests true p false q k = record {
+      prefix = 13 ∷ c ∷ [];
+      whole = (let i : bs ≡ rest = cc in let j : b ≡ 13 = (Decides-eqb b 13).0 p in cc);
+      fault_is = (let i : f ≡ BodyEnd = cc in i);
+      bad_end = no_lf [] c refl (λ e. absurd (let t = eq_true c 10 e in cc)) refl;
+    }
+    by_tests false p n q k = record {
+      prefix = b ∷ [];
+      whole = (let i : c ∷ bs ≡ rest = cc in ap (λ s. b ∷ s) i);
+      fault_is = (let i : f ≡ BodyEnd = cc in i);
+      bad_end = no_cr [] b refl (λ e. absurd (let t = eq_true b 13 e in cc)) refl;
+    }
 
 EndIsFaulty-cons : (n b : ℕ) (x : List ℕ) → EndIsFaulty n x → EndIsFaulty (suc n) (b ∷ x)
 EndIsFaulty-cons n b x (no_cr y c l d e) = no_cr (b ∷ y) c (ap suc l) d (ap (λ s. b ∷ s) e)
@@ -109,9 +112,9 @@ pub body-fault : (n : ℕ) (bs : List ℕ) (f : FrameFault) (rest : List ℕ) �
 body-fault zero bs f rest e = end-fault bs f rest e
 body-fault (suc n) [] f rest e = absurd (cc)
 body-fault (suc n) (b ∷ bs) f rest e = elim (then-fault (read_body n bs) (λ u r. got (b ∷ u) r) f rest e) [
-  | inl h ↦ more (body-fault n bs f rest h)
-  | inr h ↦ absurd (let z = h.3 in cc)
+  | at_first h ↦ more (body-fault n bs f rest h)
+  | at_next p ↦ absurd (let z = p.next in cc)
 ]
   where
     more : FaultyBodyPrefix n bs f rest → FaultyBodyPrefix (suc n) (b ∷ bs) f rest
-    more (x, l, k, w) = (b ∷ x, ap (λ s. b ∷ s) l, k, EndIsFaulty-cons n b x w)
+    more h = record { prefix = b ∷ h.prefix; whole = ap (λ s. b ∷ s) h.whole; fault_is = h.fault_is; bad_end = EndIsFaulty-cons n b h.prefix h.bad_end }

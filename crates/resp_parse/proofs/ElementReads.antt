@@ -1,14 +1,16 @@
 -- Reading elements, where each element is read as the relations of elements say.
-use Rattle.std.proofs.Common.{◌≡◌, ℕ, zero, suc, ◌<◌, List, [], ◌∷◌, ◌++◌, length, refl, ap, sym, ◌∙◌, subst, append_assoc, arith, inl, inr}
+use Rattle.std.proofs.Common.{◌≡◌, ℕ, zero, suc, ◌<◌, List, [], ◌∷◌, ◌++◌, length, refl, ap, sym, ◌∙◌, subst, append_assoc, arith}
 use Rattle.resp_value.specs.declared.value.Value.{Value}
 use Rattle.resp_errors.specs.declared.kinds.FrameFault.{FrameFault}
 use Rattle.resp_parse.specs.Grammar.{Joined, ElementIsFaulty}
 use Rattle.resp_parse.specs.PlainReading.{ReadOutcome, got, fault, then, read_elements}
-use Rattle.resp_parse.proofs.ReadingsInSequence.{then-got, then-fault}
+use Rattle.resp_parse.proofs.ReadingsInSequence.{then-got, then-fault, at_first, at_next}
 
 -- a prefix of the bytes is as P says, and the rest follows
-abbrev pub Prefix : {X : Type 0} → (List ℕ → X → Type 0) → List ℕ → List ℕ → X → Type 0
-Prefix P b rest y = (x : List ℕ) × (b ≡ x ++ rest) × P x y
+pub record Prefix {X : Type 0} (P : List ℕ → X → Type 0) (b rest : List ℕ) (y : X) : Type 0 where
+  pub prefix : List ℕ
+  pub whole : b ≡ prefix ++ rest
+  pub is : P prefix y
 
 -- a prefix, and then a prefix of what follows it
 pub append-prefix : (bs a mid b rest after : List ℕ) → bs ≡ a ++ mid → mid ≡ b ++ rest → rest ≡ after → bs ≡ (a ++ b) ++ after
@@ -28,12 +30,19 @@ GivesGood R G = (b rest : List ℕ) (v : Value) → R b ≡ got v rest → Prefi
 abbrev pub GivesFaulty : (List ℕ → ReadOutcome Value) → (List ℕ → FrameFault → Type 0) → Type 0
 GivesFaulty R F = (b rest : List ℕ) (f : FrameFault) → R b ≡ fault f rest → Prefix F b rest f
 
+-- a prefix of the bytes is n elements as G says, and the rest follows
+pub record ElementsPrefix (G : List ℕ → Value → Type 0) (n : ℕ) (bs rest : List ℕ) (vs : List Value) : Type 0 where
+  pub prefix : List ℕ
+  pub whole : bs ≡ prefix ++ rest
+  pub size : length vs ≡ n
+  pub joined : Joined G prefix vs
+
 module _ (R : List ℕ → ReadOutcome Value) (G : List ℕ → Value → Type 0) (F : List ℕ → FrameFault → Type 0) where
   elements-spelled : ReadsGood R G → (vs : List Value) (x rest : List ℕ) → Joined G x vs → read_elements R (length vs) (x ++ rest) ≡ got vs rest
   elements-spelled good [] x rest e = rw e refl
-  elements-spelled good (v ∷ vs) x rest (y, z, e, g, j) =
-      let first : R (x ++ rest) ≡ got v (z ++ rest) = ap (λ s. R (s ++ rest)) e ∙ ap R (append_assoc y z rest) ∙ good y (z ++ rest) v g in
-      rw (first, elements-spelled good vs z rest j) refl
+  elements-spelled good (v ∷ vs) x rest j =
+      let first : R (x ++ rest) ≡ got v (j.others ++ rest) = ap (λ s. R (s ++ rest)) j.whole ∙ ap R (append_assoc j.first j.others rest) ∙ good j.first (j.others ++ rest) v j.first_is in
+      rw (first, elements-spelled good vs j.others rest j.others_are) refl
 
   pub elements-reads : ReadsGood R G → (n : ℕ) (b rest : List ℕ) (vs : List Value) → length vs ≡ n → Joined G b vs → read_elements R n (b ++ rest) ≡ got vs rest
   elements-reads good n b rest vs l j = ap (λ k. read_elements R k (b ++ rest)) (sym l) ∙ elements-spelled good vs b rest j
@@ -43,47 +52,64 @@ module _ (R : List ℕ → ReadOutcome Value) (G : List ℕ → Value → Type 0
   element-fails good bad [] (suc n) x y rest f l e w =
       let first : R (x ++ (y ++ rest)) ≡ fault f rest = ap (λ s. R (s ++ (y ++ rest))) e ∙ bad y rest f w in
       rw first refl
-  element-fails good bad (v ∷ vs) (suc n) x y rest f l (a, z, e, g, j) w =
-      let first : R (x ++ (y ++ rest)) ≡ got v (z ++ (y ++ rest)) = ap (λ s. R (s ++ (y ++ rest))) e ∙ ap R (append_assoc a z (y ++ rest)) ∙ good a (z ++ (y ++ rest)) v g in
-      rw (first, element-fails good bad vs n z y rest f (omega arith) j w) refl
+  element-fails good bad (v ∷ vs) (suc n) x y rest f l j w =
+      let first : R (x ++ (y ++ rest)) ≡ got v (j.others ++ (y ++ rest)) = ap (λ s. R (s ++ (y ++ rest))) j.whole ∙ ap R (append_assoc j.first j.others (y ++ rest)) ∙ good j.first (j.others ++ (y ++ rest)) v j.first_is in
+      rw (first, element-fails good bad vs n j.others y rest f (omega arith) j.others_are w) refl
 
   pub elements-fail : ReadsGood R G → ReadsFaulty R F → (n : ℕ) (b rest : List ℕ) (f : FrameFault) → ElementIsFaulty G F n b f → read_elements R n (b ++ rest) ≡ fault f rest
-  elements-fail good bad n b rest f (vs, x, y, l, e, j, w) =
-      ap (λ s. read_elements R n (s ++ rest)) e ∙ ap (read_elements R n) (append_assoc x y rest) ∙ element-fails good bad vs n x y rest f l j w
+  elements-fail good bad n b rest f w =
+      ap (λ s. read_elements R n (s ++ rest)) w.whole ∙ ap (read_elements R n) (append_assoc w.before w.element rest)
+      ∙ element-fails good bad w.values n w.before w.element rest f w.fewer w.joined w.faulty
 
-  -- a prefix of the bytes is n elements, and the rest follows
-  abbrev ElementsPrefix : ℕ → List ℕ → List ℕ → List Value → Type 0
-  ElementsPrefix n bs rest vs = (x : List ℕ) × (bs ≡ x ++ rest) × (length vs ≡ n) × Joined G x vs
-
-  pub elements-got : GivesGood R G → (n : ℕ) (bs : List ℕ) (vs : List Value) (rest : List ℕ) → read_elements R n bs ≡ got vs rest → (x : List ℕ) × (bs ≡ x ++ rest) × (length vs ≡ n) × Joined G x vs
+  pub elements-got : GivesGood R G → (n : ℕ) (bs : List ℕ) (vs : List Value) (rest : List ℕ) → read_elements R n bs ≡ got vs rest → ElementsPrefix G n bs rest vs
   elements-got good zero bs vs rest e = nothing vs (let k : [] ≡ vs = cc in k) (let k : bs ≡ rest = cc in k)
     where
-      nothing : (ws : List Value) → [] ≡ ws → bs ≡ rest → ElementsPrefix 0 bs rest ws
-      nothing [] k e = ([], e, refl, refl)
+      nothing : (ws : List Value) → [] ≡ ws → bs ≡ rest → ElementsPrefix G 0 bs rest ws
+      nothing [] k e = record { prefix = []; whole = e; size = refl; joined = refl }
       nothing (w ∷ ws) k e = absurd (cc)
   elements-got good (suc n) bs vs rest e =
       let p = then-got (R bs) (λ v r. then (read_elements R n r) (λ ws s. got (v ∷ ws) s)) vs rest e in
-      let q = then-got (read_elements R n p.1) (λ ws s. got (p.0 ∷ ws) s) vs rest p.3 in
-      let g = good bs p.1 p.0 p.2 in
-      let h = elements-got good n p.1 q.0 q.1 q.2 in
-      let ev : p.0 ∷ q.0 ≡ vs = (let k = q.3 in cc) in
-      let er : q.1 ≡ rest = (let k = q.3 in cc) in
-      subst (λ ws. ElementsPrefix (suc n) bs rest ws) ev
-      (g.0 ++ h.0, append-prefix bs g.0 p.1 h.0 q.1 rest g.1 h.1 er, ap suc h.2, (g.0, h.0, refl, g.2, h.3))
+      let q = then-got (read_elements R n p.mid) (λ ws s. got (p.first ∷ ws) s) vs rest p.next in
+      let g = good bs p.mid p.first p.got_first in
+      let h = elements-got good n p.mid q.first q.mid q.got_first in
+      let ev : p.first ∷ q.first ≡ vs = (let k = q.next in cc) in
+      let er : q.mid ≡ rest = (let k = q.next in cc) in
+      subst (λ ws. ElementsPrefix G (suc n) bs rest ws) ev
+      (record {
+        prefix = g.prefix ++ h.prefix;
+        whole = append-prefix bs g.prefix p.mid h.prefix q.mid rest g.whole h.whole er;
+        size = ap suc h.size;
+        joined = record { first = g.prefix; others = h.prefix; whole = refl; first_is = g.is; others_are = h.joined };
+      })
 
-  pub elements-fault : GivesGood R G → GivesFaulty R F → (n : ℕ) (bs rest : List ℕ) (f : FrameFault) → read_elements R n bs ≡ fault f rest → (x : List ℕ) × (bs ≡ x ++ rest) × ElementIsFaulty G F n x f
+  pub elements-fault : GivesGood R G → GivesFaulty R F → (n : ℕ) (bs rest : List ℕ) (f : FrameFault) → read_elements R n bs ≡ fault f rest → Prefix (ElementIsFaulty G F n) bs rest f
   elements-fault good bad zero bs rest f e = absurd (cc)
   elements-fault good bad (suc n) bs rest f e = elim (then-fault (R bs) (λ v r. then (read_elements R n r) (λ ws s. got (v ∷ ws) s)) f rest e) [
-    | inl h ↦ let b = bad bs rest f h in (b.0, b.1, ([], [], b.0, omega arith, refl, refl, b.2))
-    | inr p ↦ let g = good bs p.1 p.0 p.2 in elim (then-fault (read_elements R n p.1) (λ ws s. got (p.0 ∷ ws) s) f rest p.3) [
-      | inl h ↦ later p.0 p.1 g (elements-fault good bad n p.1 rest f h)
-      | inr k ↦ absurd (let z = k.3 in cc)
+    | at_first h ↦ at_once (bad bs rest f h)
+    | at_next p ↦ let g = good bs p.mid p.first p.got_first in elim (then-fault (read_elements R n p.mid) (λ ws s. got (p.first ∷ ws) s) f rest p.next) [
+      | at_first h ↦ later p.first p.mid g (elements-fault good bad n p.mid rest f h)
+      | at_next q ↦ absurd (let z = q.next in cc)
     ]
   ]
     where
-      later : (v : Value) (r : List ℕ) → Prefix G bs r v → ((x : List ℕ) × (r ≡ x ++ rest) × ElementIsFaulty G F n x f) → (x : List ℕ) × (bs ≡ x ++ rest) × ElementIsFaulty G F (suc n) x f
-      later v r (a, ea, ga) (b, eb, (vs, x, y, l, e2, j, w)) = (
-        a ++ b,
-        append-prefix bs a r b rest rest ea eb refl,
-        (v ∷ vs, a ++ x, y, omega arith, ap (λ s. a ++ s) e2 ∙ sym (append_assoc a x y), (a, x, refl, ga, j), w),
-      )
+      at_once : Prefix F bs rest f → Prefix (ElementIsFaulty G F (suc n)) bs rest f
+      at_once b = record {
+        prefix = b.prefix;
+        whole = b.whole;
+        is = record { values = []; before = []; element = b.prefix; fewer = omega arith; whole = refl; joined = refl; faulty = b.is };
+      }
+
+      later : (v : Value) (r : List ℕ) → Prefix G bs r v → Prefix (ElementIsFaulty G F n) r rest f → Prefix (ElementIsFaulty G F (suc n)) bs rest f
+      later v r a b = let w = b.is in record {
+        prefix = a.prefix ++ b.prefix;
+        whole = append-prefix bs a.prefix r b.prefix rest rest a.whole b.whole refl;
+        is = record {
+          values = v ∷ w.values;
+          before = a.prefix ++ w.before;
+          element = w.element;
+          fewer = (let l = w.fewer in omega arith);
+          whole = ap (λ s. a.prefix ++ s) w.whole ∙ sym (append_assoc a.prefix w.before w.element);
+          joined = record { first = a.prefix; others = w.before; whole = refl; first_is = a.is; others_are = w.joined };
+          faulty = w.faulty;
+        };
+      }

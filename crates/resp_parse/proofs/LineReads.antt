@@ -1,12 +1,12 @@
 -- Reading a line gives the text before the first CR LF.
-use Rattle.std.proofs.Common.{◌≡◌, ℕ, Bool, true, false, cond, ◌&&◌, ◌==◌, List, [], ◌∷◌, ◌++◌, refl, ap, subst, ◌∙◌, arith, inl, inr}
+use Rattle.std.proofs.Common.{◌≡◌, ℕ, Bool, true, false, cond, ◌&&◌, ◌==◌, List, [], ◌∷◌, ◌++◌, refl, ap, subst, ◌∙◌, arith}
 use Rattle.std.proofs.lemmas.Bool.{and_parts, and_from}
 use Rattle.std.proofs.lemmas.Bool.Decides.{Decides-eqb}
 use Rattle.resp_errors.specs.declared.kinds.FrameFault.{FrameFault}
 use Rattle.resp_parse.specs.Lines.{crlf, NoBreak}
 use Rattle.resp_parse.specs.PlainReading.{ReadOutcome, got, fault, unfinished, then, line}
 use Rattle.resp_parse.proofs.ByteTests.{not_true, eq_true}
-use Rattle.resp_parse.proofs.ReadingsInSequence.{then-fault}
+use Rattle.resp_parse.proofs.ReadingsInSequence.{then-fault, at_first, at_next}
 
 line-later : (b c : ℕ) (bs text rest : List ℕ) → ((b ≡ 13) → (c ≡ 10) → ⊥) → line (c ∷ bs) ≡ got text rest → line (b ∷ c ∷ bs) ≡ got (b ∷ text) rest
 line-later b c bs text rest apart e =
@@ -72,4 +72,4 @@ line-no_fault (b ∷ c ∷ bs) rest f e = by_test (λ k. line-no_fault (c ∷ bs
   where
     by_test : (line (c ∷ bs) ≡ fault f rest → ⊥) → (m : Bool) → cond m (got [] bs) (then (line (c ∷ bs)) (λ u r. got (b ∷ u) r)) ≡ fault f rest → ⊥
     by_test later true k = cc
-    by_test later false k = elim (then-fault (line (c ∷ bs)) (λ u r. got (b ∷ u) r) f rest k) [ inl h ↦ later h | inr h ↦ let z = h.3 in cc ]
+    by_test later false k = elim (then-fault (line (c ∷ bs)) (λ u r. got (b ∷ u) r) f rest k) [ at_first h ↦ later h | at_next p ↦ let z = p.next in cc ]

@@ -7,12 +7,10 @@ use Rattle.resp_parse.specs.Prefixes.{HasGoodPrefix, HasFaultyPrefix, IsUnfinish
 use Rattle.resp_parse.specs.Source.{Source}
 
 pub HasGoodPrefix-longer : (b more rest : List ℕ) (v : Value) → HasGoodPrefix 100 b v rest → HasGoodPrefix 100 (b ++ more) v (rest ++ more)
-unfolding HasGoodPrefix
-HasGoodPrefix-longer b more rest v (x, e, g) = (x, ap (λ z. z ++ more) e ∙ append_assoc x rest more, g)
+HasGoodPrefix-longer b more rest v h = record { prefix = h.prefix; whole = ap (λ z. z ++ more) h.whole ∙ append_assoc h.prefix rest more; good = h.good }
 
 pub HasFaultyPrefix-longer : (b more : List ℕ) (f : FrameFault) → HasFaultyPrefix 100 b f → HasFaultyPrefix 100 (b ++ more) f
-unfolding HasFaultyPrefix
-HasFaultyPrefix-longer b more f (x, rest, e, g) = (x, rest ++ more, ap (λ z. z ++ more) e ∙ append_assoc x rest more, g)
+HasFaultyPrefix-longer b more f h = record { prefix = h.prefix; rest = h.rest ++ more; whole = ap (λ z. z ++ more) h.whole ∙ append_assoc h.prefix h.rest more; faulty = h.faulty }
 
 -- the bytes held and the incoming bytes of a source, which went from s to t and filled some of them
 module _ (b filled : List ℕ) (s t : Source) (come : s.bytes ≡ filled ++ t.bytes) where

@@ -40,22 +40,22 @@ module _ (b : List ℕ) (p : State) (s t : Source) (k : FilledAsNeeded b p s t) 
     Came-none c = λ told. k.more.came told ∙ ap (λ z. k.more.filled ++ z) (c (observable told))
 
     pub FilledAsNeeded-asked : (new : State) → Asks (b ++ k.more.filled) new t u (Ok tt) → FilledAsNeeded b new s u
-    FilledAsNeeded-asked new (a, some, size) = record {
+    FilledAsNeeded-asked new a = record {
       more = record {
-        filled = k.more.filled ++ a.filled;
-        came = Came-asked a.filled a.came;
-        stands = subst (StandsAfter new) (append_assoc b k.more.filled a.filled) a.stands;
-        failures = a.failures ∙ k.more.failures;
+        filled = k.more.filled ++ a.more.filled;
+        came = Came-asked a.more.filled a.more.came;
+        stands = subst (StandsAfter new) (append_assoc b k.more.filled a.more.filled) a.more.stands;
+        failures = a.more.failures ∙ k.more.failures;
       };
-      needed = record { before = k.more.filled; last = a.filled; whole = refl; size = size; unfinished = λ _. w.0 };
+      needed = record { before = k.more.filled; last = a.more.filled; whole = refl; size = a.size; unfinished = λ _. w.0 };
     }
 
     Failed-asked : (new : State) → Came t [] u → u.failures ≡ t.failures → FailedAfter new (b ++ k.more.filled) → Failed b k.more.filled new s u
     Failed-asked new c f h = record { came = Came-none c; needed = k.needed; failed = h; failures = f ∙ k.more.failures }
 
     pub CannotParse-asked : (new : State) (e : RedisError) → CannotFill (b ++ k.more.filled) e new t u → CannotParse b e new s u
-    CannotParse-asked new e (CannotFill.ended i c end f h) = CannotParse.early k.more.filled i w.0 (λ told. end (observable told)) (Failed-asked new c f h)
-    CannotParse-asked new e (CannotFill.broken kind i c f h) = CannotParse.interrupted kind i (record {
+    CannotParse-asked new e (CannotFill.early_end i c end f h) = CannotParse.early_end k.more.filled i w.0 (λ told. end (observable told)) (Failed-asked new c f h)
+    CannotParse-asked new e (CannotFill.source_failed kind i c f h) = CannotParse.source_failed kind i (record {
       filled = k.more.filled;
       came = Came-none c;
       unfinished = w.0;

@@ -12,16 +12,13 @@ use Rattle.resp_parse.specs.FirstValue.{FindsFirst}
 use Rattle.resp_parse.proofs.ReadingMeetsGrammar.{read-good, read-faulty, good-reads, faulty-reads}
 
 pub HasGoodPrefix-from_read : (d : ℕ) (b rest : List ℕ) (v : Value) → read d b ≡ got v rest → HasGoodPrefix d b v rest
-unfolding HasGoodPrefix
-HasGoodPrefix-from_read d b rest v e = read-good d b rest v e
+HasGoodPrefix-from_read d b rest v e = let h = read-good d b rest v e in record { prefix = h.prefix; whole = h.whole; good = h.is }
 
 pub read-from_HasGood : (d : ℕ) (b rest : List ℕ) (v : Value) → HasGoodPrefix d b v rest → read d b ≡ got v rest
-unfolding HasGoodPrefix
-read-from_HasGood d b rest v (x, e, g) = ap (read d) e ∙ good-reads d x rest v g
+read-from_HasGood d b rest v h = ap (read d) h.whole ∙ good-reads d h.prefix rest v h.good
 
 HasFaultyPrefix-from_read : (d : ℕ) (b rest : List ℕ) (f : FrameFault) → read d b ≡ fault f rest → HasFaultyPrefix d b f
-unfolding HasFaultyPrefix
-HasFaultyPrefix-from_read d b rest f e = let h = read-faulty d b rest f e in (h.0, rest, h.1, h.2)
+HasFaultyPrefix-from_read d b rest f e = let h = read-faulty d b rest f e in record { prefix = h.prefix; rest = rest; whole = h.whole; faulty = h.is }
 
 pub HasFaultyPrefix-from_fault_read : (d : ℕ) (b : List ℕ) (f : FrameFault) (o : ReadOutcome Value) → read d b ≡ o → fault_read o ≡ Some f → HasFaultyPrefix d b f
 HasFaultyPrefix-from_fault_read d b f (got v r) e k = absurd (cc)
@@ -32,8 +29,7 @@ no_value : (d : ℕ) (b : List ℕ) → read d b ≡ unfinished → (v : Value) 
 no_value d b e v rest h = let k : unfinished ≡ got v rest = sym e ∙ read-from_HasGood d b rest v h in cc
 
 no_fault : (d : ℕ) (b : List ℕ) → read d b ≡ unfinished → (f : FrameFault) → HasFaultyPrefix d b f → ⊥
-unfolding HasFaultyPrefix
-no_fault d b e f (x, rest, eb, g) = let k : unfinished ≡ fault f rest = sym e ∙ ap (read d) eb ∙ faulty-reads d x rest f g in cc
+no_fault d b e f h = let k : unfinished ≡ fault f h.rest = sym e ∙ ap (read d) h.whole ∙ faulty-reads d h.prefix h.rest f h.faulty in cc
 
 pub IsUnfinished-from_read : (d : ℕ) (b : List ℕ) → read d b ≡ unfinished → IsUnfinished d b
 IsUnfinished-from_read d b e = record { no_value = no_value d b e; no_fault = no_fault d b e }
@@ -50,10 +46,10 @@ length-rest : (b x rest : List ℕ) → b ≡ x ++ rest → length rest ≤ leng
 length-rest b x rest e = rw e (grind (arith, common_steps))
 
 pub rest-fits : (d : ℕ) (b rest : List ℕ) (v : Value) → read d b ≡ got v rest → length rest ≤ length b
-rest-fits d b rest v e = let h = read-good d b rest v e in length-rest b h.0 rest h.1
+rest-fits d b rest v e = let h = read-good d b rest v e in length-rest b h.prefix rest h.whole
 
 pub FindsFirst-from_got : (b rest : List ℕ) (v : Value) → read 100 b ≡ got v rest → FindsFirst b (Ok (v, length b - length rest))
 FindsFirst-from_got b rest v e =
     let h = read-good 100 b rest v e in
-    let k : drop (length b - length rest) b ≡ rest = drop-rest b h.0 rest h.1 in
+    let k : drop (length b - length rest) b ≡ rest = drop-rest b h.prefix rest h.whole in
     (omega arith, subst (λ r. HasGoodPrefix 100 b v r) (sym k) (HasGoodPrefix-from_read 100 b rest v e))

@@ -1,5 +1,5 @@
 -- Reading gives exactly what the grammar says.
-use Rattle.std.proofs.Common.{◌≡◌, ℕ, zero, suc, Bool, true, false, cond, List, [], ◌∷◌, ◌++◌, refl, ap, sym, ◌∙◌, subst, append_assoc, inl, inr, Option, None, Some, Result, Ok, Err}
+use Rattle.std.proofs.Common.{◌≡◌, ℕ, zero, suc, Bool, true, false, cond, List, [], ◌∷◌, ◌++◌, refl, ap, sym, ◌∙◌, subst, append_assoc, Option, None, Some, Result, Ok, Err}
 use Rattle.std.specs.Str.{is_utf8}
 use Rattle.std.proofs.lemmas.Str.{IsUtf8-from_is_utf8, is_utf8-from_IsUtf8}
 use Rattle.resp_value.specs.declared.value.Value.{Value}
@@ -8,11 +8,11 @@ use Rattle.resp_errors.specs.declared.kinds.FrameFault.TheVariants.{TooDeep, Unk
 use Rattle.resp_parse.specs.Lines.{crlf}
 use Rattle.resp_parse.specs.declared.type_byte.TypeByte.{TypeByte}
 use Rattle.resp_parse.specs.TypeBytes.{byte_of, type_of}
-use Rattle.resp_parse.specs.Grammar.{Announcement, complete, body, elements, invalid, announced, Header, Follows, Good, FaultFollows, Faulty}
+use Rattle.resp_parse.specs.Grammar.{Announcement, complete, body, elements, invalid, announced, Header, Follows, Good, BodyIsFaulty, ElementsAreFaulty, FaultFollows, FaultShows, Faulty}
 use Rattle.resp_parse.specs.PlainReading.{ReadOutcome, got, fault, line, read_body, read_elements, made, read_announced, read_line, read_typed, read}
 use Rattle.resp_parse.proofs.ByteTests.{not_true}
 use Rattle.resp_parse.proofs.TypeBytes.{type_of-byte_of, byte_of-from_type_of, type_of-none, no_byte_of}
-use Rattle.resp_parse.proofs.ReadingsInSequence.{then-got, then-fault}
+use Rattle.resp_parse.proofs.ReadingsInSequence.{then-got, then-fault, at_first, at_next}
 use Rattle.resp_parse.proofs.LineReads.{line-reads, line-got, line-no_fault}
 use Rattle.resp_parse.proofs.BodyReads.{body-reads, body-fails, body-got, body-fault}
 use Rattle.resp_parse.proofs.ElementReads.{Prefix, append-prefix, ReadsGood, ReadsFaulty, GivesGood, GivesFaulty, elements-reads, elements-fail, elements-got, elements-fault}
@@ -29,45 +29,59 @@ made-fault (Err g) mid rest f e = ((let i : g ≡ f = cc in ap (λ z. Err z) i),
 module _ (R : List ℕ → ReadOutcome Value) (G : List ℕ → Value → Type 0) (F : List ℕ → FrameFault → Type 0) where
   announced-reads : ReadsGood R G → (a : Announcement) (b rest : List ℕ) (v : Value) → Follows G a b v → read_announced R a (b ++ rest) ≡ got v rest
   announced-reads good (complete w) b rest v (e, f) = ap (λ s. got w (s ++ rest)) e ∙ ap (λ u. got u rest) (sym f)
-  announced-reads good (body n make) b rest v (x, l, e, f) = rw (body-reads n b x rest l e, f) refl
-  announced-reads good (elements n make) b rest v (vs, l, j, f) = rw (elements-reads R G F good n b rest vs l j, f) refl
+  announced-reads good (body n make) b rest v h = rw (body-reads n b h.content rest h.size h.whole, h.makes) refl
+  announced-reads good (elements n make) b rest v h = rw (elements-reads R G F good n b rest h.values h.size h.joined, h.makes) refl
   announced-reads good (invalid g) b rest v h = absurd h
 
   announced-fails : ReadsGood R G → ReadsFaulty R F → (a : Announcement) (b rest : List ℕ) (f : FrameFault) → FaultFollows G F a b f → read_announced R a (b ++ rest) ≡ fault f rest
   announced-fails good bad (complete w) b rest f h = absurd h
-  announced-fails good bad (body n make) b rest f (inl (k, w)) = rw (body-fails n b rest w, k) refl
-  announced-fails good bad (body n make) b rest f (inr (x, l, e, k)) = rw (body-reads n b x rest l e, k) refl
-  announced-fails good bad (elements n make) b rest f (inl w) = rw (elements-fail R G F good bad n b rest f w) refl
-  announced-fails good bad (elements n make) b rest f (inr (vs, l, j, k)) = rw (elements-reads R G F good n b rest vs l j, k) refl
+  announced-fails good bad (body n make) b rest f (BodyIsFaulty.bad_end k w) = rw (body-fails n b rest w, k) refl
+  announced-fails good bad (body n make) b rest f (BodyIsFaulty.refused h) = rw (body-reads n b h.content rest h.size h.whole, h.makes) refl
+  announced-fails good bad (elements n make) b rest f (ElementsAreFaulty.bad_element w) = rw (elements-fail R G F good bad n b rest f w) refl
+  announced-fails good bad (elements n make) b rest f (ElementsAreFaulty.refused h) = rw (elements-reads R G F good n b rest h.values h.size h.joined, h.makes) refl
   announced-fails good bad (invalid g) b rest f (e, k) = ap (λ s. fault g (s ++ rest)) e ∙ ap (λ i. fault i rest) (sym k)
 
   announced-got : GivesGood R G → (a : Announcement) (bs rest : List ℕ) (v : Value) → read_announced R a bs ≡ got v rest → Prefix (Follows G a) bs rest v
-  announced-got good (complete w) bs rest v e = ([], (let k : bs ≡ rest = cc in k), (refl, (let k : v ≡ w = cc in k)))
+  announced-got good (complete w) bs rest v e = record { prefix = []; whole = (let k : bs ≡ rest = cc in k); is = (refl, (let k : v ≡ w = cc in k)) }
   announced-got good (body n make) bs rest v e =
       let p = then-got (read_body n bs) (λ x r. made (make x) r) v rest e in
-      let q = body-got n bs p.0 p.1 p.2 in
-      let m = made-got (make p.0) p.1 rest v p.3 in
-      (p.0 ++ crlf, append-prefix bs p.0 (crlf ++ p.1) crlf p.1 rest q.1 refl m.1, (p.0, q.0, refl, m.0))
+      let q = body-got n bs p.first p.mid p.got_first in
+      let m = made-got (make p.first) p.mid rest v p.next in
+      record {
+        prefix = p.first ++ crlf;
+        whole = append-prefix bs p.first (crlf ++ p.mid) crlf p.mid rest q.1 refl m.1;
+        is = record { content = p.first; size = q.0; whole = refl; makes = m.0 };
+      }
   announced-got good (elements n make) bs rest v e =
       let p = then-got (read_elements R n bs) (λ vs r. made (make vs) r) v rest e in
-      let q = elements-got R G F good n bs p.0 p.1 p.2 in
-      let m = made-got (make p.0) p.1 rest v p.3 in
-      (q.0, q.1 ∙ ap (λ s. q.0 ++ s) m.1, (p.0, q.2, q.3, m.0))
+      let q = elements-got R G F good n bs p.first p.mid p.got_first in
+      let m = made-got (make p.first) p.mid rest v p.next in
+      record {
+        prefix = q.prefix;
+        whole = q.whole ∙ ap (λ s. q.prefix ++ s) m.1;
+        is = record { values = p.first; size = q.size; joined = q.joined; makes = m.0 };
+      }
   announced-got good (invalid g) bs rest v e = absurd (cc)
 
   announced-fault : GivesGood R G → GivesFaulty R F → (a : Announcement) (bs rest : List ℕ) (f : FrameFault) → read_announced R a bs ≡ fault f rest → Prefix (FaultFollows G F a) bs rest f
   announced-fault good bad (complete w) bs rest f e = absurd (cc)
   announced-fault good bad (body n make) bs rest f e = elim (then-fault (read_body n bs) (λ x r. made (make x) r) f rest e) [
-    | inl h ↦ let w = body-fault n bs f rest h in (w.0, w.1, inl (w.2, w.3))
-    | inr p ↦ let q = body-got n bs p.0 p.1 p.2 in let m = made-fault (make p.0) p.1 rest f p.3 in
-        (p.0 ++ crlf, append-prefix bs p.0 (crlf ++ p.1) crlf p.1 rest q.1 refl m.1, inr (p.0, q.0, refl, m.0))
+    | at_first h ↦ let w = body-fault n bs f rest h in record { prefix = w.prefix; whole = w.whole; is = BodyIsFaulty.bad_end w.fault_is w.bad_end }
+    | at_next p ↦ let q = body-got n bs p.first p.mid p.got_first in let m = made-fault (make p.first) p.mid rest f p.next in record {
+      prefix = p.first ++ crlf;
+      whole = append-prefix bs p.first (crlf ++ p.mid) crlf p.mid rest q.1 refl m.1;
+      is = BodyIsFaulty.refused (record { content = p.first; size = q.0; whole = refl; makes = m.0 });
+    }
   ]
   announced-fault good bad (elements n make) bs rest f e = elim (then-fault (read_elements R n bs) (λ vs r. made (make vs) r) f rest e) [
-    | inl h ↦ let w = elements-fault R G F good bad n bs rest f h in (w.0, w.1, inl w.2)
-    | inr p ↦ let q = elements-got R G F good n bs p.0 p.1 p.2 in let m = made-fault (make p.0) p.1 rest f p.3 in
-        (q.0, q.1 ∙ ap (λ s. q.0 ++ s) m.1, inr (p.0, q.2, q.3, m.0))
+    | at_first h ↦ let w = elements-fault R G F good bad n bs rest f h in record { prefix = w.prefix; whole = w.whole; is = ElementsAreFaulty.bad_element w.is }
+    | at_next p ↦ let q = elements-got R G F good n bs p.first p.mid p.got_first in let m = made-fault (make p.first) p.mid rest f p.next in record {
+      prefix = q.prefix;
+      whole = q.whole ∙ ap (λ s. q.prefix ++ s) m.1;
+      is = ElementsAreFaulty.refused (record { values = p.first; size = q.size; joined = q.joined; makes = m.0 });
+    }
   ]
-  announced-fault good bad (invalid g) bs rest f e = ([], (let k : bs ≡ rest = cc in k), (refl, (let k : f ≡ g = cc in k)))
+  announced-fault good bad (invalid g) bs rest f e = record { prefix = []; whole = (let k : bs ≡ rest = cc in k); is = (refl, (let k : f ≡ g = cc in k)) }
 
 -- a header, and what follows it
 header-reads : (d : ℕ) (b text tail rest : List ℕ) (kind : TypeByte) → Header b kind text tail → read (suc d) (b ++ rest) ≡ read_line (read d) kind text (tail ++ rest)
@@ -78,16 +92,17 @@ header-reads d b text tail rest kind h =
 
 pub good-reads : (d : ℕ) → ReadsGood (read d) (Good d)
 good-reads zero b rest v g = absurd g
-good-reads (suc d) b rest v (kind, text, tail, h, u, w) =
-    header-reads d b text tail rest kind h ∙ rw (is_utf8-from_IsUtf8 text u) (announced-reads (read d) (Good d) (Faulty d) (good-reads d) (announced kind text) tail rest v w)
+good-reads (suc d) b rest v g =
+    header-reads d b g.text g.rest rest g.kind g.header
+    ∙ rw (is_utf8-from_IsUtf8 g.text g.text_is_utf8) (announced-reads (read d) (Good d) (Faulty d) (good-reads d) (announced g.kind g.text) g.rest rest v g.follows)
 
 pub faulty-reads : (d : ℕ) → ReadsFaulty (read d) (Faulty d)
-faulty-reads zero b rest f (c, e, k) = ap (λ s. read zero (s ++ rest)) e ∙ ap (λ i. fault i rest) (sym k)
-faulty-reads (suc d) b rest f (inl (c, e, n, k)) = ap (λ s. read (suc d) (s ++ rest)) e ∙ rw (type_of-none c n, k) refl
-faulty-reads (suc d) b rest f (inr (kind, text, tail, h, inl (u, e, k))) =
+faulty-reads zero b rest f h = ap (λ s. read zero (s ++ rest)) h.whole ∙ ap (λ i. fault i rest) (sym h.fault_is)
+faulty-reads (suc d) b rest f (FaultShows.unknown_type c e n k) = ap (λ s. read (suc d) (s ++ rest)) e ∙ rw (type_of-none c n, k) refl
+faulty-reads (suc d) b rest f (FaultShows.line_not_utf8 kind text h u k) =
     let n : is_utf8 text ≡ false = not_true _ (λ t. u (IsUtf8-from_is_utf8 text t)) in
-    header-reads d b text tail rest kind h ∙ rw (n, e, k) refl
-faulty-reads (suc d) b rest f (inr (kind, text, tail, h, inr (u, w))) =
+    header-reads d b text [] rest kind h ∙ rw (n, k) refl
+faulty-reads (suc d) b rest f (FaultShows.after_header kind text tail h u w) =
     header-reads d b text tail rest kind h ∙ rw (is_utf8-from_IsUtf8 text u) (announced-fails (read d) (Good d) (Faulty d) (good-reads d) (faulty-reads d) (announced kind text) tail rest f w)
 
 Header-from_line : (c : ℕ) (kind : TypeByte) (bs text rest : List ℕ) → type_of c ≡ Some kind → line bs ≡ got text rest → Header (c ∷ bs) kind text rest
@@ -109,35 +124,55 @@ read-good (suc d) (c ∷ bs) rest v e = by_type (read-good d) (type_of c) refl e
     follows : GivesGood (read d) (Good d) → (kind : TypeByte) → type_of c ≡ Some kind → (text tail : List ℕ) → line bs ≡ got text tail → (u : Bool) → is_utf8 text ≡ u → cond u (read_announced (read d) (announced kind text) tail) (fault LineNotUtf8 tail) ≡ got v rest → Prefix (Good (suc d)) (c ∷ bs) rest v
     follows deeper kind t text tail l true u k =
         let q = announced-got (read d) (Good d) (Faulty d) deeper (announced kind text) tail rest v k in
-        let h = Header-cut (c ∷ bs) kind text q.0 rest (subst (λ s. Header (c ∷ bs) kind text s) q.1 (Header-from_line c kind bs text tail t l)) in
-        (byte_of kind ∷ (text ++ (crlf ++ q.0)), h.0, (kind, text, q.0, h.1, IsUtf8-from_is_utf8 text u, q.2))
+        let h = Header-cut (c ∷ bs) kind text q.prefix rest (subst (λ s. Header (c ∷ bs) kind text s) q.whole (Header-from_line c kind bs text tail t l)) in
+        record {
+          prefix = byte_of kind ∷ (text ++ (crlf ++ q.prefix));
+          whole = h.0;
+          is = record { kind = kind; text = text; rest = q.prefix; header = h.1; text_is_utf8 = IsUtf8-from_is_utf8 text u; follows = q.is };
+        }
     follows deeper kind t text tail l false u k = absurd (cc)
 
     by_type : GivesGood (read d) (Good d) → (t : Option TypeByte) → type_of c ≡ t → read_typed (read d) t bs ≡ got v rest → Prefix (Good (suc d)) (c ∷ bs) rest v
     by_type deeper (Some kind) t k =
         let p = then-got (line bs) (read_line (read d) kind) v rest k in
-        follows deeper kind t p.0 p.1 p.2 (is_utf8 p.0) refl p.3
+        follows deeper kind t p.first p.mid p.got_first (is_utf8 p.first) refl p.next
     by_type deeper None t k = absurd (cc)
 
 pub read-faulty : (d : ℕ) → GivesFaulty (read d) (Faulty d)
 read-faulty zero [] rest f e = absurd (cc)
-read-faulty zero (c ∷ bs) rest f e = (c ∷ [], (let k : bs ≡ rest = cc in ap (λ s. c ∷ s) k), (c, refl, (let k : f ≡ TooDeep = cc in k)))
+read-faulty zero (c ∷ bs) rest f e = record {
+  prefix = c ∷ [];
+  whole = (let k : bs ≡ rest = cc in ap (λ s. c ∷ s) k);
+  is = record { first = c; whole = refl; fault_is = (let k : f ≡ TooDeep = cc in k) };
+}
 read-faulty (suc d) [] rest f e = absurd (cc)
 read-faulty (suc d) (c ∷ bs) rest f e = by_type (read-faulty d) (type_of c) refl e
   where
     follows : GivesFaulty (read d) (Faulty d) → (kind : TypeByte) → type_of c ≡ Some kind → (text tail : List ℕ) → line bs ≡ got text tail → (u : Bool) → is_utf8 text ≡ u → cond u (read_announced (read d) (announced kind text) tail) (fault LineNotUtf8 tail) ≡ fault f rest → Prefix (Faulty (suc d)) (c ∷ bs) rest f
     follows deeper kind t text tail l true u k =
         let q = announced-fault (read d) (Good d) (Faulty d) (read-good d) deeper (announced kind text) tail rest f k in
-        let h = Header-cut (c ∷ bs) kind text q.0 rest (subst (λ s. Header (c ∷ bs) kind text s) q.1 (Header-from_line c kind bs text tail t l)) in
-        (byte_of kind ∷ (text ++ (crlf ++ q.0)), h.0, inr (kind, text, q.0, h.1, inr (IsUtf8-from_is_utf8 text u, q.2)))
+        let h = Header-cut (c ∷ bs) kind text q.prefix rest (subst (λ s. Header (c ∷ bs) kind text s) q.whole (Header-from_line c kind bs text tail t l)) in
+        record {
+          prefix = byte_of kind ∷ (text ++ (crlf ++ q.prefix));
+          whole = h.0;
+          is = FaultShows.after_header kind text q.prefix h.1 (IsUtf8-from_is_utf8 text u) q.is;
+        }
     follows deeper kind t text tail l false u k =
         let er : tail ≡ rest = cc in
         let h = Header-cut (c ∷ bs) kind text [] rest (subst (λ s. Header (c ∷ bs) kind text s) er (Header-from_line c kind bs text tail t l)) in
-        (byte_of kind ∷ (text ++ (crlf ++ [])), h.0, inr (kind, text, [], h.1, inl ((λ w. absurd (let z = is_utf8-from_IsUtf8 text w in cc)), refl, (let i : f ≡ LineNotUtf8 = cc in i))))
+        record {
+          prefix = byte_of kind ∷ (text ++ (crlf ++ []));
+          whole = h.0;
+          is = FaultShows.line_not_utf8 kind text h.1 (λ w. absurd (let z = is_utf8-from_IsUtf8 text w in cc)) (let i : f ≡ LineNotUtf8 = cc in i);
+        }
 
     by_type : GivesFaulty (read d) (Faulty d) → (t : Option TypeByte) → type_of c ≡ t → read_typed (read d) t bs ≡ fault f rest → Prefix (Faulty (suc d)) (c ∷ bs) rest f
     by_type deeper (Some kind) t k = elim (then-fault (line bs) (read_line (read d) kind) f rest k) [
-      | inl h ↦ absurd (line-no_fault bs rest f h)
-      | inr p ↦ follows deeper kind t p.0 p.1 p.2 (is_utf8 p.0) refl p.3
+      | at_first h ↦ absurd (line-no_fault bs rest f h)
+      | at_next p ↦ follows deeper kind t p.first p.mid p.got_first (is_utf8 p.first) refl p.next
     ]
-    by_type deeper None t k = (c ∷ [], (let i : bs ≡ rest = cc in ap (λ s. c ∷ s) i), inl (c, refl, no_byte_of c t, (let i : f ≡ UnknownType = cc in i)))
+    by_type deeper None t k = record {
+      prefix = c ∷ [];
+      whole = (let i : bs ≡ rest = cc in ap (λ s. c ∷ s) i);
+      is = FaultShows.unknown_type c refl (no_byte_of c t) (let i : f ≡ UnknownType = cc in i);
+    }

@@ -44,17 +44,22 @@ pub record Filled (b : List ℕ) (new : State) (s t : Source) : Type 0 where
 
 -- why nothing was filled
 pub data CannotFill (b : List ℕ) (e : RedisError) (new : State) (s t : Source) : Type 0 where
-  ended : e ≡ form.Io UnexpectedEof → Came s [] t → (s.observable ≡ true → t.bytes ≡ []) →
+  early_end : e ≡ form.Io UnexpectedEof → Came s [] t → (s.observable ≡ true → t.bytes ≡ []) →
       t.failures ≡ s.failures → FailedAfter new b → CannotFill b e new s t
-  broken : (kind : IoKind) → e ≡ form.Io kind → Came s [] t → FailureCounted s.failures t.failures →
-      StandsAfter new b → CannotFill b e new s t
+  source_failed : (kind : IoKind) → e ≡ form.Io kind → Came s [] t →
+      FailureCounted s.failures t.failures → StandsAfter new b → CannotFill b e new s t
   out_of_memory : e ≡ form.OutOfMemory → Came s [] t → t.failures ≡ s.failures →
       FailedAfter new b → CannotFill b e new s t
 
--- some bytes were filled, at most 4,096, or why none were
+-- some bytes were filled, at most 4,096
+pub record FilledSome (b : List ℕ) (new : State) (s t : Source) : Type 0 where
+  pub more : Filled b new s t
+  pub some : 0 < length more.filled
+  pub size : length more.filled ≤ 4096
+
+-- some bytes were filled, or why none were
 abbrev pub Asks : List ℕ → State → Source → Source → Result (Unit {0}) RedisError → Type 0
-Asks b new s t (Ok u) =
-    (more : Filled b new s t) × (0 < length more.filled) × (length more.filled ≤ 4096)
+Asks b new s t (Ok u) = FilledSome b new s t
 Asks b new s t (Err e) = CannotFill b e new s t
 
 -- Parsing: a source is asked as often as a value needs.
@@ -86,7 +91,7 @@ pub record Failed (b filled : List ℕ) (new : State) (s t : Source) : Type 0 wh
   pub failures : t.failures ≡ s.failures
 
 -- the source failed: the parser stands after b and what was filled, which are unfinished
-pub record Interrupted (b : List ℕ) (new : State) (s t : Source) : Type 0 where
+pub record SourceFailed (b : List ℕ) (new : State) (s t : Source) : Type 0 where
   pub filled : List ℕ
   pub came : Came s filled t
   pub unfinished : IsUnfinished 100 (b ++ filled)
@@ -98,9 +103,10 @@ pub record Interrupted (b : List ℕ) (new : State) (s t : Source) : Type 0 wher
 pub data CannotParse (b : List ℕ) (e : RedisError) (new : State) (s t : Source) : Type 0 where
   faulty : (f : FrameFault) (filled : List ℕ) → e ≡ form.Parse (parsing.Fault f) →
       HasFaultyPrefix 100 (b ++ filled) f → Failed b filled new s t → CannotParse b e new s t
-  early : (filled : List ℕ) → e ≡ form.Io UnexpectedEof → IsUnfinished 100 (b ++ filled) →
+  early_end : (filled : List ℕ) → e ≡ form.Io UnexpectedEof → IsUnfinished 100 (b ++ filled) →
       (s.observable ≡ true → t.bytes ≡ []) → Failed b filled new s t → CannotParse b e new s t
-  interrupted : (kind : IoKind) → e ≡ form.Io kind → Interrupted b new s t → CannotParse b e new s t
+  source_failed : (kind : IoKind) → e ≡ form.Io kind → SourceFailed b new s t →
+      CannotParse b e new s t
   out_of_memory : (filled : List ℕ) → e ≡ form.OutOfMemory → Failed b filled new s t →
       CannotParse b e new s t
 

@@ -1,6 +1,6 @@
 -- The grammar of replies (RESP, "RESP protocol description"): a type byte, a line, and what the
 -- line announces.
-use Rattle.std.specs.Prelude.{◌≡◌, ◌≢◌, ℕ, zero, suc, ◌+◌, ◌-◌, ◌*◌, ◌<◌, Bool, true, false, cond, ◌==◌, List, [], ◌∷◌, ◌++◌, length, take, codes, ℤ, pos, negsuc, Option, None, Some, Result, Ok, Err, ◌⊎◌}
+use Rattle.std.specs.Prelude.{◌≡◌, ◌≢◌, ℕ, zero, suc, ◌+◌, ◌-◌, ◌*◌, ◌<◌, Bool, true, false, cond, ◌==◌, List, [], ◌∷◌, ◌++◌, length, take, codes, ℤ, pos, negsuc, Option, None, Some, Result, Ok, Err}
 use Rattle.std.specs.List.{position_or_len, before_first, after_first}
 use Rattle.std.specs.Str.{IsUtf8, is_utf8, bytes_eq, encode_utf8_all}
 use Rattle.bstr.specs.Utf8.{lossy_chars}
@@ -130,25 +130,57 @@ pub record Header (b : List ℕ) (kind : TypeByte) (text rest : List ℕ) : Type
   pub bytes : b ≡ byte_of kind ∷ (text ++ (crlf ++ rest))
   pub unbroken : NoBreak text
 
+-- a value as P says, and then bytes as Others says
+pub record JoinedWith (P : List ℕ → Value → Type 0) (Others : List ℕ → Type 0) (b : List ℕ)
+    (v : Value) : Type 0 where
+  pub first : List ℕ
+  pub others : List ℕ
+  pub whole : b ≡ first ++ others
+  pub first_is : P first v
+  pub others_are : Others others
+
 -- the bytes are values as P says, one after another
 abbrev pub Joined : (List ℕ → Value → Type 0) → List ℕ → List Value → Type 0
 Joined P b [] = b ≡ []
-Joined P b (v ∷ vs) = (x : List ℕ) × (y : List ℕ) × (b ≡ x ++ y) × P x v × Joined P y vs
+Joined P b (v ∷ vs) = JoinedWith P (λ others. Joined P others vs) b v
+
+-- the bytes are a body of n bytes and its CR LF, and this is made of it
+pub record BodyMakes (n : ℕ) (make : List ℕ → Result Value FrameFault) (b : List ℕ)
+    (made : Result Value FrameFault) : Type 0 where
+  pub content : List ℕ
+  pub size : length content ≡ n
+  pub whole : b ≡ content ++ crlf
+  pub makes : make content ≡ made
+
+-- the bytes are n elements as P says, and this is made of them
+pub record ElementsMake (P : List ℕ → Value → Type 0) (n : ℕ)
+    (make : List Value → Result Value FrameFault) (b : List ℕ)
+    (made : Result Value FrameFault) : Type 0 where
+  pub values : List Value
+  pub size : length values ≡ n
+  pub joined : Joined P b values
+  pub makes : make values ≡ made
 
 -- the bytes after a header are all that it announces, of elements as P says, and make the value
 abbrev pub Follows : (List ℕ → Value → Type 0) → Announcement → List ℕ → Value → Type 0
 Follows P (complete w) rest v = (rest ≡ []) × (v ≡ w)
-Follows P (body n make) rest v =
-    (x : List ℕ) × (length x ≡ n) × (rest ≡ x ++ crlf) × (make x ≡ Ok v)
-Follows P (elements n make) rest v =
-    (vs : List Value) × (length vs ≡ n) × Joined P rest vs × (make vs ≡ Ok v)
+Follows P (body n make) rest v = BodyMakes n make rest (Ok v)
+Follows P (elements n make) rest v = ElementsMake P n make rest (Ok v)
 Follows P (invalid f) rest v = ⊥
+
+-- the bytes are a header, its line in UTF-8, and what it announces, of elements as P says
+pub record Spelled (P : List ℕ → Value → Type 0) (b : List ℕ) (v : Value) : Type 0 where
+  pub kind : TypeByte
+  pub text : List ℕ
+  pub rest : List ℕ
+  pub header : Header b kind text rest
+  pub text_is_utf8 : IsUtf8 text
+  pub follows : Follows P (announced kind text) rest v
 
 -- the bytes spell the value, where d levels are left
 abbrev pub Good : ℕ → List ℕ → Value → Type 0
 Good zero b v = ⊥
-Good (suc d) b v = (kind : TypeByte) × (text : List ℕ) × (rest : List ℕ)
-    × Header b kind text rest × IsUtf8 text × Follows (Good d) (announced kind text) rest v
+Good (suc d) b v = Spelled (Good d) b v
 
 -- a body of n bytes, and then a byte that isn't CR, or CR and a byte that isn't LF
 pub data EndIsFaulty (n : ℕ) (rest : List ℕ) : Type 0 where
@@ -156,27 +188,54 @@ pub data EndIsFaulty (n : ℕ) (rest : List ℕ) : Type 0 where
   no_lf : (x : List ℕ) (c : ℕ) → length x ≡ n → c ≢ 10 → rest ≡ x ++ (13 ∷ c ∷ []) →
       EndIsFaulty n rest
 
+-- a body of n bytes with a faulty end, or one of which the fault is made
+pub data BodyIsFaulty (n : ℕ) (make : List ℕ → Result Value FrameFault) (rest : List ℕ)
+    (f : FrameFault) : Type 0 where
+  bad_end : f ≡ BodyEnd → EndIsFaulty n rest → BodyIsFaulty n make rest f
+  refused : BodyMakes n make rest (Err f) → BodyIsFaulty n make rest f
+
 -- fewer than n elements as P says, and then an element at fault as Q says
-abbrev pub ElementIsFaulty : (List ℕ → Value → Type 0) → (List ℕ → FrameFault → Type 0) →
-    ℕ → List ℕ → FrameFault → Type 0
-ElementIsFaulty P Q n rest f = (vs : List Value) × (x : List ℕ) × (y : List ℕ)
-    × (length vs < n) × (rest ≡ x ++ y) × Joined P x vs × Q y f
+pub record ElementIsFaulty (P : List ℕ → Value → Type 0) (Q : List ℕ → FrameFault → Type 0) (n : ℕ)
+    (rest : List ℕ) (f : FrameFault) : Type 0 where
+  pub values : List Value
+  pub before : List ℕ
+  pub element : List ℕ
+  pub fewer : length values < n
+  pub whole : rest ≡ before ++ element
+  pub joined : Joined P before values
+  pub faulty : Q element f
+
+-- a faulty element among the first n, or n elements of which the fault is made
+pub data ElementsAreFaulty (P : List ℕ → Value → Type 0) (Q : List ℕ → FrameFault → Type 0) (n : ℕ)
+    (make : List Value → Result Value FrameFault) (rest : List ℕ) (f : FrameFault) : Type 0 where
+  bad_element : ElementIsFaulty P Q n rest f → ElementsAreFaulty P Q n make rest f
+  refused : ElementsMake P n make rest (Err f) → ElementsAreFaulty P Q n make rest f
 
 -- the bytes after a header end exactly where the fault shows
 abbrev pub FaultFollows : (List ℕ → Value → Type 0) → (List ℕ → FrameFault → Type 0) →
     Announcement → List ℕ → FrameFault → Type 0
 FaultFollows P Q (complete w) rest f = ⊥
-FaultFollows P Q (body n make) rest f = ((f ≡ BodyEnd) × EndIsFaulty n rest)
-    ⊎ ((x : List ℕ) × (length x ≡ n) × (rest ≡ x ++ crlf) × (make x ≡ Err f))
-FaultFollows P Q (elements n make) rest f = ElementIsFaulty P Q n rest f
-    ⊎ ((vs : List Value) × (length vs ≡ n) × Joined P rest vs × (make vs ≡ Err f))
+FaultFollows P Q (body n make) rest f = BodyIsFaulty n make rest f
+FaultFollows P Q (elements n make) rest f = ElementsAreFaulty P Q n make rest f
 FaultFollows P Q (invalid g) rest f = (rest ≡ []) × (f ≡ g)
+
+-- the first byte of a value, where no level is left
+pub record NoLevelLeft (b : List ℕ) (f : FrameFault) : Type 0 where
+  pub first : ℕ
+  pub whole : b ≡ first ∷ []
+  pub fault_is : f ≡ TooDeep
+
+-- a byte of no type; a header whose line isn't UTF-8; or a header and the fault that follows it
+pub data FaultShows (P : List ℕ → Value → Type 0) (Q : List ℕ → FrameFault → Type 0) (b : List ℕ)
+    (f : FrameFault) : Type 0 where
+  unknown_type : (c : ℕ) → b ≡ c ∷ [] → ((kind : TypeByte) → c ≢ byte_of kind) → f ≡ UnknownType →
+      FaultShows P Q b f
+  line_not_utf8 : (kind : TypeByte) (text : List ℕ) → Header b kind text [] → (IsUtf8 text → ⊥) →
+      f ≡ LineNotUtf8 → FaultShows P Q b f
+  after_header : (kind : TypeByte) (text rest : List ℕ) → Header b kind text rest → IsUtf8 text →
+      FaultFollows P Q (announced kind text) rest f → FaultShows P Q b f
 
 -- the bytes are a faulty value's beginning, exactly up to where the fault shows; d levels are left
 abbrev pub Faulty : ℕ → List ℕ → FrameFault → Type 0
-Faulty zero b f = (c : ℕ) × (b ≡ c ∷ []) × (f ≡ TooDeep)
-Faulty (suc d) b f =
-    ((c : ℕ) × (b ≡ c ∷ []) × ((kind : TypeByte) → c ≢ byte_of kind) × (f ≡ UnknownType))
-    ⊎ ((kind : TypeByte) × (text : List ℕ) × (rest : List ℕ) × Header b kind text rest
-    × (((IsUtf8 text → ⊥) × (rest ≡ []) × (f ≡ LineNotUtf8))
-    ⊎ (IsUtf8 text × FaultFollows (Good d) (Faulty d) (announced kind text) rest f)))
+Faulty zero b f = NoLevelLeft b f
+Faulty (suc d) b f = FaultShows (Good d) (Faulty d) b f

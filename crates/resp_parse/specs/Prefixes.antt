@@ -5,12 +5,17 @@ use Rattle.resp_errors.specs.declared.kinds.FrameFault.{FrameFault}
 use Rattle.resp_parse.specs.Grammar.{Good, Faulty}
 
 -- a prefix of the bytes spells the value, and the rest follows it
-unfoldable pub HasGoodPrefix : ℕ → List ℕ → Value → List ℕ → Type 0
-HasGoodPrefix d b v rest = (x : List ℕ) × (b ≡ x ++ rest) × Good d x v
+pub record HasGoodPrefix (d : ℕ) (b : List ℕ) (v : Value) (rest : List ℕ) : Type 0 where
+  pub prefix : List ℕ
+  pub whole : b ≡ prefix ++ rest
+  pub good : Good d prefix v
 
 -- a prefix of the bytes ends where the fault shows
-unfoldable pub HasFaultyPrefix : ℕ → List ℕ → FrameFault → Type 0
-HasFaultyPrefix d b f = (x : List ℕ) × (rest : List ℕ) × (b ≡ x ++ rest) × Faulty d x f
+pub record HasFaultyPrefix (d : ℕ) (b : List ℕ) (f : FrameFault) : Type 0 where
+  pub prefix : List ℕ
+  pub rest : List ℕ
+  pub whole : b ≡ prefix ++ rest
+  pub faulty : Faulty d prefix f
 
 -- no prefix spells a value, and none ends in a fault: more bytes are awaited
 pub record IsUnfinished (d : ℕ) (b : List ℕ) : Type 0 where
