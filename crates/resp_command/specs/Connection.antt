@@ -26,10 +26,10 @@ pub record Connection : Type 0 where
   pub source_failures : ℕ
   pub sink_failures : ℕ
 
--- a connection that doesn't tell its bytes and takes one command at a time: only whether it is
--- broken is known
-abbrev pub untold : Bool → Connection
-untold broken = record {
+-- a connection that isn't observable and takes one command at a time: only whether it is broken is
+-- known
+abbrev pub unobservable : Bool → Connection
+unobservable broken = record {
   observable = false;
   pipelines = false;
   sent = [];
@@ -152,7 +152,7 @@ pub record RanOutOfMemory {A : Type 0} (old new : Connection) (q : List ℕ)
   pub left : (new ≡ old) ⊎ BrokenMidway old new q
 
 -- what a call does that sends q and needs n replies; answers says what the replies make of it.
--- What bytes were sent and taken is said where the connection tells them; how the connection is
+-- What bytes were sent and taken is said where the connection is observable; how the connection is
 -- left, always
 pub data Exchange {A : Type 0} (old new : Connection) (q : List ℕ) (n : ℕ)
     (result : Result A RedisError) (answers : List Value → Type 0) : Type 0 where

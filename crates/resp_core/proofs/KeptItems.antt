@@ -30,7 +30,7 @@ kept-other (true ∷ marks) zero item items h = cc
 kept-other (false ∷ marks) zero item items h = refl
 kept-other (mark ∷ marks) (suc i) item items h = kept-other marks i item items h
 
--- a swap of the places k and i, seen up to k and from behind i on
+-- a swap of the places k and i, up to k and from behind i on
 module _ (ys zs : List Value) (k i : ℕ) (order : k ≤ i) (within : i < length ys) (swapped : SwappedAt ys zs k i) where
   at_less : k < i → take (k + 1) zs ≡ take k ys ++ slice_index_or ys i Nil ∷ []
   at_less less =

@@ -2,7 +2,7 @@
 pub use Rattle.resp_command.specs.Call.{Call, CommandCall, PackedCall, Answers, Refuses}
 pub use Rattle.resp_command.specs.Command.{Command, new_command}
 pub use Rattle.resp_command.specs.CommandQuery.{CommandQuery}
-pub use Rattle.resp_command.specs.Connection.{Connection, Exchange, untold}
+pub use Rattle.resp_command.specs.Connection.{Connection, Exchange, unobservable}
 pub use Rattle.resp_command.specs.Packed.{packed}
 pub use Rattle.resp_command.specs.Taken.{Taken, Taking, TakesOneThing}
 pub use Rattle.resp_link.specs.Linking.{connection_of}

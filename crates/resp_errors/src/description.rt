@@ -21,7 +21,7 @@ pub struct Description {
 #[derive(Drop)]
 enum Wording {
     Fixed(InlineText<ROOM>),
-    Made(String),
+    Owned(String),
 }
 
 impl Model for Description {
@@ -40,7 +40,7 @@ impl Description {
     {
         match &self.wording {
             Wording::Fixed(text) => text.as_str(),
-            Wording::Made(text) => text.as_str(),
+            Wording::Owned(text) => text.as_str(),
         }
     }
 
@@ -50,7 +50,7 @@ impl Description {
     {
         let wording = match &self.wording {
             Wording::Fixed(text) => Wording::Fixed(*text),
-            Wording::Made(text) => Wording::Made(String::from_str(alloc, text.as_str())?),
+            Wording::Owned(text) => Wording::Owned(String::from_str(alloc, text.as_str())?),
         };
         Ok(Description { wording })
     }
@@ -76,7 +76,7 @@ impl From<String> for Description {
 
     fn from(text: String) -> Description {
         Description {
-            wording: Wording::Made(text),
+            wording: Wording::Owned(text),
         }
     }
 }

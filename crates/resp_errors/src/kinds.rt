@@ -198,7 +198,7 @@ pub enum IoKind {
     NotConnected,
     /// The other side reads no more.
     BrokenPipe,
-    /// It would have to wait, which it was told not to.
+    /// It would have to wait, and must not.
     WouldBlock,
     /// It took longer than it may.
     TimedOut,

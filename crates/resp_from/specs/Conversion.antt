@@ -34,11 +34,11 @@ ConvertsMaybe {X} Fits (Ok None) = (xs : List X) → Fits xs → ⊥
 ConvertsMaybe Fits (Err e) = e ≡ parsing.OutOfMemory
 
 -- the reply is a value of one type, and the other value may be made of it
-pub record OfMade {T X : Type 0} (Of : Value → T → Type 0) (Makes : T → X → Type 0)
+pub record OfMade {T X : Type 0} (Of : Value → T → Type 0) (FromGives : T → X → Type 0)
     (reply : Value) (x : X) : Type 0 where
   pub made_of : T
   pub fits : Of reply made_of
-  pub makes : Makes made_of x
+  pub from_gives : FromGives made_of x
 
 -- what a conversion may answer that may take memory
 abbrev pub AnyError : Value → ParsingError → Type 0
@@ -51,7 +51,7 @@ AnyButMemory reply e = e ≢ parsing.OutOfMemory
 -- what a conversion of a borrowed reply may answer: `OutOfMemory` for its copy, or what the
 -- conversion of the copy answers
 abbrev pub OrMemory : (ParsingError → Type 0) → ParsingError → Type 0
-OrMemory Answers e = (e ≡ parsing.OutOfMemory) ⊎ Answers e
+OrMemory Allows e = (e ≡ parsing.OutOfMemory) ⊎ Allows e
 
 -- the error describes a refusal: it is neither out of memory nor a fault of framing
 abbrev pub IsDescribed : ParsingError → Type 0

@@ -18,15 +18,16 @@ abbrev pub of_length : ℕ → List Value → Option (List Value)
 of_length n values = cond (length values == n) (Some values) None
 
 -- the n values that a reply without its attribute holds
-abbrev pub held : ℕ → Value-F Value → Option (List Value)
-held n (Value-F.Array items) = of_length n items
-held n (Value-F.Set items) = of_length n items
-held n (Value-F.Map pairs) = of_length n (in_turn pairs)
-held n _ = None
+abbrev pub values_of_width : ℕ → Value-F Value → Option (List Value)
+values_of_width n (Value-F.Array items) = of_length n items
+values_of_width n (Value-F.Set items) = of_length n items
+values_of_width n (Value-F.Map pairs) = of_length n (in_turn pairs)
+values_of_width n _ = None
 
 -- the reply holds n values, and they are as the fact says
-abbrev pub Holds : ℕ → Value → (List Value → Type 0) → Type 0
-Holds n reply Are = elim (held n (out-Value (stripped reply))) [ Some values ↦ Are values | None ↦ ⊥ ]
+abbrev pub HasValues : ℕ → Value → (List Value → Type 0) → Type 0
+HasValues n reply Are =
+    elim (values_of_width n (out-Value (stripped reply))) [ Some values ↦ Are values | None ↦ ⊥ ]
 
 -- the first value is this element, and the others are as the fact says
 abbrev pub First : {X : Type 0} → (Value → X → Type 0) → X → (List Value → Type 0) → List Value
@@ -40,6 +41,6 @@ NoMore [] = Unit {0}
 NoMore (value ∷ values) = ⊥
 
 -- finding the values that a reply holds: refused where it holds another number
-abbrev pub FindsHeld : Option (List Value) → Result (Vec Value Global) ParsingError → Type 0
-FindsHeld found (Ok v) = found ≡ Some v.items
-FindsHeld found (Err e) = RefusesIf e (found ≡ None)
+abbrev pub FindsValues : Option (List Value) → Result (Vec Value Global) ParsingError → Type 0
+FindsValues found (Ok v) = found ≡ Some v.items
+FindsValues found (Err e) = RefusesIf e (found ≡ None)

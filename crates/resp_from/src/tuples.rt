@@ -5,7 +5,8 @@ ghost use Rattle.std.specs.Vec.Iter.{into_iter_items};
 ghost use Rattle.resp_value.specs.declared.value.Value.{Value, out-Value};
 ghost use Rattle.resp_from.specs.Conversion.{Converts};
 ghost use Rattle.resp_from.specs.Attributes.{stripped};
-ghost use Rattle.resp_from.specs.Tuples.{FindsHeld, Holds, held, in_turn, of_length};
+ghost use Rattle.resp_from.specs.Tuples.{FindsValues, HasValues, values_of_width};
+ghost use Rattle.resp_from.specs.Tuples.{in_turn, of_length};
 
 use crate::attributes::strip_attribute;
 use crate::conversion::FromRedisValue;
@@ -26,7 +27,7 @@ fn values_in_turn(alloc: Global, pairs: Items<(Value, Value)>) -> Result<Vec<Val
 }
 
 fn if_long(values: Vec<Value>, width: usize) -> Result<Vec<Value>, ParsingError>
-    ensures finds { FindsHeld (of_length width values.items) result }
+    ensures finds { FindsValues (of_length width values.items) result }
 {
     if values.len() == width {
         Ok(values)
@@ -36,8 +37,8 @@ fn if_long(values: Vec<Value>, width: usize) -> Result<Vec<Value>, ParsingError>
 }
 
 /// The `width` values that a reply holds.
-fn held_values(alloc: Global, width: usize, reply: Value) -> Result<Vec<Value>, ParsingError>
-    ensures finds { FindsHeld (held width (out-Value (stripped reply))) result }
+fn find_values(alloc: Global, width: usize, reply: Value) -> Result<Vec<Value>, ParsingError>
+    ensures finds { FindsValues (values_of_width width (out-Value (stripped reply))) result }
 {
     match strip_attribute(reply) {
         Value::Array(items) => if_long(items.into_vec(), width),
@@ -90,15 +91,15 @@ impl<A: FromRedisValue, R: Elements> Elements for (A, R) {
 /// All elements of a tuple of this width.
 fn elements_of<P: Elements>(alloc: Global, width: usize, reply: Value) -> Result<P, ParsingError>
     ensures converts { Converts
-        (λ elements. Holds width reply (λ values. P.of_values values elements)) result }
+        (λ elements. HasValues width reply (λ values. P.of_values values elements)) result }
 {
-    P::take(alloc, &mut held_values(alloc, width, reply)?.into_iter())
+    P::take(alloc, &mut find_values(alloc, width, reply)?.into_iter())
 }
 
 /// A tuple is an array or a set of as many values, or a map of half as many pairs, element by
 /// element, each key before its value. At most one attribute is removed.
 impl<A: FromRedisValue> FromRedisValue for (A,) {
-    ghost use Rattle.resp_from.specs.Tuples.{Holds, First, NoMore};
+    ghost use Rattle.resp_from.specs.Tuples.{HasValues, First, NoMore};
 
     const WIDTH: usize = 1;
 
@@ -106,7 +107,7 @@ impl<A: FromRedisValue> FromRedisValue for (A,) {
 
     ghost WIDTH = { 1 };
 
-    ghost of_value = { λ reply x. Holds 1 reply (First A.of_value x.0 NoMore) };
+    ghost of_value = { λ reply x. HasValues 1 reply (First A.of_value x.0 NoMore) };
 
     fn from_redis_value(alloc: Global, value: Value) -> Result<(A,), ParsingError> {
         let (a, ()) = elements_of(alloc, 1, value)?;
@@ -115,7 +116,7 @@ impl<A: FromRedisValue> FromRedisValue for (A,) {
 }
 
 impl<A: FromRedisValue, B: FromRedisValue> FromRedisValue for (A, B) {
-    ghost use Rattle.resp_from.specs.Tuples.{Holds, First, NoMore};
+    ghost use Rattle.resp_from.specs.Tuples.{HasValues, First, NoMore};
 
     const WIDTH: usize = 2;
 
@@ -123,7 +124,7 @@ impl<A: FromRedisValue, B: FromRedisValue> FromRedisValue for (A, B) {
 
     ghost WIDTH = { 2 };
 
-    ghost of_value = { λ reply x. Holds 2 reply
+    ghost of_value = { λ reply x. HasValues 2 reply
         (First A.of_value x.0 (First B.of_value x.1 NoMore)) };
 
     fn from_redis_value(alloc: Global, value: Value) -> Result<(A, B), ParsingError> {
@@ -133,7 +134,7 @@ impl<A: FromRedisValue, B: FromRedisValue> FromRedisValue for (A, B) {
 }
 
 impl<A: FromRedisValue, B: FromRedisValue, C: FromRedisValue> FromRedisValue for (A, B, C) {
-    ghost use Rattle.resp_from.specs.Tuples.{Holds, First, NoMore};
+    ghost use Rattle.resp_from.specs.Tuples.{HasValues, First, NoMore};
 
     const WIDTH: usize = 3;
 
@@ -141,7 +142,7 @@ impl<A: FromRedisValue, B: FromRedisValue, C: FromRedisValue> FromRedisValue for
 
     ghost WIDTH = { 3 };
 
-    ghost of_value = { λ reply x. Holds 3 reply
+    ghost of_value = { λ reply x. HasValues 3 reply
         (First A.of_value x.0 (First B.of_value x.1 (First C.of_value x.2 NoMore))) };
 
     fn from_redis_value(alloc: Global, value: Value) -> Result<(A, B, C), ParsingError> {
@@ -152,7 +153,7 @@ impl<A: FromRedisValue, B: FromRedisValue, C: FromRedisValue> FromRedisValue for
 
 impl<A: FromRedisValue, B: FromRedisValue, C: FromRedisValue, D: FromRedisValue> FromRedisValue
     for (A, B, C, D) {
-    ghost use Rattle.resp_from.specs.Tuples.{Holds, First, NoMore};
+    ghost use Rattle.resp_from.specs.Tuples.{HasValues, First, NoMore};
 
     const WIDTH: usize = 4;
 
@@ -160,7 +161,7 @@ impl<A: FromRedisValue, B: FromRedisValue, C: FromRedisValue, D: FromRedisValue>
 
     ghost WIDTH = { 4 };
 
-    ghost of_value = { λ reply x. Holds 4 reply
+    ghost of_value = { λ reply x. HasValues 4 reply
         (First A.of_value x.0 (First B.of_value x.1
         (First C.of_value x.2 (First D.of_value x.3 NoMore)))) };
 
@@ -177,7 +178,7 @@ impl<
     D: FromRedisValue,
     E: FromRedisValue,
 > FromRedisValue for (A, B, C, D, E) {
-    ghost use Rattle.resp_from.specs.Tuples.{Holds, First, NoMore};
+    ghost use Rattle.resp_from.specs.Tuples.{HasValues, First, NoMore};
 
     const WIDTH: usize = 5;
 
@@ -185,7 +186,7 @@ impl<
 
     ghost WIDTH = { 5 };
 
-    ghost of_value = { λ reply x. Holds 5 reply
+    ghost of_value = { λ reply x. HasValues 5 reply
         (First A.of_value x.0 (First B.of_value x.1
         (First C.of_value x.2 (First D.of_value x.3 (First E.of_value x.4 NoMore))))) };
 
@@ -203,7 +204,7 @@ impl<
     E: FromRedisValue,
     F: FromRedisValue,
 > FromRedisValue for (A, B, C, D, E, F) {
-    ghost use Rattle.resp_from.specs.Tuples.{Holds, First, NoMore};
+    ghost use Rattle.resp_from.specs.Tuples.{HasValues, First, NoMore};
 
     const WIDTH: usize = 6;
 
@@ -211,7 +212,7 @@ impl<
 
     ghost WIDTH = { 6 };
 
-    ghost of_value = { λ reply x. Holds 6 reply
+    ghost of_value = { λ reply x. HasValues 6 reply
         (First A.of_value x.0 (First B.of_value x.1
         (First C.of_value x.2 (First D.of_value x.3
         (First E.of_value x.4 (First F.of_value x.5 NoMore)))))) };
@@ -231,7 +232,7 @@ impl<
     F: FromRedisValue,
     G: FromRedisValue,
 > FromRedisValue for (A, B, C, D, E, F, G) {
-    ghost use Rattle.resp_from.specs.Tuples.{Holds, First, NoMore};
+    ghost use Rattle.resp_from.specs.Tuples.{HasValues, First, NoMore};
 
     const WIDTH: usize = 7;
 
@@ -239,7 +240,7 @@ impl<
 
     ghost WIDTH = { 7 };
 
-    ghost of_value = { λ reply x. Holds 7 reply
+    ghost of_value = { λ reply x. HasValues 7 reply
         (First A.of_value x.0 (First B.of_value x.1
         (First C.of_value x.2 (First D.of_value x.3
         (First E.of_value x.4 (First F.of_value x.5 (First G.of_value x.6 NoMore))))))) };
@@ -263,7 +264,7 @@ impl<
     G: FromRedisValue,
     H: FromRedisValue,
 > FromRedisValue for (A, B, C, D, E, F, G, H) {
-    ghost use Rattle.resp_from.specs.Tuples.{Holds, First, NoMore};
+    ghost use Rattle.resp_from.specs.Tuples.{HasValues, First, NoMore};
 
     const WIDTH: usize = 8;
 
@@ -271,7 +272,7 @@ impl<
 
     ghost WIDTH = { 8 };
 
-    ghost of_value = { λ reply x. Holds 8 reply
+    ghost of_value = { λ reply x. HasValues 8 reply
         (First A.of_value x.0 (First B.of_value x.1
         (First C.of_value x.2 (First D.of_value x.3
         (First E.of_value x.4 (First F.of_value x.5
@@ -297,7 +298,7 @@ impl<
     H: FromRedisValue,
     I: FromRedisValue,
 > FromRedisValue for (A, B, C, D, E, F, G, H, I) {
-    ghost use Rattle.resp_from.specs.Tuples.{Holds, First, NoMore};
+    ghost use Rattle.resp_from.specs.Tuples.{HasValues, First, NoMore};
 
     const WIDTH: usize = 9;
 
@@ -305,7 +306,7 @@ impl<
 
     ghost WIDTH = { 9 };
 
-    ghost of_value = { λ reply x. Holds 9 reply
+    ghost of_value = { λ reply x. HasValues 9 reply
         (First A.of_value x.0 (First B.of_value x.1
         (First C.of_value x.2 (First D.of_value x.3
         (First E.of_value x.4 (First F.of_value x.5
@@ -332,7 +333,7 @@ impl<
     I: FromRedisValue,
     J: FromRedisValue,
 > FromRedisValue for (A, B, C, D, E, F, G, H, I, J) {
-    ghost use Rattle.resp_from.specs.Tuples.{Holds, First, NoMore};
+    ghost use Rattle.resp_from.specs.Tuples.{HasValues, First, NoMore};
 
     const WIDTH: usize = 10;
 
@@ -340,7 +341,7 @@ impl<
 
     ghost WIDTH = { 10 };
 
-    ghost of_value = { λ reply x. Holds 10 reply
+    ghost of_value = { λ reply x. HasValues 10 reply
         (First A.of_value x.0 (First B.of_value x.1
         (First C.of_value x.2 (First D.of_value x.3
         (First E.of_value x.4 (First F.of_value x.5
@@ -369,7 +370,7 @@ impl<
     J: FromRedisValue,
     K: FromRedisValue,
 > FromRedisValue for (A, B, C, D, E, F, G, H, I, J, K) {
-    ghost use Rattle.resp_from.specs.Tuples.{Holds, First, NoMore};
+    ghost use Rattle.resp_from.specs.Tuples.{HasValues, First, NoMore};
 
     const WIDTH: usize = 11;
 
@@ -377,7 +378,7 @@ impl<
 
     ghost WIDTH = { 11 };
 
-    ghost of_value = { λ reply x. Holds 11 reply
+    ghost of_value = { λ reply x. HasValues 11 reply
         (First A.of_value x.0 (First B.of_value x.1
         (First C.of_value x.2 (First D.of_value x.3
         (First E.of_value x.4 (First F.of_value x.5
@@ -409,7 +410,7 @@ impl<
     K: FromRedisValue,
     L: FromRedisValue,
 > FromRedisValue for (A, B, C, D, E, F, G, H, I, J, K, L) {
-    ghost use Rattle.resp_from.specs.Tuples.{Holds, First, NoMore};
+    ghost use Rattle.resp_from.specs.Tuples.{HasValues, First, NoMore};
 
     const WIDTH: usize = 12;
 
@@ -417,7 +418,7 @@ impl<
 
     ghost WIDTH = { 12 };
 
-    ghost of_value = { λ reply x. Holds 12 reply
+    ghost of_value = { λ reply x. HasValues 12 reply
         (First A.of_value x.0 (First B.of_value x.1
         (First C.of_value x.2 (First D.of_value x.3
         (First E.of_value x.4 (First F.of_value x.5

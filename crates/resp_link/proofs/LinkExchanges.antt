@@ -23,23 +23,23 @@ and_true a b h k = rw (h, k) refl
 
 taken_got : (n : ℕ) (i i' : Inflow) (replies : List Value) (r : Receives n i i' replies) → i.observable ≡ true → Taken n i.incoming (got replies (pushes_in r.values) i'.incoming)
 unfolding Taken
-taken_got n i i' replies r told = record { values = r.values; prefix = r.on.prefix told; ends = r.ends; replies_are = r.replies_are; pushes_are = refl }
+taken_got n i i' replies r obs = record { values = r.values; prefix = r.on.prefix obs; ends = r.ends; replies_are = r.replies_are; pushes_are = refl }
 
 -- what was read before it stopped
 module _ (n : ℕ) (i i' : Inflow) (e : RedisError) (r : CannotReceive n i i' e) (few : length (replies_in r.values) < n) where
   taken_fault : (f : FrameFault) → (r.at.observable ≡ true → HasFaultyPrefix 100 r.at.incoming f) → i.observable ≡ true → Taken n i.incoming (fault f (pushes_in r.values))
   unfolding Taken
-  taken_fault f bad told = record { values = r.values; rest = r.at.incoming; prefix = r.on.prefix told; few = few; pushes_are = refl; follows = bad (r.on.observable told) }
+  taken_fault f bad obs = record { values = r.values; rest = r.at.incoming; prefix = r.on.prefix obs; few = few; pushes_are = refl; follows = bad (r.on.observable obs) }
 
   taken_early : (r.at.observable ≡ true → IsUnfinished 100 r.at.incoming) → i.observable ≡ true → Taken n i.incoming (early (pushes_in r.values))
   unfolding Taken
-  taken_early unfinished told = record { values = r.values; rest = r.at.incoming; prefix = r.on.prefix told; few = few; pushes_are = refl; follows = unfinished (r.on.observable told) }
+  taken_early unfinished obs = record { values = r.values; rest = r.at.incoming; prefix = r.on.prefix obs; few = few; pushes_are = refl; follows = unfinished (r.on.observable obs) }
 
   too_little : (r.at.observable ≡ true → HasUnfinishedPrefix r.at.incoming) → i.observable ≡ true → TakesTooLittle n i.incoming (pushes_in r.values)
   unfolding Taken
-  too_little some told =
-      let p = r.on.prefix told in
-      let u = some (r.on.observable told) in
+  too_little some obs =
+      let p = r.on.prefix obs in
+      let u = some (r.on.observable obs) in
       record {
         prefix = p.prefix ++ u.prefix;
         rest = u.rest;
@@ -58,12 +58,12 @@ module _ (n : ℕ) (i i' : Inflow) (e : RedisError) (r : CannotReceive n i i' e)
 module _ (i i' : Inflow) (k k' : Sink) (b b' : Bool) where
   same_kind : (i.observable ≡ true → i'.observable ≡ true) → (k.observable ≡ true → k'.observable ≡ true) → SameKind (connection_of i k b) (connection_of i' k' b')
   same_kind f g = record {
-    observable = λ told. let t = both_true i.observable k.observable told in and_true i'.observable k'.observable (f t.0) (g t.1);
+    observable = λ obs. let t = both_true i.observable k.observable obs in and_true i'.observable k'.observable (f t.0) (g t.1);
     pipelines = refl;
   }
 
   sent_whole : (q : List ℕ) → SendsAll k k' q (Ok tt) → Sent (connection_of i k b) (connection_of i' k' b') q
-  sent_whole q sending = record { bytes = λ told. sending.bytes (both_true i.observable k.observable told).1; flushed = sending.flushed }
+  sent_whole q sending = record { bytes = λ obs. sending.bytes (both_true i.observable k.observable obs).1; flushed = sending.flushed }
 
 -- the request wasn't sent whole
 pub unsent : {A : Type 0} (i : Inflow) (k k' : Sink) (b : Bool) (q : List ℕ) (n : ℕ) (kind : IoKind) (answers : List Value → Type 0) →
@@ -71,7 +71,7 @@ pub unsent : {A : Type 0} (i : Inflow) (k k' : Sink) (b : Bool) (q : List ℕ) (
 unsent i k k' b q n kind answers sending = record {
   same = same_kind i i k k' b true (λ t. t) sending.observable;
   exchange = connection.send_failed (record {
-    sent = λ told. sending.bytes (both_true i.observable k.observable told).1;
+    sent = λ obs. sending.bytes (both_true i.observable k.observable obs).1;
     incoming = λ _. refl;
     listed = refl;
     broken = refl;
@@ -91,7 +91,7 @@ replied i i' k k' b q n replies result answers sending r answer = record {
     pushes = pushes_in r.values;
     enough = ap length r.replies_are ∙ r.ends.enough;
     sent = sent_whole i i' k k' b false q sending;
-    takes = λ told. taken_got n i i' replies r (both_true i.observable k.observable told).0;
+    takes = λ obs. taken_got n i i' replies r (both_true i.observable k.observable obs).0;
     listed = r.on.pushes;
     usable = refl;
     no_failure = record { source = r.on.failures; sink = sending.failures };
@@ -105,7 +105,7 @@ missed i i' k k' b q n e answers sending r (faulty f few is bad same) = connecti
   frame_fault = f;
   pushes = pushes_in r.values;
   sent = sent_whole i i' k k' b true q sending;
-  takes = λ told. taken_fault n i i' e r few f bad (both_true i.observable k.observable told).0;
+  takes = λ obs. taken_fault n i i' e r few f bad (both_true i.observable k.observable obs).0;
   listed = r.pushes ∙ r.on.pushes;
   broken = refl;
   no_failure = record { source = same ∙ r.on.failures; sink = sending.failures };
@@ -114,7 +114,7 @@ missed i i' k k' b q n e answers sending r (faulty f few is bad same) = connecti
 missed i i' k k' b q n e answers sending r (ended few is unfinished same) = connection.ended (record {
   pushes = pushes_in r.values;
   sent = sent_whole i i' k k' b true q sending;
-  takes = λ told. taken_early n i i' e r few unfinished (both_true i.observable k.observable told).0;
+  takes = λ obs. taken_early n i i' e r few unfinished (both_true i.observable k.observable obs).0;
   listed = r.pushes ∙ r.on.pushes;
   broken = refl;
   no_failure = record { source = same ∙ r.on.failures; sink = sending.failures };
@@ -123,7 +123,7 @@ missed i i' k k' b q n e answers sending r (ended few is unfinished same) = conn
 missed i i' k k' b q n e answers sending r (interrupted kind few is some counted) = connection.receive_failed (record {
   pushes = pushes_in r.values;
   sent = sent_whole i i' k k' b true q sending;
-  takes = λ told. too_little n i i' e r few some (both_true i.observable k.observable told).0;
+  takes = λ obs. too_little n i i' e r few some (both_true i.observable k.observable obs).0;
   listed = r.pushes ∙ r.on.pushes;
   broken = refl;
   counted = rw (r.on.failures) at counted;
@@ -135,8 +135,8 @@ missed i i' k k' b q n e answers sending r (out_of_memory is same) = connection.
   no_failure = record { source = same ∙ r.on.failures; sink = sending.failures };
   left = inr (record {
     pushes = pushes_in r.values;
-    sent = λ told. record { prefix = q; rest = []; whole = sym (append-nil q); sent = sending.bytes (both_true i.observable k.observable told).1 };
-    among = λ told. record { values = r.values; rest = r.at.incoming; prefix = r.on.prefix (both_true i.observable k.observable told).0; pushes_are = refl };
+    sent = λ obs. record { prefix = q; rest = []; whole = sym (append-nil q); sent = sending.bytes (both_true i.observable k.observable obs).1 };
+    among = λ obs. record { values = r.values; rest = r.at.incoming; prefix = r.on.prefix (both_true i.observable k.observable obs).0; pushes_are = refl };
     listed = r.pushes ∙ r.on.pushes;
     broken = refl;
   });

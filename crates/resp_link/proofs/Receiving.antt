@@ -30,20 +30,20 @@ on_value : (s t : Source) (unparsed : List ℕ) (new : State) (p : List PushInfo
     ReadsOn (inflow_of unparsed s p) (inflow_of new.unparsed t (p ++ pushes_in (v ∷ []))) (v ∷ [])
 on_value s t unparsed new p v observable parsed = record {
   observable = observable;
-  prefix = λ told. reads_one (unparsed ++ s.bytes) (new.unparsed ++ t.bytes) v (HasGoodPrefix-whole unparsed parsed.filled s t (parsed.came told) v new.unparsed parsed.value);
+  prefix = λ obs. reads_one (unparsed ++ s.bytes) (new.unparsed ++ t.bytes) v (HasGoodPrefix-whole unparsed parsed.filled s t (parsed.came obs) v new.unparsed parsed.value);
   pushes = refl;
   failures = parsed.failures;
 }
 
 stops : (Needed : Type 0) (s t : Source) (unparsed : List ℕ) (new : State) (p : List PushInfo) (e : RedisError) → Needed → CannotParse unparsed e new s t → StopsReceiving Needed (inflow_of unparsed s p) (inflow_of new.unparsed t p) e
 stops Needed s t unparsed new p e needed (faulty f filled is bad failed) =
-    receiving.faulty f needed is (λ told. HasFaultyPrefix-whole unparsed filled s t (failed.came told) f bad) failed.failures
+    receiving.faulty f needed is (λ obs. HasFaultyPrefix-whole unparsed filled s t (failed.came obs) f bad) failed.failures
 stops Needed s t unparsed new p e needed (early_end filled is unfinished nothing failed) =
-    receiving.ended needed is (λ told. IsUnfinished-whole unparsed filled s t (failed.came told) (nothing told) unfinished) failed.failures
-stops Needed s t unparsed new p e needed (source_failed kind is midway) = receiving.interrupted kind needed is (λ told. record {
+    receiving.ended needed is (λ obs. IsUnfinished-whole unparsed filled s t (failed.came obs) (nothing obs) unfinished) failed.failures
+stops Needed s t unparsed new p e needed (source_failed kind is midway) = receiving.interrupted kind needed is (λ obs. record {
   prefix = unparsed ++ midway.filled;
   rest = t.bytes;
-  whole = (let came = midway.came told in grind (arith, common_steps));
+  whole = (let came = midway.came obs in grind (arith, common_steps));
   unfinished = midway.unfinished;
 }) midway.failures
 stops Needed s t unparsed new p e needed (out_of_memory filled is failed) = receiving.out_of_memory is failed.failures

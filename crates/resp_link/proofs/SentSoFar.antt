@@ -23,20 +23,20 @@ further q start now next done n e f = grind (arith, common_steps, take-add done 
 pub sent_more : (start now next : Sink) (q : List ℕ) (done n : ℕ) → SentSoFar start now q done → Sends now next (take (length q - done) (drop done q)) (Ok n) → SentSoFar start next q (done + n)
 sent_more start now next q done n so_far step = let step' = rw (left q done) at step in record {
   within = let b : n ≤ length (drop done q) = step'.bound in omega (arith, so_far.within, length-drop done q);
-  observable = λ told. step'.observable (so_far.observable told);
+  observable = λ obs. step'.observable (so_far.observable obs);
   failures = step'.failures ∙ so_far.failures;
-  bytes = λ told. further q start.bytes now.bytes next.bytes done n (so_far.bytes told) (step'.bytes (so_far.observable told));
+  bytes = λ obs. further q start.bytes now.bytes next.bytes done n (so_far.bytes obs) (step'.bytes (so_far.observable obs));
 }
 
 pub sending_failed : (start now next : Sink) (q given : List ℕ) (done : ℕ) (kind : IoKind) → SentSoFar start now q done → Sends now next given (Err kind) → SendsAll start next q (Err kind)
 sending_failed start now next q given done kind so_far step = record {
-  observable = λ told. step.observable (so_far.observable told);
+  observable = λ obs. step.observable (so_far.observable obs);
   failures = rw (← so_far.failures) step.failures;
-  bytes = λ told. record {
+  bytes = λ obs. record {
     prefix = take done q;
     rest = drop done q;
     whole = sym (take-append-drop done q);
-    sent = step.bytes (so_far.observable told) ∙ so_far.bytes told;
+    sent = step.bytes (so_far.observable obs) ∙ so_far.bytes obs;
   };
   flushed = tt;
 }

@@ -10,8 +10,8 @@ use std::io::Write;
 
 /// Any writer as a [`CommandSink`].
 ///
-/// It counts the failures of the writer, and tells its bytes where the writer does, as over
-/// memory. A write of nothing is the fault `WriteZero`.
+/// It counts the failures of the writer, and is observable where the writer's bytes are known, as
+/// over memory. A write of nothing is the fault `WriteZero`.
 #[derive(Drop)]
 pub struct Writing<W> {
     writer: W,

@@ -20,8 +20,8 @@ abbrev pub pairs_left : MapIter → List (Value × Value)
 pairs_left it = rest_of it.rest
 
 -- the values that a borrowed pair refers to
-abbrev pub seen : Bor Value × Bor Value → Value × Value
-seen pair = (pair.0.now, pair.1.now)
+abbrev pub referents : Bor Value × Bor Value → Value × Value
+referents pair = (pair.0.now, pair.1.now)
 
 abbrev owned_rest_of : OwnedRest → List (Value × Value)
 owned_rest_of (owned.Entries entries) = into_iter_items entries

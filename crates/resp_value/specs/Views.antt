@@ -1,4 +1,4 @@
--- A reply seen as a list of values, or as a list of pairs.
+-- A reply as a list of values, or as a list of pairs.
 use Rattle.std.specs.Prelude.{◌%◌, ◌==◌, Bool, true, false, cond, List, [], ◌∷◌, length, Option, None, Some}
 use Rattle.resp_value.specs.declared.value.Value.{Value, out-Value}
 use Rattle.resp_value.specs.declared.value.Value.TheOpen.{Value-F}

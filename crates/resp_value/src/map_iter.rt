@@ -29,11 +29,11 @@ impl<'a> Iterator for MapIter<'a> {
     ghost use Rattle.std.specs.Prelude.{◌≡◌, length, IfSome, Some};
     ghost use Rattle.std.specs.Iterator.{YieldsFirstBy, item_count, UpTo, at_most};
     ghost use Rattle.std.specs.Iterator.SizeHint.{IsWithinCount};
-    ghost use Rattle.resp_value.specs.MapIters.{pairs_left, seen};
+    ghost use Rattle.resp_value.specs.MapIters.{pairs_left, referents};
 
     type Item = (&'a Value, &'a Value);
 
-    ghost next_gives = { YieldsFirstBy seen pairs_left };
+    ghost next_gives = { YieldsFirstBy referents pairs_left };
 
     ghost remaining = { item_count pairs_left };
 

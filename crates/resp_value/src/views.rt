@@ -1,4 +1,4 @@
-//! Replies seen as lists of values or of pairs.
+//! Replies as lists of values or of pairs.
 
 ghost use Rattle.std.specs.Prelude.{◌≡◌, ◌++◌, MatchOption, IsOkAnd, option_map, Err};
 ghost use Rattle.std.specs.Option.{option_copied};

@@ -38,7 +38,7 @@ fn a_readers_fault_is_its_own(rt: HostRuntime) {
 }
 
 #[test]
-fn a_held_value_asks_for_nothing(rt: HostRuntime) {
+fn a_buffered_value_asks_for_nothing(rt: HostRuntime) {
     let script = &[Step::Fails(ErrorKind::TimedOut)];
     let mut source = Reading::new(ScriptedReader::new(script));
     let mut parser = Parser::new(rt.alloc());
@@ -59,7 +59,7 @@ fn a_held_value_asks_for_nothing(rt: HostRuntime) {
 }
 
 #[test]
-fn values_held_after_a_reader_ended(rt: HostRuntime) {
+fn values_buffered_after_a_reader_ended(rt: HostRuntime) {
     let mut parser = Parser::new(rt.alloc());
     parser.feed(b":1\r\n:2\r\n").expect(&rt, "no refusal");
     let first = parser.parse_value(&b""[..]).expect(&rt, "no refusal");

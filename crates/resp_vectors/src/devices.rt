@@ -3,7 +3,7 @@
 use std::io;
 use std::io::{Read, Write};
 
-/// Gives a text one byte a read, and fails after it as often as it is told to; then it ends.
+/// Gives a text one byte a read, and fails after it as often as was asked for; then it ends.
 #[derive(Drop)]
 pub struct Dropping {
     text: &'static [u8],

@@ -156,7 +156,8 @@ fn aggregates(rt: HostRuntime) {
         ),
         (
             &b"~5\r\n+orange\r\n+apple\r\n#t\r\n:100\r\n:999\r\n"[..],
-            "set([simple-string(\"orange\"), simple-string(\"apple\"), boolean(true), int(100), int(999)]) ",
+            "set([simple-string(\"orange\"), simple-string(\"apple\"), boolean(true), \
+             int(100), int(999)]) ",
         ),
         (
             &b"%2\r\n+first\r\n:1\r\n+second\r\n:2\r\n"[..],
@@ -173,7 +174,8 @@ fn aggregates(rt: HostRuntime) {
         ),
         (
             &b">3\r\n+message\r\n+somechannel\r\n+this is the message\r\n"[..],
-            "push(Message, [simple-string(\"somechannel\"), simple-string(\"this is the message\")]) ",
+            "push(Message, [simple-string(\"somechannel\"), \
+             simple-string(\"this is the message\")]) ",
         ),
         (
             &b">0\r\n>-3\r\n"[..],

@@ -3,9 +3,9 @@
 #![tactic(auto)]
 
 #[cfg(test)]
-mod error_places;
+mod devices;
 #[cfg(test)]
-mod fakes;
+mod error_places;
 #[cfg(test)]
 mod memory;
 #[cfg(test)]

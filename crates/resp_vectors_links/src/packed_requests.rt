@@ -1,6 +1,6 @@
 //! Requests of packed commands over a link.
 
-use crate::fakes::AskedOnce;
+use crate::devices::AskedOnce;
 use crate::memory::{commands, fixed_text, link_over, next_integer, sent};
 use resp_core::{ByteLink, ConnectionLike, ErrorKind, RedisError, Value};
 

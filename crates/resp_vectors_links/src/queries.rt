@@ -1,6 +1,6 @@
 //! Queries of pipelines, and of commands beside them, over a link.
 
-use crate::fakes::OneAtATime;
+use crate::devices::OneAtATime;
 use crate::memory::{commands, fixed_text, link_over, listed, next_integer, ping, sent};
 use resp_core::{
     Cmd, ErrorKind, IoKind, Pipeline, RedisError, RedisResult, ServerErrorKind, Value, pipe,
@@ -104,7 +104,7 @@ fn an_error_inside_an_ignored_reply(rt: HostRuntime) {
 }
 
 /// A command that waits for no reply.
-fn silent(rt: &(impl Abort + AllocGlobal)) -> Cmd {
+fn no_response_command(rt: &(impl Abort + AllocGlobal)) -> Cmd {
     let mut command = ping(rt);
     let _ = command.set_no_response(true);
     command
@@ -113,7 +113,9 @@ fn silent(rt: &(impl Abort + AllocGlobal)) -> Cmd {
 #[test]
 fn a_command_without_a_response(rt: HostRuntime) {
     let mut link = link_over(&rt, b":7\r\n");
-    silent(&rt).exec(&mut link).expect(&rt, "no refusal");
+    no_response_command(&rt)
+        .exec(&mut link)
+        .expect(&rt, "no refusal");
     assert!(rt; !link.is_broken());
     assert_eq!(rt; next_integer(&rt, &mut link), 7);
     assert_eq!(rt;
@@ -125,7 +127,7 @@ fn a_command_without_a_response(rt: HostRuntime) {
 #[test]
 fn no_response_is_no_integer(rt: HostRuntime) {
     let mut link = link_over(&rt, b":7\r\n");
-    let error = silent(&rt)
+    let error = no_response_command(&rt)
         .query::<i64>(&mut link)
         .expect_err(&rt, "a refusal");
     assert_eq!(rt; error.kind(), ErrorKind::Parse);

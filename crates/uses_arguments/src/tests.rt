@@ -49,14 +49,17 @@ fn chains(rt: HostRuntime) {
     packs(
         &rt,
         &command,
-        "*10\r\n$1\r\nX\r\n$1\r\nk\r\n$1\r\nb\r\n$4\r\nname\r\n$3\r\nage\r\n$1\r\nl\r\n$1\r\np\r\n$1\r\nq\r\n$1\r\na\r\n$1\r\n1\r\n",
+        "*10\r\n$1\r\nX\r\n$1\r\nk\r\n$1\r\nb\r\n$4\r\nname\r\n$3\r\nage\r\n$1\r\nl\r\n\
+         $1\r\np\r\n$1\r\nq\r\n$1\r\na\r\n$1\r\n1\r\n",
     );
     let mut command = named(&rt, "XADD");
     add_twelve(&mut command, "s", "f", "v").expect(&rt, "no refusal");
     packs(
         &rt,
         &command,
-        "*13\r\n$4\r\nXADD\r\n$1\r\ns\r\n$10\r\nNOMKSTREAM\r\n$6\r\nMAXLEN\r\n$1\r\n~\r\n$4\r\n1000\r\n$5\r\nLIMIT\r\n$2\r\n10\r\n$1\r\n*\r\n$1\r\nf\r\n$1\r\nv\r\n$2\r\nat\r\n$1\r\n7\r\n",
+        "*13\r\n$4\r\nXADD\r\n$1\r\ns\r\n$10\r\nNOMKSTREAM\r\n$6\r\nMAXLEN\r\n\
+         $1\r\n~\r\n$4\r\n1000\r\n$5\r\nLIMIT\r\n$2\r\n10\r\n\
+         $1\r\n*\r\n$1\r\nf\r\n$1\r\nv\r\n$2\r\nat\r\n$1\r\n7\r\n",
     );
     let mut command = named(&rt, "X");
     add_tagged(&mut command, "t", ("a", 1)).expect(&rt, "no refusal");

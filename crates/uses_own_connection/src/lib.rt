@@ -1,8 +1,8 @@
 //! Connections of a caller's own: one for tests of code that takes a `&mut dyn ConnectionLike`, and
 //! one around a link ([`Counted`]).
 //!
-//! The first, [`Stored`], answers replies that it was given, in order. It doesn't tell its bytes,
-//! since it has none, so its whole meaning is whether it is broken. No proof file is needed.
+//! The first, [`Stored`], answers replies that it was given, in order. It isn't observable, since
+//! it has no bytes, so its whole meaning is whether it is broken. No proof file is needed.
 #![tactic(auto)]
 
 ghost use Rattle.std.specs.Prelude.{◌≡◌};
@@ -33,9 +33,9 @@ impl Stored {
 }
 
 impl ConnectionLike for Stored {
-    ghost use Rattle.resp_core.specs.Connections.{untold};
+    ghost use Rattle.resp_core.specs.Connections.{unobservable};
 
-    ghost connection = { λ c. untold c.broken };
+    ghost connection = { λ c. unobservable c.broken };
 
     fn req_command(&mut self, cmd: &Cmd) -> RedisResult<Value> {
         if self.broken {

@@ -1,7 +1,7 @@
 //! A type of a caller's own that replies convert to, by way of a tuple.
 //!
-//! `From` says how the elements make the type, and one line says what a reply is to it. No proof file
-//! is needed; an `Option` or a `Vec` of the type then converts too, with its contract.
+//! `From` says how the elements make the type, and one line says what a reply is to it. No proof
+//! file is needed; an `Option` or a `Vec` of the type then converts too, with its contract.
 #![tactic(auto)]
 
 ghost use Rattle.std.specs.Prelude.{◌≡◌};

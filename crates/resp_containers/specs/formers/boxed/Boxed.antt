@@ -20,7 +20,7 @@ use Rattle.std.specs.contracts.alloc.Global as global
 use Rattle.std.specs.contracts.impls.GlobalAllocator.TheImpl.{ghosts}
 use Rattle.resp_containers.specs.declared.boxed.Boxed.TheInside.{Inside}
 use Rattle.resp_containers.specs.declared.boxed.Boxed.TheView.{view, invariant}
-use Rattle.resp_containers.specs.contracts.boxed.Boxed as seen
+use Rattle.resp_containers.specs.contracts.boxed.Boxed as boxed
 use Rattle.resp_containers.specs.contracts.boxed.Boxed.TheInside as inside
 
 abbrev pub the_former : Former {0} → Former {0}
@@ -58,9 +58,9 @@ module _ (R S : RattleType) (along : R.Denot → S.Denot) where
   }
 
   pub the_places : Alike R S along
-      → Alike (seen.the_row R) (seen.the_row S) ((the_former this).map R.Denot S.Denot along)
+      → Alike (boxed.the_row R) (boxed.the_row S) ((the_former this).map R.Denot S.Denot along)
   the_places alike = view_places stored this view (λ X Y k b. refl) (λ X b. refl)
-      R.Denot S.Denot along (seen.the_row R).coded (seen.the_row S).coded
+      R.Denot S.Denot along (boxed.the_row R).coded (boxed.the_row S).coded
       (invariant R.Denot) (invariant S.Denot)
       (λ b p q. refl) (λ b p q. refl) (λ b p. tt) (λ b p. tt)
       (over (inside.the_row R)) (over (inside.the_row S))
@@ -69,5 +69,5 @@ module _ (R S : RattleType) (along : R.Denot → S.Denot) where
       (laid _ _ _ (box_places alike), tt))
 
   pub the_codes_placed : Recodes R S along
-      → Recodes (seen.the_row R) (seen.the_row S) ((the_former this).map R.Denot S.Denot along)
+      → Recodes (boxed.the_row R) (boxed.the_row S) ((the_former this).map R.Denot S.Denot along)
   the_codes_placed recodes value = recodes value

@@ -17,7 +17,7 @@ use Rattle.std.specs.contracts.alloc.Global as global
 use Rattle.std.specs.contracts.impls.GlobalAllocator.TheImpl.{ghosts}
 use Rattle.resp_containers.specs.declared.items.Items.TheInside.{Inside}
 use Rattle.resp_containers.specs.declared.items.Items.TheView.{view, invariant}
-use Rattle.resp_containers.specs.contracts.items.Items as seen
+use Rattle.resp_containers.specs.contracts.items.Items as items
 use Rattle.resp_containers.specs.contracts.items.Items.TheInside as inside
 
 abbrev pub the_former : Former {0} → Former {0}
@@ -43,9 +43,9 @@ stored = via (vec.the_former this Global) Inside (λ X it. it.items) (λ X v. re
 
 module _ (R S : RattleType) (along : R.Denot → S.Denot) where
   pub the_places : Alike R S along
-      → Alike (seen.the_row R) (seen.the_row S) ((the_former this).map R.Denot S.Denot along)
+      → Alike (items.the_row R) (items.the_row S) ((the_former this).map R.Denot S.Denot along)
   the_places alike = view_places stored (list this) view (λ X Y k it. refl) (λ X it. refl)
-      R.Denot S.Denot along (seen.the_row R).coded (seen.the_row S).coded
+      R.Denot S.Denot along (items.the_row R).coded (items.the_row S).coded
       (invariant R.Denot) (invariant S.Denot)
       (λ it p q. refl) (λ it p q. refl) (λ it p. tt) (λ it p. tt)
       (over (inside.the_row R)) (over (inside.the_row S))
@@ -54,6 +54,6 @@ module _ (R S : RattleType) (along : R.Denot → S.Denot) where
       (laid _ _ _ (vec.the_places global.the_row ghosts R S along alike), tt))
 
   pub the_codes_placed : Recodes R S along
-      → Recodes (seen.the_row R) (seen.the_row S) ((the_former this).map R.Denot S.Denot along)
+      → Recodes (items.the_row R) (items.the_row S) ((the_former this).map R.Denot S.Denot along)
   the_codes_placed recodes elements =
       sym (code_map R.coded.code S.coded.code along (λ x. sym (recodes x)) elements)

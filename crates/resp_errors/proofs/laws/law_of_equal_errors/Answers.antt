@@ -5,16 +5,16 @@ use Rattle.resp_errors.specs.contracts.redis_error.RedisErrorPartialEq.TheImpl a
 use Rattle.resp_errors.specs.contracts.redis_error.RedisErrorEq.TheImpl.Laws as equal_errors
 use Rattle.resp_errors.specs.contracts.kinds.ErrorKindEq.TheImpl.Laws as equal_kinds
 use Rattle.resp_errors.specs.Equality.{without_words}
-use Rattle.resp_errors.proofs.EqualErrors.{tells_kind, tells_io_kind, tells_parsing, tells_server, tells_entries}
+use Rattle.resp_errors.proofs.EqualErrors.{same_kind, same_io_kind, same_parsing, same_server, same_entries}
 use Rattle.resp_errors.proofs.laws.law_of_equal_errors.Goals as goal
 
 sound : (a b : RedisError) → errors.ghosts.eq a b ≡ true → without_words a ≡ without_words b
-sound (form.General k t d) (form.General k' t' d') h = ap (λ kind. form.General kind [] None) (tells_kind k k' h)
-sound (form.Io k) (form.Io k') h = ap form.Io (tells_io_kind k k' h)
-sound (form.Parse e) (form.Parse e') h = ap form.Parse (tells_parsing e e' h)
-sound (form.Server e) (form.Server e') h = ap form.Server (tells_server e e' h)
-sound (form.Pipeline es) (form.Pipeline es') h = ap form.Pipeline (tells_entries es es' h)
-sound (form.Aborted es) (form.Aborted es') h = ap form.Aborted (tells_entries es es' h)
+sound (form.General k t d) (form.General k' t' d') h = ap (λ kind. form.General kind [] None) (same_kind k k' h)
+sound (form.Io k) (form.Io k') h = ap form.Io (same_io_kind k k' h)
+sound (form.Parse e) (form.Parse e') h = ap form.Parse (same_parsing e e' h)
+sound (form.Server e) (form.Server e') h = ap form.Server (same_server e e' h)
+sound (form.Pipeline es) (form.Pipeline es') h = ap form.Pipeline (same_entries es es' h)
+sound (form.Aborted es) (form.Aborted es') h = ap form.Aborted (same_entries es es' h)
 sound form.OutOfMemory form.OutOfMemory h = refl
 sound _ _ h = cc
 

@@ -21,9 +21,9 @@ impl OneAtATime {
 }
 
 impl ConnectionLike for OneAtATime {
-    ghost use Rattle.resp_core.specs.Connections.{untold};
+    ghost use Rattle.resp_core.specs.Connections.{unobservable};
 
-    ghost connection = { λ c. untold c.broken };
+    ghost connection = { λ c. unobservable c.broken };
 
     fn req_command(&mut self, cmd: &Cmd) -> RedisResult<Value> {
         self.requests = self.requests.saturating_add(1);
