@@ -11,7 +11,7 @@ use Rattle.resp_parse.specs.PlainReading as reading
 use Rattle.resp_parse.specs.PlainReading.{ReadOutcome, read}
 use Rattle.resp_parse.proofs.Prefixes.{law_of_prefixes}
 use Rattle.resp_parse.proofs.PrefixReads.{HasGoodPrefix-from_read, HasFaultyPrefix-from_fault_read, IsUnfinished-from_read}
-use Rattle.resp_command.specs.Taken.{push_of, pushes_in, replies_in, PrefixReads, Taking, got, fault, early, TakesAll, TakesFewer, Taken, TakesOneThing}
+use Rattle.resp_command.specs.Taken.{as_push, pushes_in, replies_in, PrefixReads, Taking, took, met_fault, ended_early, TakesAll, TakesFewer, Taken, TakesOneThing}
 use Rattle.resp_command.proofs.PackedReadsBack.{good_some}
 use Rattle.resp_command.proofs.Values.{reads_nothing, reads_one, reads_both, count-append, ends_at_nothing}
 
@@ -47,7 +47,7 @@ compared b r s vs ws h k = compare h.prefix r k.prefix s vs ws (sym h.whole ∙ 
 
 -- no value stands where something else follows
 abbrev NoValue : (List ℕ → Type 0) → Type 0
-NoValue Then = (r more : List ℕ) (v : Value) → Then r → HasGoodPrefix 100 r v more → ⊥
+NoValue After = (r more : List ℕ) (v : Value) → After r → HasGoodPrefix 100 r v more → ⊥
 
 unfinished_no_value : NoValue (IsUnfinished 100)
 unfinished_no_value r more v h g = h.no_value v more g
@@ -63,7 +63,7 @@ at_most : (vs ws after : List Value) (w : Value) → ws ≡ vs ++ w ∷ after �
 at_most vs ws after w e = let c = ap (λ l. length (replies_in l)) e ∙ count-append vs (w ∷ after) in omega arith
 
 module _ (n : ℕ) (b : List ℕ) where
-  all_all : (rs ss : List Value) (p q : List PushInfo) (r s : List ℕ) → TakesAll n b rs p r → TakesAll n b ss q s → got rs p r ≡ got ss q s
+  all_all : (rs ss : List Value) (p q : List PushInfo) (r s : List ℕ) → TakesAll n b rs p r → TakesAll n b ss q s → took rs p r ≡ took ss q s
   all_all rs ss p q r s h k = elim (compared b r s h.values k.values h.prefix k.prefix) [
     | same e f ↦ (
         let i : rs ≡ ss = h.replies_are ∙ ap replies_in e ∙ sym k.replies_are in
@@ -74,16 +74,16 @@ module _ (n : ℕ) (b : List ℕ) where
   ]
 
   -- all replies are there, or they aren't
-  all_fewer : (rs : List Value) (p q : List PushInfo) (r : List ℕ) (Then : List ℕ → Type 0) → NoValue Then → TakesAll n b rs p r → TakesFewer n b q Then → ⊥
-  all_fewer rs p q r Then nothing h k = elim (compared b r k.rest h.values k.values h.prefix k.prefix) [
+  all_fewer : (rs : List Value) (p q : List PushInfo) (r : List ℕ) (After : List ℕ → Type 0) → NoValue After → TakesAll n b rs p r → TakesFewer n b q After → ⊥
+  all_fewer rs p q r After nothing h k = elim (compared b r k.rest h.values k.values h.prefix k.prefix) [
     | same e f ↦ (let c = ap (λ l. length (replies_in l)) e in let m = h.ends.enough in let l = k.few in omega arith)
     | first_shorter w after more e g ↦ (let c = at_most h.values k.values after w e in let m = h.ends.enough in let l = k.few in omega arith)
     | second_shorter v after more e g ↦ nothing k.rest more v k.follows g
   ]
 
   -- what comes before something else is one
-  fewer_fewer : (p q : List PushInfo) (Then Then' : List ℕ → Type 0) → NoValue Then → NoValue Then' → (h : TakesFewer n b p Then) → (k : TakesFewer n b q Then') → (p ≡ q) × (h.rest ≡ k.rest)
-  fewer_fewer p q Then Then' nothing nothing' h k = elim (compared b h.rest k.rest h.values k.values h.prefix k.prefix) [
+  fewer_fewer : (p q : List PushInfo) (After After' : List ℕ → Type 0) → NoValue After → NoValue After' → (h : TakesFewer n b p After) → (k : TakesFewer n b q After') → (p ≡ q) × (h.rest ≡ k.rest)
+  fewer_fewer p q After After' nothing nothing' h k = elim (compared b h.rest k.rest h.values k.values h.prefix k.prefix) [
     | same e f ↦ (h.pushes_are ∙ ap pushes_in e ∙ sym k.pushes_are, f)
     | first_shorter w after more e g ↦ absurd (nothing h.rest more w h.follows g)
     | second_shorter v after more e g ↦ absurd (nothing' k.rest more v k.follows g)
@@ -96,24 +96,24 @@ module _ (n : ℕ) (b : List ℕ) where
 
   only_one : (t u : Taking) → Taken n b t → Taken n b u → t ≡ u
   unfolding Taken
-  only_one (got rs p r) (got ss q s) h k = all_all rs ss p q r s h k
-  only_one (got rs p r) (fault g q) h k = absurd (all_fewer rs p q r _ (fault_no_value g) h k)
-  only_one (got rs p r) (early q) h k = absurd (all_fewer rs p q r _ unfinished_no_value h k)
-  only_one (fault f p) (got ss q s) h k = absurd (all_fewer ss q p s _ (fault_no_value f) k h)
-  only_one (fault f p) (fault g q) h k =
+  only_one (took rs p r) (took ss q s) h k = all_all rs ss p q r s h k
+  only_one (took rs p r) (met_fault g q) h k = absurd (all_fewer rs p q r _ (fault_no_value g) h k)
+  only_one (took rs p r) (ended_early q) h k = absurd (all_fewer rs p q r _ unfinished_no_value h k)
+  only_one (met_fault f p) (took ss q s) h k = absurd (all_fewer ss q p s _ (fault_no_value f) k h)
+  only_one (met_fault f p) (met_fault g q) h k =
       let e = fewer_fewer p q _ _ (fault_no_value f) (fault_no_value g) h k in
       let same_fault : f ≡ g = one_fault k.rest f g (subst (λ r. HasFaultyPrefix 100 r f) e.1 h.follows) k.follows in
       rw (same_fault, e.0) refl
-  only_one (fault f p) (early q) h k = absurd (fault_early f p q h k)
-  only_one (early p) (got ss q s) h k = absurd (all_fewer ss q p s _ unfinished_no_value k h)
-  only_one (early p) (fault g q) h k = absurd (fault_early g q p k h)
-  only_one (early p) (early q) h k = ap early (fewer_fewer p q _ _ unfinished_no_value unfinished_no_value h k).0
+  only_one (met_fault f p) (ended_early q) h k = absurd (fault_early f p q h k)
+  only_one (ended_early p) (took ss q s) h k = absurd (all_fewer ss q p s _ unfinished_no_value k h)
+  only_one (ended_early p) (met_fault g q) h k = absurd (fault_early g q p k h)
+  only_one (ended_early p) (ended_early q) h k = ap ended_early (fewer_fewer p q _ _ unfinished_no_value unfinished_no_value h k).0
 
 -- a value that comes before: a push, or a reply
 value_before : (n m : ℕ) (b rest : List ℕ) (v : Value) → HasGoodPrefix 100 b v rest → length (replies_in (v ∷ [])) + m ≡ n → 0 < n → (t : Taking) → Taken m rest t → (u : Taking) × Taken n b u
 unfolding Taken
-value_before n m b rest v g count some (got rs p r) h = (
-  got (replies_in (v ∷ h.values)) (pushes_in (v ∷ h.values)) r,
+value_before n m b rest v g count some (took rs p r) h = (
+  took (replies_in (v ∷ h.values)) (pushes_in (v ∷ h.values)) r,
   record {
     values = v ∷ h.values;
     prefix = reads_both b rest r (v ∷ []) h.values (reads_one b rest v g) h.prefix;
@@ -134,8 +134,8 @@ value_before n m b rest v g count some (got rs p r) h = (
         let c = count-append (x ∷ []) before in
         let d = ap (λ z. length (replies_in (z ∷ []))) first in
         omega arith
-value_before n m b rest v g count some (fault f p) h = (
-  fault f (pushes_in (v ∷ h.values)),
+value_before n m b rest v g count some (met_fault f p) h = (
+  met_fault f (pushes_in (v ∷ h.values)),
   record {
     values = v ∷ h.values;
     rest = h.rest;
@@ -145,8 +145,8 @@ value_before n m b rest v g count some (fault f p) h = (
     follows = h.follows;
   },
 )
-value_before n m b rest v g count some (early p) h = (
-  early (pushes_in (v ∷ h.values)),
+value_before n m b rest v g count some (ended_early p) h = (
+  ended_early (pushes_in (v ∷ h.values)),
   record {
     values = v ∷ h.values;
     rest = h.rest;
@@ -167,16 +167,16 @@ shorter b rest v h = by_prefix h.prefix h.whole h.good
 
 -- one value more, a reply or a push
 count_one : (v : Value) → (length (replies_in (v ∷ [])) ≡ 0) ⊎ (length (replies_in (v ∷ [])) ≡ 1)
-count_one v = either (push_of v) refl
+count_one v = either (as_push v) refl
   where
-    either : (o : Option PushInfo) → push_of v ≡ o → (length (replies_in (v ∷ [])) ≡ 0) ⊎ (length (replies_in (v ∷ [])) ≡ 1)
+    either : (o : Option PushInfo) → as_push v ≡ o → (length (replies_in (v ∷ [])) ≡ 0) ⊎ (length (replies_in (v ∷ [])) ≡ 1)
     either (Some info) e = inl (rw e refl)
     either None e = inr (rw e refl)
 
 some_taking : (size n : ℕ) (b : List ℕ) → length b < size → (t : Taking) × Taken n b t
 unfolding Taken
 some_taking zero n b l = absurd (omega arith)
-some_taking (suc size) zero b l = (got [] [] b, record { values = []; prefix = reads_nothing b; ends = ends_at_nothing; replies_are = refl; pushes_are = refl })
+some_taking (suc size) zero b l = (took [] [] b, record { values = []; prefix = reads_nothing b; ends = ends_at_nothing; replies_are = refl; pushes_are = refl })
 some_taking (suc size) (suc n) b l = next (some_taking size) (read 100 b) refl
   where
     next : ((m : ℕ) (c : List ℕ) → length c < size → (t : Taking) × Taken m c t) → (o : ReadOutcome Value) → read 100 b ≡ o → (t : Taking) × Taken (suc n) b t
@@ -187,8 +187,8 @@ some_taking (suc size) (suc n) b l = next (some_taking size) (read 100 b) refl
           | inl push ↦ (let t = deeper (suc n) rest (omega arith) in value_before (suc n) (suc n) b rest v g (omega arith) (omega arith) t.0 t.1)
           | inr reply ↦ (let t = deeper n rest (omega arith) in value_before (suc n) n b rest v g (omega arith) (omega arith) t.0 t.1)
         ]
-    next deeper (reading.fault f rest) e = (fault f [], record { values = []; rest = b; prefix = reads_nothing b; few = omega arith; pushes_are = refl; follows = HasFaultyPrefix-from_fault_read 100 b f (reading.fault f rest) e refl })
-    next deeper reading.unfinished e = (early [], record { values = []; rest = b; prefix = reads_nothing b; few = omega arith; pushes_are = refl; follows = IsUnfinished-from_read 100 b e })
+    next deeper (reading.fault f rest) e = (met_fault f [], record { values = []; rest = b; prefix = reads_nothing b; few = omega arith; pushes_are = refl; follows = HasFaultyPrefix-from_fault_read 100 b f (reading.fault f rest) e refl })
+    next deeper reading.unfinished e = (ended_early [], record { values = []; rest = b; prefix = reads_nothing b; few = omega arith; pushes_are = refl; follows = IsUnfinished-from_read 100 b e })
 
 pub takes_one_thing : (n : ℕ) (b : List ℕ) → TakesOneThing n b
 takes_one_thing n b = let t = some_taking (suc (length b)) n b (omega arith) in record { taking = t.0; taken = t.1; only = λ u h. only_one n b u t.0 h t.1 }

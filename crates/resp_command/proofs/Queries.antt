@@ -8,7 +8,7 @@ use Rattle.resp_errors.specs.declared.parsing_error.ParsingError.TheVariants.{Fa
 use Rattle.resp_command.specs.Call.{Call, CommandCall, Refuses, broken_link, no_command, AnswersReply, Answers, needed}
 use Rattle.resp_command.specs.Command.{Command}
 use Rattle.resp_command.specs.CommandQuery.{CommandQuery}
-use Rattle.resp_command.specs.Connection.{Connection, Exchange, replied, faulted, ended, send_failed, receive_failed, out_of_memory}
+use Rattle.resp_command.specs.Connection.{Connection, Exchange, replied, faulty, early_end, sink_failed, source_failed, out_of_memory}
 use Rattle.resp_command.specs.Packed.{packed}
 use Rattle.resp_command.proofs.PackedReadsBack.{packed_reads_only}
 use Rattle.resp_command.proofs.OneTaking.{takes_one_thing}
@@ -21,7 +21,7 @@ module _ {A B : Type 0} (old new : Connection) (q : List ℕ) (n : ℕ) (answers
   -- the same error, of another type of answers
   exchange_err : (e : RedisError) → ((replies : List Value) → answers replies → ⊥) → Exchange {A = A} old new q n (Err e) answers → Exchange {A = B} old new q n (Err e) answers'
   exchange_err e none (replied h) = absurd (none h.replies h.answer)
-  exchange_err e none (faulted h) = let i : e ≡ Parse (Fault h.frame_fault) = (let k = h.answer in cc) in faulted (record {
+  exchange_err e none (faulty h) = let i : e ≡ Parse (Fault h.frame_fault) = (let k = h.answer in cc) in faulty (record {
     frame_fault = h.frame_fault;
     pushes = h.pushes;
     sent = h.sent;
@@ -31,7 +31,7 @@ module _ {A B : Type 0} (old new : Connection) (q : List ℕ) (n : ℕ) (answers
     no_failure = h.no_failure;
     answer = ap Err i;
   })
-  exchange_err e none (ended h) = let i : e ≡ Io UnexpectedEof = (let k = h.answer in cc) in ended (record {
+  exchange_err e none (early_end h) = let i : e ≡ Io UnexpectedEof = (let k = h.answer in cc) in early_end (record {
     pushes = h.pushes;
     sent = h.sent;
     takes = h.takes;
@@ -40,7 +40,7 @@ module _ {A B : Type 0} (old new : Connection) (q : List ℕ) (n : ℕ) (answers
     no_failure = h.no_failure;
     answer = ap Err i;
   })
-  exchange_err e none (send_failed h) = send_failed (record {
+  exchange_err e none (sink_failed h) = sink_failed (record {
     sent = h.sent;
     incoming = h.incoming;
     listed = h.listed;
@@ -49,7 +49,7 @@ module _ {A B : Type 0} (old new : Connection) (q : List ℕ) (n : ℕ) (answers
     counted = h.counted;
     answer = h.answer;
   })
-  exchange_err e none (receive_failed h) = receive_failed (record {
+  exchange_err e none (source_failed h) = source_failed (record {
     pushes = h.pushes;
     sent = h.sent;
     takes = h.takes;
@@ -74,10 +74,10 @@ module _ {A B : Type 0} (old new : Connection) (q : List ℕ) (n : ℕ) (answers
     no_failure = h.no_failure;
     answer = turn h.replies h.enough h.answer;
   })
-  exchange_ok a r turn (faulted h) = absurd (let k = h.answer in cc)
-  exchange_ok a r turn (ended h) = absurd (let k = h.answer in cc)
-  exchange_ok a r turn (send_failed h) = absurd h.answer
-  exchange_ok a r turn (receive_failed h) = absurd h.answer
+  exchange_ok a r turn (faulty h) = absurd (let k = h.answer in cc)
+  exchange_ok a r turn (early_end h) = absurd (let k = h.answer in cc)
+  exchange_ok a r turn (sink_failed h) = absurd h.answer
+  exchange_ok a r turn (source_failed h) = absurd h.answer
   exchange_ok a r turn (out_of_memory h) = absurd (let k = h.answer in cc)
 
   refuses_err : (e f : RedisError) → Refuses {A = A} old new f (Err e) → Refuses {A = B} old new f (Err e)

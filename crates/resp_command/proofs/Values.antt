@@ -6,11 +6,11 @@ use Rattle.resp_value.specs.declared.names.PushKind.{PushKind}
 use Rattle.resp_parse.specs.Grammar.{Good, Joined}
 use Rattle.resp_parse.specs.Prefixes.{HasGoodPrefix}
 use Rattle.resp_parse.specs.Reads.{Reads}
-use Rattle.resp_command.specs.Taken.{push_of, replies_in, pushes_in, PrefixReads, EndsAtReply}
+use Rattle.resp_command.specs.Taken.{as_push, replies_in, pushes_in, PrefixReads, EndsAtReply}
 
 -- a push is one
-pub push_of-Push : (kind : PushKind) (payload : List Value) → push_of (Push kind payload) ≡ Some (record { kind = kind; payload = payload })
-push_of-Push kind payload = search (rules, the_lemmas)
+pub as_push-Push : (kind : PushKind) (payload : List Value) → as_push (Push kind payload) ≡ Some (record { kind = kind; payload = payload })
+as_push-Push kind payload = search (rules, the_lemmas)
 
 Joined-append : (P : List ℕ → Value → Type 0) (x y : List ℕ) (vs ws : List Value) → Joined P x vs → Joined P y ws → Joined P (x ++ y) (vs ++ ws)
 Joined-append P x y [] ws e h = rw e h
@@ -43,10 +43,10 @@ reads_both b mid rest vs ws h k = record {
 }
 
 pub replies_in-append : (vs ws : List Value) → replies_in (vs ++ ws) ≡ replies_in vs ++ replies_in ws
-replies_in-append vs ws = filter-append (λ v. is_none (push_of v)) vs ws
+replies_in-append vs ws = filter-append (λ v. is_none (as_push v)) vs ws
 
 pub pushes_in-append : (vs ws : List Value) → pushes_in (vs ++ ws) ≡ pushes_in vs ++ pushes_in ws
-pushes_in-append vs ws = filter_map-append push_of vs ws
+pushes_in-append vs ws = filter_map-append as_push vs ws
 
 -- as many replies as both hold
 pub count-append : (vs ws : List Value) → length (replies_in (vs ++ ws)) ≡ length (replies_in vs) + length (replies_in ws)
@@ -74,7 +74,7 @@ ends_at_nothing = record { enough = refl; least = λ before after v e. absurd (n
     none [] after v e = cc
     none (x ∷ before) after v e = cc
 
-pub ends_after_pushes : (vs : List Value) (v : Value) → replies_in vs ≡ [] → push_of v ≡ None → EndsAtReply 1 (vs ++ v ∷ [])
+pub ends_after_pushes : (vs : List Value) (v : Value) → replies_in vs ≡ [] → as_push v ≡ None → EndsAtReply 1 (vs ++ v ∷ [])
 ends_after_pushes vs v none reply = record {
   enough = count-append vs (v ∷ []) ∙ rw (none, reply) refl;
   least = λ before after w e. elim (ending vs (v ∷ []) before after w e) [

@@ -8,7 +8,7 @@ use Rattle.resp_errors.specs.declared.parsing_error.ParsingError.TheVariants.{Fa
 use Rattle.resp_errors.specs.declared.redis_error.RedisError.{RedisError}
 use Rattle.resp_errors.specs.declared.redis_error.RedisError.TheVariants.{Io, Parse, OutOfMemory}
 use Rattle.resp_parse.specs.Source.{FailureCounted}
-use Rattle.resp_command.specs.Taken.{Taken, got, fault, early, PushesOfPrefix}
+use Rattle.resp_command.specs.Taken.{Taken, took, met_fault, ended_early, PushesOfPrefix}
 
 pub record Connection : Type 0 where
   -- whether the bytes below are known
@@ -70,30 +70,30 @@ pub record Replied (old new : Connection) (q : List ℕ) (n : ℕ)
   pub pushes : List PushInfo
   pub enough : length replies ≡ n
   pub sent : Sent old new q
-  pub takes : old.observable ≡ true → Taken n old.incoming (got replies pushes new.incoming)
+  pub takes : old.observable ≡ true → Taken n old.incoming (took replies pushes new.incoming)
   pub listed : new.pushes ≡ old.pushes ++ pushes
   pub usable : new.broken ≡ false
   pub no_failure : NoFailure old new
   pub answer : answers replies
 
 -- a fault stands in the place of a reply
-pub record Faulted {A : Type 0} (old new : Connection) (q : List ℕ) (n : ℕ)
+pub record FaultMet {A : Type 0} (old new : Connection) (q : List ℕ) (n : ℕ)
     (result : Result A RedisError) : Type 0 where
   pub frame_fault : FrameFault
   pub pushes : List PushInfo
   pub sent : Sent old new q
-  pub takes : old.observable ≡ true → Taken n old.incoming (fault frame_fault pushes)
+  pub takes : old.observable ≡ true → Taken n old.incoming (met_fault frame_fault pushes)
   pub listed : new.pushes ≡ old.pushes ++ pushes
   pub broken : new.broken ≡ true
   pub no_failure : NoFailure old new
   pub answer : result ≡ Err (Parse (Fault frame_fault))
 
 -- the incoming bytes end too early
-pub record Ended {A : Type 0} (old new : Connection) (q : List ℕ) (n : ℕ)
+pub record EndedEarly {A : Type 0} (old new : Connection) (q : List ℕ) (n : ℕ)
     (result : Result A RedisError) : Type 0 where
   pub pushes : List PushInfo
   pub sent : Sent old new q
-  pub takes : old.observable ≡ true → Taken n old.incoming (early pushes)
+  pub takes : old.observable ≡ true → Taken n old.incoming (ended_early pushes)
   pub listed : new.pushes ≡ old.pushes ++ pushes
   pub broken : new.broken ≡ true
   pub no_failure : NoFailure old new
@@ -104,7 +104,7 @@ IsIo (Io kind) = Unit {0}
 IsIo _ = ⊥
 
 -- the sink failed: a prefix of the request was sent, and nothing was taken
-pub record SendFailed {A : Type 0} (old new : Connection) (q : List ℕ)
+pub record SinkFailed {A : Type 0} (old new : Connection) (q : List ℕ)
     (result : Result A RedisError) : Type 0 where
   pub sent : old.observable ≡ true → SentPrefix old.sent new.sent q
   pub incoming : old.observable ≡ true → new.incoming ≡ old.incoming
@@ -119,11 +119,11 @@ pub record TakesTooLittle (n : ℕ) (b : List ℕ) (pushes : List PushInfo) : Ty
   pub prefix : List ℕ
   pub rest : List ℕ
   pub whole : b ≡ prefix ++ rest
-  pub early : Taken n prefix (early pushes)
+  pub short : Taken n prefix (ended_early pushes)
 
 -- the source failed: the request was sent, and a prefix of the incoming bytes was taken, which is
 -- too little
-pub record ReceiveFailed {A : Type 0} (old new : Connection) (q : List ℕ) (n : ℕ)
+pub record SourceFailed {A : Type 0} (old new : Connection) (q : List ℕ) (n : ℕ)
     (result : Result A RedisError) : Type 0 where
   pub pushes : List PushInfo
   pub sent : Sent old new q
@@ -157,8 +157,8 @@ pub record RanOutOfMemory {A : Type 0} (old new : Connection) (q : List ℕ)
 pub data Exchange {A : Type 0} (old new : Connection) (q : List ℕ) (n : ℕ)
     (result : Result A RedisError) (answers : List Value → Type 0) : Type 0 where
   replied : Replied old new q n answers → Exchange old new q n result answers
-  faulted : Faulted old new q n result → Exchange old new q n result answers
-  ended : Ended old new q n result → Exchange old new q n result answers
-  send_failed : SendFailed old new q result → Exchange old new q n result answers
-  receive_failed : ReceiveFailed old new q n result → Exchange old new q n result answers
+  faulty : FaultMet old new q n result → Exchange old new q n result answers
+  early_end : EndedEarly old new q n result → Exchange old new q n result answers
+  sink_failed : SinkFailed old new q result → Exchange old new q n result answers
+  source_failed : SourceFailed old new q n result → Exchange old new q n result answers
   out_of_memory : RanOutOfMemory old new q result → Exchange old new q n result answers

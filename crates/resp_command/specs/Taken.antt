@@ -8,19 +8,19 @@ use Rattle.resp_parse.specs.Prefixes.{HasFaultyPrefix, IsUnfinished}
 use Rattle.resp_parse.specs.Reads.{Reads}
 
 -- the push that a value is, if it is one
-abbrev pub push_in : Value-F Value → Option PushInfo
-push_in (Value-F.Push kind payload) = Some (record { kind = kind; payload = payload })
-push_in _ = None
+abbrev pub as_push_in : Value-F Value → Option PushInfo
+as_push_in (Value-F.Push kind payload) = Some (record { kind = kind; payload = payload })
+as_push_in _ = None
 
-abbrev pub push_of : Value → Option PushInfo
-push_of v = push_in (out-Value v)
+abbrev pub as_push : Value → Option PushInfo
+as_push v = as_push_in (out-Value v)
 
 -- the pushes among values, and the replies: all others
 abbrev pub pushes_in : List Value → List PushInfo
-pushes_in = filter_map push_of
+pushes_in = filter_map as_push
 
 abbrev pub replies_in : List Value → List Value
-replies_in = filter (λ v. is_none (push_of v))
+replies_in = filter (λ v. is_none (as_push v))
 
 -- a prefix of the bytes reads as these values, and the rest follows it
 pub record PrefixReads (b : List ℕ) (values : List Value) (rest : List ℕ) : Type 0 where
@@ -45,9 +45,9 @@ pub record EndsAtReply (n : ℕ) (values : List Value) : Type 0 where
 -- what n replies take from bytes: the replies, the pushes before the last of them, and the rest;
 -- or, before they are all there, a fault or the end of the bytes, and the pushes so far
 pub data Taking : Type 0 where
-  got : (replies : List Value) → (pushes : List PushInfo) → (rest : List ℕ) → Taking
-  fault : FrameFault → (pushes : List PushInfo) → Taking
-  early : (pushes : List PushInfo) → Taking
+  took : (replies : List Value) → (pushes : List PushInfo) → (rest : List ℕ) → Taking
+  met_fault : FrameFault → (pushes : List PushInfo) → Taking
+  ended_early : (pushes : List PushInfo) → Taking
 
 -- the least prefix that holds n replies
 pub record TakesAll (n : ℕ) (b : List ℕ) (replies : List Value) (pushes : List PushInfo)
@@ -60,18 +60,18 @@ pub record TakesAll (n : ℕ) (b : List ℕ) (replies : List Value) (pushes : Li
 
 -- values that hold fewer than n replies, and then something else
 pub record TakesFewer (n : ℕ) (b : List ℕ) (pushes : List PushInfo)
-    (Then : List ℕ → Type 0) : Type 0 where
+    (After : List ℕ → Type 0) : Type 0 where
   pub values : List Value
   pub rest : List ℕ
   pub prefix : PrefixReads b values rest
   pub few : length (replies_in values) < n
   pub pushes_are : pushes ≡ pushes_in values
-  pub follows : Then rest
+  pub follows : After rest
 
 unfoldable pub Taken : ℕ → List ℕ → Taking → Type 0
-Taken n b (got replies pushes rest) = TakesAll n b replies pushes rest
-Taken n b (fault f pushes) = TakesFewer n b pushes (λ rest. HasFaultyPrefix 100 rest f)
-Taken n b (early pushes) = TakesFewer n b pushes (IsUnfinished 100)
+Taken n b (took replies pushes rest) = TakesAll n b replies pushes rest
+Taken n b (met_fault f pushes) = TakesFewer n b pushes (λ rest. HasFaultyPrefix 100 rest f)
+Taken n b (ended_early pushes) = TakesFewer n b pushes (IsUnfinished 100)
 
 -- whatever bytes come: n replies take one thing from them, and nothing else
 pub record TakesOneThing (n : ℕ) (b : List ℕ) : Type 0 where

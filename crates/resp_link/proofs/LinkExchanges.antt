@@ -9,8 +9,8 @@ use Rattle.resp_errors.specs.declared.redis_error.RedisError.TheVariants.{Io}
 use Rattle.resp_parse.specs.Prefixes.{HasFaultyPrefix, IsUnfinished}
 use Rattle.resp_link.specs.Linking.{connection_of, Exchanges}
 use Rattle.resp_link.specs.Sink.{Sink, SendsAll}
-use Rattle.resp_command.specs.Taken.{Taken, got, fault, early, pushes_in, replies_in, PrefixReads}
-use Rattle.resp_link.specs.Receiving.{Inflow, ReadsOn, StopsReceiving, Receives, CannotReceive, HasUnfinishedPrefix, faulty, ended, interrupted, out_of_memory}
+use Rattle.resp_command.specs.Taken.{Taken, took, met_fault, ended_early, pushes_in, replies_in, PrefixReads}
+use Rattle.resp_link.specs.Receiving.{Inflow, ReadsOn, StopsReceiving, Receives, CannotReceive, HasUnfinishedPrefix, faulty, early_end, source_failed, out_of_memory}
 use Rattle.resp_command.specs.Connection as connection
 use Rattle.resp_command.specs.Connection.{Connection, SameKind, Sent, Exchange, TakesTooLittle}
 
@@ -21,17 +21,17 @@ both_true false b h = (h, cc)
 and_true : (a b : Bool) → a ≡ true → b ≡ true → (a && b) ≡ true
 and_true a b h k = rw (h, k) refl
 
-taken_got : (n : ℕ) (i i' : Inflow) (replies : List Value) (r : Receives n i i' replies) → i.observable ≡ true → Taken n i.incoming (got replies (pushes_in r.values) i'.incoming)
+taken_got : (n : ℕ) (i i' : Inflow) (replies : List Value) (r : Receives n i i' replies) → i.observable ≡ true → Taken n i.incoming (took replies (pushes_in r.values) i'.incoming)
 unfolding Taken
 taken_got n i i' replies r obs = record { values = r.values; prefix = r.on.prefix obs; ends = r.ends; replies_are = r.replies_are; pushes_are = refl }
 
 -- what was read before it stopped
 module _ (n : ℕ) (i i' : Inflow) (e : RedisError) (r : CannotReceive n i i' e) (few : length (replies_in r.values) < n) where
-  taken_fault : (f : FrameFault) → (r.at.observable ≡ true → HasFaultyPrefix 100 r.at.incoming f) → i.observable ≡ true → Taken n i.incoming (fault f (pushes_in r.values))
+  taken_fault : (f : FrameFault) → (r.at.observable ≡ true → HasFaultyPrefix 100 r.at.incoming f) → i.observable ≡ true → Taken n i.incoming (met_fault f (pushes_in r.values))
   unfolding Taken
   taken_fault f bad obs = record { values = r.values; rest = r.at.incoming; prefix = r.on.prefix obs; few = few; pushes_are = refl; follows = bad (r.on.observable obs) }
 
-  taken_early : (r.at.observable ≡ true → IsUnfinished 100 r.at.incoming) → i.observable ≡ true → Taken n i.incoming (early (pushes_in r.values))
+  taken_early : (r.at.observable ≡ true → IsUnfinished 100 r.at.incoming) → i.observable ≡ true → Taken n i.incoming (ended_early (pushes_in r.values))
   unfolding Taken
   taken_early unfinished obs = record { values = r.values; rest = r.at.incoming; prefix = r.on.prefix obs; few = few; pushes_are = refl; follows = unfinished (r.on.observable obs) }
 
@@ -44,7 +44,7 @@ module _ (n : ℕ) (i i' : Inflow) (e : RedisError) (r : CannotReceive n i i' e)
         prefix = p.prefix ++ u.prefix;
         rest = u.rest;
         whole = p.whole ∙ ap (λ s. p.prefix ++ s) u.whole ∙ sym (append_assoc p.prefix u.prefix u.rest);
-        early = record {
+        short = record {
           values = r.values;
           rest = u.prefix;
           prefix = record { prefix = p.prefix; whole = refl; reads = p.reads };
@@ -70,7 +70,7 @@ pub unsent : {A : Type 0} (i : Inflow) (k k' : Sink) (b : Bool) (q : List ℕ) (
     SendsAll k k' q (Err kind) → Exchanges {A = A} (connection_of i k b) (connection_of i k' true) q n (Err (Io kind)) answers
 unsent i k k' b q n kind answers sending = record {
   same = same_kind i i k k' b true (λ t. t) sending.observable;
-  exchange = connection.send_failed (record {
+  exchange = connection.sink_failed (record {
     sent = λ obs. sending.bytes (both_true i.observable k.observable obs).1;
     incoming = λ _. refl;
     listed = refl;
@@ -101,7 +101,7 @@ replied i i' k k' b q n replies result answers sending r answer = record {
 
 missed : {A : Type 0} (i i' : Inflow) (k k' : Sink) (b : Bool) (q : List ℕ) (n : ℕ) (e : RedisError) (answers : List Value → Type 0) →
     SendsAll k k' q (Ok tt) → (r : CannotReceive n i i' e) → StopsReceiving (length (replies_in r.values) < n) r.at i' e → Exchange {A = A} (connection_of i k b) (connection_of i' k' true) q n (Err e) answers
-missed i i' k k' b q n e answers sending r (faulty f few is bad same) = connection.faulted (record {
+missed i i' k k' b q n e answers sending r (faulty f few is bad same) = connection.faulty (record {
   frame_fault = f;
   pushes = pushes_in r.values;
   sent = sent_whole i i' k k' b true q sending;
@@ -111,7 +111,7 @@ missed i i' k k' b q n e answers sending r (faulty f few is bad same) = connecti
   no_failure = record { source = same ∙ r.on.failures; sink = sending.failures };
   answer = ap Err is;
 })
-missed i i' k k' b q n e answers sending r (ended few is unfinished same) = connection.ended (record {
+missed i i' k k' b q n e answers sending r (early_end few is unfinished same) = connection.early_end (record {
   pushes = pushes_in r.values;
   sent = sent_whole i i' k k' b true q sending;
   takes = λ obs. taken_early n i i' e r few unfinished (both_true i.observable k.observable obs).0;
@@ -120,7 +120,7 @@ missed i i' k k' b q n e answers sending r (ended few is unfinished same) = conn
   no_failure = record { source = same ∙ r.on.failures; sink = sending.failures };
   answer = ap Err is;
 })
-missed i i' k k' b q n e answers sending r (interrupted kind few is some counted) = connection.receive_failed (record {
+missed i i' k k' b q n e answers sending r (source_failed kind few is some counted) = connection.source_failed (record {
   pushes = pushes_in r.values;
   sent = sent_whole i i' k k' b true q sending;
   takes = λ obs. too_little n i i' e r few some (both_true i.observable k.observable obs).0;

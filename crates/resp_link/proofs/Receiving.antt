@@ -9,7 +9,7 @@ use Rattle.resp_parse.specs.Source.{Source}
 use Rattle.resp_parse.specs.State.{State}
 use Rattle.resp_parse.specs.Calls.{Parses, CannotParse, faulty, early_end, source_failed, out_of_memory}
 use Rattle.resp_parse.proofs.LongerPrefixes.{HasGoodPrefix-whole, HasFaultyPrefix-whole, IsUnfinished-whole}
-use Rattle.resp_command.specs.Taken.{push_of, replies_in, pushes_in}
+use Rattle.resp_command.specs.Taken.{as_push, replies_in, pushes_in}
 use Rattle.resp_link.specs.Receiving as receiving
 use Rattle.resp_link.specs.Receiving.{Inflow, inflow_of, ReadsOn, StopsReceiving, Receives, CannotReceive}
 use Rattle.resp_command.proofs.Values.{reads_nothing, reads_one, reads_both, replies_in-append, pushes_in-append, count-append, ends_at_nothing, ends_after_pushes, ends_after_both}
@@ -39,8 +39,8 @@ stops : (Needed : Type 0) (s t : Source) (unparsed : List ℕ) (new : State) (p 
 stops Needed s t unparsed new p e needed (faulty f filled is bad failed) =
     receiving.faulty f needed is (λ obs. HasFaultyPrefix-whole unparsed filled s t (failed.came obs) f bad) failed.failures
 stops Needed s t unparsed new p e needed (early_end filled is unfinished nothing failed) =
-    receiving.ended needed is (λ obs. IsUnfinished-whole unparsed filled s t (failed.came obs) (nothing obs) unfinished) failed.failures
-stops Needed s t unparsed new p e needed (source_failed kind is midway) = receiving.interrupted kind needed is (λ obs. record {
+    receiving.early_end needed is (λ obs. IsUnfinished-whole unparsed filled s t (failed.came obs) (nothing obs) unfinished) failed.failures
+stops Needed s t unparsed new p e needed (source_failed kind is midway) = receiving.source_failed kind needed is (λ obs. record {
   prefix = unparsed ++ midway.filled;
   rest = t.bytes;
   whole = (let came = midway.came obs in grind (arith, common_steps));
@@ -51,8 +51,8 @@ stops Needed s t unparsed new p e needed (out_of_memory filled is failed) = rece
 -- a stop where more is needed still
 stops-needed : (Needed More : Type 0) (at now : Inflow) (e : RedisError) → (Needed → More) → StopsReceiving Needed at now e → StopsReceiving More at now e
 stops-needed Needed More at now e f (receiving.faulty fault n is bad same) = receiving.faulty fault (f n) is bad same
-stops-needed Needed More at now e f (receiving.ended n is unfinished same) = receiving.ended (f n) is unfinished same
-stops-needed Needed More at now e f (receiving.interrupted kind n is some counted) = receiving.interrupted kind (f n) is some counted
+stops-needed Needed More at now e f (receiving.early_end n is unfinished same) = receiving.early_end (f n) is unfinished same
+stops-needed Needed More at now e f (receiving.source_failed kind n is some counted) = receiving.source_failed kind (f n) is some counted
 stops-needed Needed More at now e f (receiving.out_of_memory is same) = receiving.out_of_memory is same
 
 -- pushes alone came so far
@@ -67,7 +67,7 @@ only_pushes_none at = record { values = []; on = on_nothing at; none = refl }
 -- one push more
 pub only_pushes_more : (old : Inflow) (s t : Source) (unparsed : List ℕ) (new : State) (p p' : List PushInfo) (v : Value) (info : PushInfo) →
     OnlyPushes old (inflow_of unparsed s p) → (s.observable ≡ true → t.observable ≡ true) → Parses unparsed new s t (Ok v) →
-    push_of v ≡ Some info → p' ≡ p ++ info ∷ [] → OnlyPushes old (inflow_of new.unparsed t p')
+    as_push v ≡ Some info → p' ≡ p ++ info ∷ [] → OnlyPushes old (inflow_of new.unparsed t p')
 only_pushes_more old s t unparsed new p p' v info so_far observable parsed push listed =
     let step = on_value s t unparsed new p v observable parsed in
     let list : p ++ pushes_in (v ∷ []) ≡ p' = rw push (sym listed) in
@@ -79,7 +79,7 @@ only_pushes_more old s t unparsed new p p' v info so_far observable parsed push 
 
 -- the reply after the pushes
 pub received_one : (old : Inflow) (s t : Source) (unparsed : List ℕ) (new : State) (p : List PushInfo) (v : Value) → OnlyPushes old (inflow_of unparsed s p) →
-    (s.observable ≡ true → t.observable ≡ true) → Parses unparsed new s t (Ok v) → push_of v ≡ None → Receives 1 old (inflow_of new.unparsed t p) (v ∷ [])
+    (s.observable ≡ true → t.observable ≡ true) → Parses unparsed new s t (Ok v) → as_push v ≡ None → Receives 1 old (inflow_of new.unparsed t p) (v ∷ [])
 received_one old s t unparsed new p v so_far observable parsed reply =
     let step = on_value s t unparsed new p v observable parsed in
     let quiet : p ++ pushes_in (v ∷ []) ≡ p = rw reply (append-nil p) in

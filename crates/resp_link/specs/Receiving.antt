@@ -52,10 +52,10 @@ pub data StopsReceiving (Needed : Type 0) (at now : Inflow) (e : RedisError) : T
   faulty : (f : FrameFault) → Needed → e ≡ form.Parse (parsing.Fault f) →
       (at.observable ≡ true → HasFaultyPrefix 100 at.incoming f) →
       now.failures ≡ at.failures → StopsReceiving Needed at now e
-  ended : Needed → e ≡ form.Io UnexpectedEof →
+  early_end : Needed → e ≡ form.Io UnexpectedEof →
       (at.observable ≡ true → IsUnfinished 100 at.incoming) →
       now.failures ≡ at.failures → StopsReceiving Needed at now e
-  interrupted : (kind : IoKind) → Needed → e ≡ form.Io kind →
+  source_failed : (kind : IoKind) → Needed → e ≡ form.Io kind →
       (at.observable ≡ true → HasUnfinishedPrefix at.incoming) →
       FailureCounted at.failures now.failures → StopsReceiving Needed at now e
   out_of_memory : e ≡ form.OutOfMemory → now.failures ≡ at.failures → StopsReceiving Needed at now e

@@ -18,7 +18,7 @@ take-most zero xs = omega arith
 take-most (suc n) [] = omega arith
 take-most (suc n) (x ∷ xs) = let h : length (take n xs) ≤ n = take-most n xs in omega arith
 
--- the parser held these bytes, and holds them still
+-- the buffer had these bytes, and has them still
 module _ (now : State) (b buffer buffer' : List ℕ) (consumed : ℕ) (failed : Bool) (e : state_of buffer consumed failed ≡ now) (k : buffer' ≡ buffer) (h : StandsAfter now b) where
   unparsed : b ≡ drop consumed buffer'
   unparsed = StandsAfter-unparsed now b h ∙ sym (ap (λ (s : State). s.unparsed) e) ∙ ap (drop consumed) (sym k)
@@ -31,17 +31,17 @@ module _ (now : State) (b buffer buffer' : List ℕ) (consumed : ℕ) (failed : 
 
   pub Asks-early_end : (s t : Source) (before after : List ℕ) (n : ℕ) → n ≡ 0 → 0 < length before → Fills s t before after (Ok n) → CannotFill b (form.Io UnexpectedEof) (state_of buffer' consumed true) s t
   Asks-early_end s t before after n z l f =
-      CannotFill.early_end refl (λ told. (f.bytes told).0 ∙ ap (λ m. take m after ++ t.bytes) z) (λ told. (f.bytes told).1 z l) f.failures
+      CannotFill.early_end refl (λ obs. (f.bytes obs).0 ∙ ap (λ m. take m after ++ t.bytes) z) (λ obs. (f.bytes obs).1 z l) f.failures
       (FailedAfter-from_unparsed (state_of buffer' consumed true) b refl unparsed)
 
   pub Asks-source_failed : (s t : Source) (before after : List ℕ) (kind : IoKind) → Fills s t before after (Err kind) → CannotFill b (form.Io kind) (state_of buffer' consumed failed) s t
   Asks-source_failed s t before after kind f =
-      CannotFill.source_failed kind refl (λ told. sym (f.bytes told)) f.failures (StandsAfter-from_unparsed (state_of buffer' consumed failed) b works unparsed)
+      CannotFill.source_failed kind refl (λ obs. sym (f.bytes obs)) f.failures (StandsAfter-from_unparsed (state_of buffer' consumed failed) b works unparsed)
 
   filled : (s t : Source) (before after more : List ℕ) (n : ℕ) → consumed ≤ length buffer → more ≡ buffer' ++ take n after → Fills s t before after (Ok n) → Filled b (state_of more consumed failed) s t
   filled s t before after more n l m f = record {
     filled = take n after;
-    came = λ told. (f.bytes told).0;
+    came = λ obs. (f.bytes obs).0;
     stands = StandsAfter-fed now b (take n after) buffer more consumed failed e l (m ∙ ap (λ x. x ++ take n after) k) h (StandsAfter-works now b h);
     failures = f.failures;
   }

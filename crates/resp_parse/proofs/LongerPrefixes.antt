@@ -12,7 +12,7 @@ HasGoodPrefix-longer b more rest v h = record { prefix = h.prefix; whole = ap (�
 pub HasFaultyPrefix-longer : (b more : List ℕ) (f : FrameFault) → HasFaultyPrefix 100 b f → HasFaultyPrefix 100 (b ++ more) f
 HasFaultyPrefix-longer b more f h = record { prefix = h.prefix; rest = h.rest ++ more; whole = ap (λ z. z ++ more) h.whole ∙ append_assoc h.prefix h.rest more; faulty = h.faulty }
 
--- the bytes held and the incoming bytes of a source, which went from s to t and filled some of them
+-- the buffered and the incoming bytes of a source, which went from s to t and filled some of them
 module _ (b filled : List ℕ) (s t : Source) (come : s.bytes ≡ filled ++ t.bytes) where
   whole : (b ++ filled) ++ t.bytes ≡ b ++ s.bytes
   whole = append_assoc b filled t.bytes ∙ ap (λ z. b ++ z) (sym come)

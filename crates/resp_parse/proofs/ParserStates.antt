@@ -46,7 +46,7 @@ pub StandsOrFailed-unparsed : (s : State) (b : List ℕ) → StandsAfter s b ⊎
 StandsOrFailed-unparsed s b (inl h) = StandsAfter-unparsed s b h
 StandsOrFailed-unparsed s b (inr h) = FailedAfter-unparsed s b h
 
--- bytes are held past a place exactly where the place is below the length
+-- bytes are buffered past a place exactly where the place is below the length
 pub drop-not_empty : (buffer : List ℕ) (consumed : ℕ) → consumed < length buffer → drop consumed buffer ≢ []
 drop-not_empty buffer consumed l e = let k : length (drop consumed buffer) ≡ 0 = ap length e in grind (arith, common_steps)
 

@@ -34,10 +34,10 @@ module _ (b : List ℕ) (p : State) (s t : Source) (k : FilledAsNeeded b p s t) 
   -- what was filled is unfinished, and the source was asked once more
   module _ (mid : State) (w : Takes (b ++ k.more.filled) mid (Ok None)) (u : Source) (observable : s.observable ≡ true → t.observable ≡ true) where
     Came-asked : (more : List ℕ) → Came t more u → Came s (k.more.filled ++ more) u
-    Came-asked more c = λ told. k.more.came told ∙ ap (λ z. k.more.filled ++ z) (c (observable told)) ∙ sym (append_assoc k.more.filled more u.bytes)
+    Came-asked more c = λ obs. k.more.came obs ∙ ap (λ z. k.more.filled ++ z) (c (observable obs)) ∙ sym (append_assoc k.more.filled more u.bytes)
 
     Came-none : Came t [] u → Came s k.more.filled u
-    Came-none c = λ told. k.more.came told ∙ ap (λ z. k.more.filled ++ z) (c (observable told))
+    Came-none c = λ obs. k.more.came obs ∙ ap (λ z. k.more.filled ++ z) (c (observable obs))
 
     pub FilledAsNeeded-asked : (new : State) → Asks (b ++ k.more.filled) new t u (Ok tt) → FilledAsNeeded b new s u
     FilledAsNeeded-asked new a = record {
@@ -54,7 +54,7 @@ module _ (b : List ℕ) (p : State) (s t : Source) (k : FilledAsNeeded b p s t) 
     Failed-asked new c f h = record { came = Came-none c; needed = k.needed; failed = h; failures = f ∙ k.more.failures }
 
     pub CannotParse-asked : (new : State) (e : RedisError) → CannotFill (b ++ k.more.filled) e new t u → CannotParse b e new s u
-    CannotParse-asked new e (CannotFill.early_end i c end f h) = CannotParse.early_end k.more.filled i w.0 (λ told. end (observable told)) (Failed-asked new c f h)
+    CannotParse-asked new e (CannotFill.early_end i c end f h) = CannotParse.early_end k.more.filled i w.0 (λ obs. end (observable obs)) (Failed-asked new c f h)
     CannotParse-asked new e (CannotFill.source_failed kind i c f h) = CannotParse.source_failed kind i (record {
       filled = k.more.filled;
       came = Came-none c;
@@ -67,7 +67,7 @@ module _ (b : List ℕ) (p : State) (s t : Source) (k : FilledAsNeeded b p s t) 
   pub CannotParse-failed : (new : State) (e : RedisError) → e ≡ form.OutOfMemory → FailedAfter new (b ++ k.more.filled) → CannotParse b e new s t
   CannotParse-failed new e i h = CannotParse.out_of_memory k.more.filled i (Failed-taken new h)
 
--- a reader that was used up, seen as the source that counted its failures
+-- a reader that was used up, as the source that counted its failures
 pub ParsesReader-source : {R : Type 0} (remaining : R → Option (List ℕ)) (b : List ℕ) (new : State) (reader left : R) (n : ℕ) (s : Source) (r : Result Value RedisError) → s ≡ source_of (remaining reader) 0 →
     Parses b new s (source_of (remaining left) n) r → ParsesReader remaining b new reader r
 ParsesReader-source remaining b new reader left n s r e h = record { left = left; failures = n; parses = subst (λ (x : Source). Parses b new x (source_of (remaining left) n) r) e h }

@@ -73,8 +73,8 @@ pub record AsNeeded (b filled : List ℕ) : Type 0 where
   pub size : length last ≤ 4096
   pub unfinished : last ≢ [] → IsUnfinished 100 (b ++ before)
 
--- the value at the start of b and what was filled: all that follows it is held; the source counted
--- no failure
+-- the value at the start of b and what was filled: all that follows it is buffered; the source
+-- counted no failure
 pub record Parsed (b : List ℕ) (v : Value) (new : State) (s t : Source) : Type 0 where
   pub filled : List ℕ
   pub came : Came s filled t
@@ -91,7 +91,7 @@ pub record Failed (b filled : List ℕ) (new : State) (s t : Source) : Type 0 wh
   pub failures : t.failures ≡ s.failures
 
 -- the source failed: the parser stands after b and what was filled, which are unfinished
-pub record SourceFailed (b : List ℕ) (new : State) (s t : Source) : Type 0 where
+pub record StandsMidway (b : List ℕ) (new : State) (s t : Source) : Type 0 where
   pub filled : List ℕ
   pub came : Came s filled t
   pub unfinished : IsUnfinished 100 (b ++ filled)
@@ -105,7 +105,7 @@ pub data CannotParse (b : List ℕ) (e : RedisError) (new : State) (s t : Source
       HasFaultyPrefix 100 (b ++ filled) f → Failed b filled new s t → CannotParse b e new s t
   early_end : (filled : List ℕ) → e ≡ form.Io UnexpectedEof → IsUnfinished 100 (b ++ filled) →
       (s.observable ≡ true → t.bytes ≡ []) → Failed b filled new s t → CannotParse b e new s t
-  source_failed : (kind : IoKind) → e ≡ form.Io kind → SourceFailed b new s t →
+  source_failed : (kind : IoKind) → e ≡ form.Io kind → StandsMidway b new s t →
       CannotParse b e new s t
   out_of_memory : (filled : List ℕ) → e ≡ form.OutOfMemory → Failed b filled new s t →
       CannotParse b e new s t

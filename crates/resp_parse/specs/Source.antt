@@ -16,7 +16,7 @@ source_of known count = record {
   failures = count;
 }
 
--- these are the source's next bytes, and it has the others left, where it tells its bytes
+-- these are the source's next bytes, and it has the others left, where it is observable
 abbrev pub Came : Source → List ℕ → Source → Type 0
 Came s taken t = s.observable ≡ true → s.bytes ≡ taken ++ t.bytes
 

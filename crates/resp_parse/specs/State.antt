@@ -5,7 +5,7 @@ use Rattle.resp_errors.specs.declared.parsing_error.ParsingError.TheVariants as 
 use Rattle.resp_errors.specs.declared.redis_error.RedisError.{RedisError}
 use Rattle.resp_errors.specs.declared.redis_error.RedisError.TheVariants as form
 
--- the bytes that are held and not yet looked at, and whether the parser has failed
+-- the bytes that are buffered and not yet parsed, and whether the parser has failed
 pub record State : Type 0 where
   pub unparsed : List ℕ
   pub failed : Bool

@@ -104,14 +104,14 @@ impl Parser {
         }
     }
 
-    /// The next value, with bytes from a source where those that are held don't hold one. Bytes
-    /// past the value are held for the next call.
+    /// The next value, with bytes from a source where those in the buffer don't hold one. Bytes
+    /// past the value stay in the buffer for the next call.
     ///
     /// Refusals are those of [`Parser::take_value`]. An end of the source before that of the value
     /// is refused as [`IoKind::UnexpectedEof`], and the parser has failed. A failure of the source
     /// is refused as [`RedisError::Io`] with its kind; the parser then holds what came before it,
     /// and the call may be repeated. The source is asked for at most 4,096 bytes at a time, and
-    /// only while the bytes that are held are unfinished.
+    /// only while the bytes in the buffer are unfinished.
     pub fn parse_from<S: ReplySource>(&mut self, source: &mut S) -> RedisResult<Value>
         ensures failed { self.old.failed ≡ true → (result ≡ Err has_failed) × (self.new ≡ self.old)
             × (S.source source.new ≡ S.source source.old) }
@@ -133,8 +133,8 @@ impl Parser {
         Err(RedisError::OutOfMemory)
     }
 
-    /// The next value, with bytes from a reader where those that are held don't hold one. Bytes
-    /// past the value are held for the next call.
+    /// The next value, with bytes from a reader where those in the buffer don't hold one. Bytes
+    /// past the value stay in the buffer for the next call.
     ///
     /// Refusals are those of [`Parser::parse_from`]; the reader is asked in the same way.
     pub fn parse_value<R: Read + Drop>(&mut self, reader: R) -> RedisResult<Value>
@@ -196,7 +196,7 @@ impl Parser {
         self.failed = true;
     }
 
-    /// Moves the held bytes to the start of the buffer once as many bytes come before them.
+    /// Moves the unparsed bytes to the start of the buffer once as many bytes come before them.
     fn compact(&mut self)
         ensures same { self.new ≡ self.old }
     {

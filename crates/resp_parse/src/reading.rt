@@ -9,7 +9,7 @@ use std::io::Read;
 
 /// A reader as a source of replies, which counts the reader's failures.
 ///
-/// It tells its incoming bytes where the reader does, as one over memory does.
+/// It is observable where the reader is, as one over memory is.
 #[derive(Drop)]
 pub struct Reading<R> {
     reader: R,

@@ -6,8 +6,8 @@ use resp_value::IoKind;
 
 /// A source of bytes, such as the reading end of a connection.
 ///
-/// What a source has to say of itself, its [`Self::source`], is for contracts: whether it tells
-/// the bytes that it will give, which, and how often it has failed.
+/// What a source has to say of itself, its [`Self::source`], is for contracts: whether it is
+/// observable, which bytes it will give, and how often it has failed.
 pub trait ReplySource {
     ghost source: { Self → Source };
 

@@ -1,6 +1,6 @@
 use Rattle.std.proofs.Common.{rules, refl}
 use Rattle.std.proofs.lemmas.Result.{err_from_is_err_and}
-use Rattle.resp_command.proofs.Values.{push_of-Push}
+use Rattle.resp_command.proofs.Values.{as_push-Push}
 use Rattle.resp_link.proofs.Receiving.{only_pushes_none, only_pushes_more, received_one, received_none}
 use Rattle.resp_link.proofs.inbox.Inbox.next_reply.Goals as goal
 
@@ -23,7 +23,7 @@ loop-kind-preserved g c =
     record {
       rest = parsed.rest;
       only = only_pushes_more _ (source at.source) _ at.parser.unparsed c.parse_from.new.self _ _ c.in_ok-reply.reply (record { kind = c.in-Push.kind; payload = c.in-Push.payload }) c.loop-kind.invariant.only
-          c.parse_from.ensures.observable parsed (rw c.in-Push.is (push_of-Push _ _)) (search rules);
+          c.parse_from.ensures.observable parsed (rw c.in-Push.is (as_push-Push _ _)) (search rules);
     }
 
 pub returns-in_default : goal.returns-in_default

@@ -8,7 +8,7 @@ use Rattle.resp_parse.proofs.parser.Parser.parse_from.Goals as goal
 
 pub loop-init : goal.loop-init
 loop-init g c = record {
-  observable = λ told. told;
+  observable = λ obs. obs;
   filled = λ b h. FilledAsNeeded-none b c.args.self.now (g.S.ReplySource.source c.args.source.now) h;
 }
 
@@ -16,7 +16,7 @@ pub loop-preserved : goal.loop-preserved
 loop-preserved g c =
     let source = g.S.ReplySource.source in
     record {
-      observable = λ told. c.ask.ensures.observable (c.loop.invariant.observable told);
+      observable = λ obs. c.ask.ensures.observable (c.loop.invariant.observable obs);
       filled = λ b h.
           let k = c.loop.invariant.filled b h in
           let w : Takes (b ++ k.more.filled) c.take_value.new.self (Ok None) = rw c.in_default.is at (c.in_ok-value.ensures.takes (b ++ k.more.filled) k.more.stands) in
