@@ -2,62 +2,73 @@
 
 use crate::program::{Task, pack, print_no_words, print_usage, query, read, task_of};
 use resp_core::{ByteLink, Reading, Writing};
-use std::alloc::Global;
 use std::io;
 use std::io::{Cursor, Read, Write};
-use std::test::Fail;
+use std::process::Abort;
 
 type Link = ByteLink<Reading<Cursor<Vec<u8>>>, Writing<Vec<u8>>>;
 
-fn link_over(alloc: Global, replies: &[u8]) -> Result<Link, Fail> {
-    let reader = Cursor::new(Vec::from_slice(alloc, replies)?);
-    Ok(ByteLink::new(alloc, reader, Vec::new(alloc)))
+fn link_over(rt: &(impl Abort + AllocGlobal), replies: &[u8]) -> Link {
+    let bytes = Vec::from_slice(rt.alloc(), replies).expect(rt, "no refusal");
+    ByteLink::new(rt.alloc(), Cursor::new(bytes), Vec::new(rt.alloc()))
 }
 
-fn words_of(alloc: Global, words: &[&str]) -> Result<Vec<String>, Fail> {
-    let mut all = Vec::new(alloc);
+fn words_of(rt: &(impl Abort + AllocGlobal), words: &[&str]) -> Vec<String> {
+    let mut all = Vec::new(rt.alloc());
     for word in words {
-        all.push(String::from_str(alloc, word)?)?;
+        let word = String::from_str(rt.alloc(), word).expect(rt, "no refusal");
+        all.push(word).expect(rt, "no refusal");
     }
-    Ok(all)
+    all
+}
+
+/// What words send over these replies, what they print, and their exit status.
+fn asked(rt: &(impl Abort + AllocGlobal), words: &[&str], replies: &str) -> (Vec<u8>, Vec<u8>, u8) {
+    let words = words_of(rt, words);
+    let mut link = link_over(rt, replies.as_bytes());
+    let mut err: Vec<u8> = Vec::new(rt.alloc());
+    let status = query(rt.alloc(), words.as_slice(), &mut link, &mut err);
+    let (_source, sink) = link.into_ends();
+    (sink.into_inner(), err, status)
 }
 
 const USAGE: &str =
     "usage: resp pack WORD.. | resp read | resp query [--atomic] WORD.. [, WORD..]..\n";
 
 #[test]
-fn packs_a_command(rt: HostRuntime) -> Result<(), Fail> {
+fn packs_a_command(rt: HostRuntime) {
     let alloc = rt.alloc();
     for (words, packed) in [
         (
-            words_of(alloc, &["SET", "my_key", "42"])?,
+            &["SET", "my_key", "42"][..],
             "*3\r\n$3\r\nSET\r\n$6\r\nmy_key\r\n$2\r\n42\r\n",
         ),
         (
-            words_of(alloc, &["SET", "k", ""])?,
+            &["SET", "k", ""][..],
             "*3\r\n$3\r\nSET\r\n$1\r\nk\r\n$0\r\n\r\n",
         ),
     ] {
+        let words = words_of(&rt, words);
         let mut out: Vec<u8> = Vec::new(alloc);
         let mut err: Vec<u8> = Vec::new(alloc);
         assert_eq!(rt; pack(alloc, words.as_slice(), &mut out, &mut err), 0);
         assert_eq!(rt; out.as_slice(), packed.as_bytes());
         assert!(rt; err.is_empty());
     }
-    Ok(())
 }
 
 #[test]
-fn words_name_a_task(rt: HostRuntime) -> Result<(), Fail> {
+fn words_name_a_task(rt: HostRuntime) {
     let alloc = rt.alloc();
     for (words, task) in [
-        (words_of(alloc, &[])?, 'u'),
-        (words_of(alloc, &["PACK", "GET"])?, 'u'),
-        (words_of(alloc, &["pack"])?, 'p'),
-        (words_of(alloc, &["read"])?, 'r'),
-        (words_of(alloc, &["read", "more"])?, 'u'),
-        (words_of(alloc, &["query", "GET", "k"])?, 'q'),
+        (&[][..], 'u'),
+        (&["PACK", "GET"][..], 'u'),
+        (&["pack"][..], 'p'),
+        (&["read"][..], 'r'),
+        (&["read", "more"][..], 'u'),
+        (&["query", "GET", "k"][..], 'q'),
     ] {
+        let words = words_of(&rt, words);
         let found = match task_of(words.as_slice()) {
             Task::Pack(rest) => ('p', rest.len()),
             Task::Read => ('r', 0),
@@ -71,11 +82,10 @@ fn words_name_a_task(rt: HostRuntime) -> Result<(), Fail> {
     let mut err: Vec<u8> = Vec::new(alloc);
     assert_eq!(rt; print_usage(&mut err), 1);
     assert_eq!(rt; err.as_slice(), USAGE.as_bytes());
-    Ok(())
 }
 
 #[test]
-fn words_that_cannot_be_had(rt: HostRuntime) -> Result<(), Fail> {
+fn words_that_cannot_be_had(rt: HostRuntime) {
     let alloc = rt.alloc();
     for (kind, printed, status) in [
         (io::ErrorKind::OutOfMemory, "refused: out of memory\n", 2),
@@ -85,40 +95,35 @@ fn words_that_cannot_be_had(rt: HostRuntime) -> Result<(), Fail> {
         assert_eq!(rt; print_no_words(&io::Error::from(kind), &mut err), status);
         assert_eq!(rt; err.as_slice(), printed.as_bytes());
     }
-    Ok(())
 }
 
 #[test]
-fn wrong_words(rt: HostRuntime) -> Result<(), Fail> {
+fn wrong_words(rt: HostRuntime) {
     let alloc = rt.alloc();
     let mut out: Vec<u8> = Vec::new(alloc);
     let mut err: Vec<u8> = Vec::new(alloc);
     assert_eq!(rt; pack(alloc, &[], &mut out, &mut err), 1);
     assert_eq!(rt; err.as_slice(), USAGE.as_bytes());
     for words in [
-        words_of(alloc, &[])?,
-        words_of(alloc, &["--atomic"])?,
-        words_of(alloc, &[","])?,
-        words_of(alloc, &[",", "GET", "k"])?,
-        words_of(alloc, &["GET", "k", ","])?,
-        words_of(alloc, &["GET", "k", ",", ",", "GET", "l"])?,
-        words_of(alloc, &["--atomic", ",", "GET", "k"])?,
-        words_of(alloc, &["--atomic", "GET", "k", ","])?,
-        words_of(alloc, &["--atomic", "GET", "k", ",", ",", "GET", "l"])?,
+        &[][..],
+        &["--atomic"][..],
+        &[","][..],
+        &[",", "GET", "k"][..],
+        &["GET", "k", ","][..],
+        &["GET", "k", ",", ",", "GET", "l"][..],
+        &["--atomic", ",", "GET", "k"][..],
+        &["--atomic", "GET", "k", ","][..],
+        &["--atomic", "GET", "k", ",", ",", "GET", "l"][..],
     ] {
-        let mut link = link_over(alloc, b"$1\r\n1\r\n")?;
-        let mut err: Vec<u8> = Vec::new(alloc);
-        assert_eq!(rt; query(alloc, words.as_slice(), &mut link, &mut err), 1);
+        let (sent, err, status) = asked(&rt, words, "$1\r\n1\r\n");
+        assert_eq!(rt; status, 1);
         assert_eq!(rt; err.as_slice(), USAGE.as_bytes());
-        let (_source, sink) = link.into_ends();
-        assert!(rt; sink.into_inner().is_empty());
+        assert!(rt; sent.is_empty());
     }
-    Ok(())
 }
 
 #[test]
-fn queries_a_server(rt: HostRuntime) -> Result<(), Fail> {
-    let alloc = rt.alloc();
+fn queries_a_server(rt: HostRuntime) {
     for (replies, printed, status) in [
         ("$1\r\n1\r\n", "bulk-string('\"1\"')\n", 0),
         ("-ERR x\r\n", "refused: response error 0:ERR\n", 2),
@@ -131,32 +136,18 @@ fn queries_a_server(rt: HostRuntime) -> Result<(), Fail> {
             2,
         ),
     ] {
-        let words = words_of(alloc, &["GET", "k"])?;
-        let mut link = link_over(alloc, replies.as_bytes())?;
-        let mut err: Vec<u8> = Vec::new(alloc);
-        assert_eq!(rt; query(alloc, words.as_slice(), &mut link, &mut err), status);
+        let (sent, err, ended) = asked(&rt, &["GET", "k"], replies);
+        assert_eq!(rt; ended, status);
         assert_eq!(rt; err.as_slice(), printed.as_bytes());
-        let (_source, sink) = link.into_ends();
         assert_eq!(rt;
-            sink.into_inner().as_slice(),
+            sent.as_slice(),
             b"*2\r\n$3\r\nGET\r\n$1\r\nk\r\n".as_slice()
         );
     }
-    Ok(())
-}
-
-/// What words send over these replies, what they print, and their exit status.
-fn asked(alloc: Global, words: &[&str], replies: &str) -> Result<(Vec<u8>, Vec<u8>, u8), Fail> {
-    let words = words_of(alloc, words)?;
-    let mut link = link_over(alloc, replies.as_bytes())?;
-    let mut err: Vec<u8> = Vec::new(alloc);
-    let status = query(alloc, words.as_slice(), &mut link, &mut err);
-    let (_source, sink) = link.into_ends();
-    Ok((sink.into_inner(), err, status))
 }
 
 #[test]
-fn queries_several_commands(rt: HostRuntime) -> Result<(), Fail> {
+fn queries_several_commands(rt: HostRuntime) {
     for (replies, printed, status) in [
         ("+OK\r\n:1\r\n", "array([ok, int(1)])\n", 0),
         (
@@ -172,7 +163,7 @@ fn queries_several_commands(rt: HostRuntime) -> Result<(), Fail> {
         ("+OK\r\n", "refused: I/O error\n", 2),
         (":x\r\n", "refused: parse error\n", 2),
     ] {
-        let (sent, err, ended) = asked(rt.alloc(), &["FOO", ",", "BAR"], replies)?;
+        let (sent, err, ended) = asked(&rt, &["FOO", ",", "BAR"], replies);
         assert_eq!(rt; ended, status);
         assert_eq!(rt; err.as_slice(), printed.as_bytes());
         assert_eq!(rt;
@@ -180,11 +171,10 @@ fn queries_several_commands(rt: HostRuntime) -> Result<(), Fail> {
             b"*1\r\n$3\r\nFOO\r\n*1\r\n$3\r\nBAR\r\n".as_slice()
         );
     }
-    Ok(())
 }
 
 #[test]
-fn queries_a_transaction(rt: HostRuntime) -> Result<(), Fail> {
+fn queries_a_transaction(rt: HostRuntime) {
     for (last, printed, status) in [
         (
             "*2\r\n+OK\r\n$1\r\n1\r\n",
@@ -199,31 +189,32 @@ fn queries_a_transaction(rt: HostRuntime) -> Result<(), Fail> {
         ),
         ("-EXECABORT x\r\n", "refused: type error\n", 2),
     ] {
-        let replies = format!(in rt.alloc(); "+OK\r\n+QUEUED\r\n+QUEUED\r\n{last}")?;
+        let replies = format!(in rt.alloc(); "+OK\r\n+QUEUED\r\n+QUEUED\r\n{last}").expect(
+            &rt,
+            "no refusal",
+        );
         let words = &["--atomic", "SET", "k", "1", ",", "GET", "k"];
-        let (sent, err, ended) = asked(rt.alloc(), words, replies.as_str())?;
+        let (sent, err, ended) = asked(&rt, words, replies.as_str());
         assert_eq!(rt; ended, status);
         assert_eq!(rt; err.as_slice(), printed.as_bytes());
         let wanted = "*1\r\n$5\r\nMULTI\r\n*3\r\n$3\r\nSET\r\n$1\r\nk\r\n$1\r\n1\r\n\
             *2\r\n$3\r\nGET\r\n$1\r\nk\r\n*1\r\n$4\r\nEXEC\r\n";
         assert_eq!(rt; sent.as_slice(), wanted.as_bytes());
     }
-    Ok(())
 }
 
 #[test]
-fn a_transaction_of_one_command(rt: HostRuntime) -> Result<(), Fail> {
+fn a_transaction_of_one_command(rt: HostRuntime) {
     let replies = "+OK\r\n+QUEUED\r\n*1\r\n:7\r\n";
-    let (sent, err, status) = asked(rt.alloc(), &["--atomic", "FOO"], replies)?;
+    let (sent, err, status) = asked(&rt, &["--atomic", "FOO"], replies);
     assert_eq!(rt; status, 0);
     assert_eq!(rt; err.as_slice(), b"array([int(7)])\n".as_slice());
     let wanted = "*1\r\n$5\r\nMULTI\r\n*1\r\n$3\r\nFOO\r\n*1\r\n$4\r\nEXEC\r\n";
     assert_eq!(rt; sent.as_slice(), wanted.as_bytes());
-    Ok(())
 }
 
 #[test]
-fn a_later_flag_is_a_word(rt: HostRuntime) -> Result<(), Fail> {
+fn a_later_flag_is_a_word(rt: HostRuntime) {
     for (words, sent) in [
         (
             &["F", "--atomic"][..],
@@ -234,15 +225,14 @@ fn a_later_flag_is_a_word(rt: HostRuntime) -> Result<(), Fail> {
             "*1\r\n$1\r\nF\r\n*1\r\n$8\r\n--atomic\r\n",
         ),
     ] {
-        let (bytes, _err, status) = asked(rt.alloc(), words, ":1\r\n:2\r\n")?;
+        let (bytes, _err, status) = asked(&rt, words, ":1\r\n:2\r\n");
         assert_eq!(rt; status, 0);
         assert_eq!(rt; bytes.as_slice(), sent.as_bytes());
     }
-    Ok(())
 }
 
 #[test]
-fn reads_replies(rt: HostRuntime) -> Result<(), Fail> {
+fn reads_replies(rt: HostRuntime) {
     let alloc = rt.alloc();
     for (replies, lines, refusal, status) in [
         (
@@ -260,22 +250,26 @@ fn reads_replies(rt: HostRuntime) -> Result<(), Fail> {
         ),
         ("", "", "", 0),
     ] {
-        let mut reader = Cursor::new(Vec::from_slice(alloc, replies.as_bytes())?);
+        let mut reader = Cursor::new(Vec::from_slice(alloc, replies.as_bytes()).expect(
+            &rt,
+            "no refusal",
+        ));
         let mut out: Vec<u8> = Vec::new(alloc);
         let mut err: Vec<u8> = Vec::new(alloc);
         assert_eq!(rt; read(alloc, &mut reader, &mut out, &mut err), status);
         assert_eq!(rt; out.as_slice(), lines.as_bytes());
         assert_eq!(rt; err.as_slice(), refusal.as_bytes());
     }
-    Ok(())
 }
 
 #[test]
-fn reads_many_replies(rt: HostRuntime) -> Result<(), Fail> {
+fn reads_many_replies(rt: HostRuntime) {
     let alloc = rt.alloc();
     let mut replies = Vec::new(alloc);
     for _ in 0..50_000 {
-        replies.extend_from_slice(b"*2\r\n+a\r\n:1\r\n$3\r\nabc\r\n")?;
+        replies
+            .extend_from_slice(b"*2\r\n+a\r\n:1\r\n$3\r\nabc\r\n")
+            .expect(&rt, "no refusal");
     }
     let mut out: Vec<u8> = Vec::new(alloc);
     let mut err: Vec<u8> = Vec::new(alloc);
@@ -284,7 +278,6 @@ fn reads_many_replies(rt: HostRuntime) -> Result<(), Fail> {
         0
     );
     assert_eq!(rt; out.iter().filter(|byte| **byte == b'\n').count(), 100_000);
-    Ok(())
 }
 
 /// Takes nothing.
@@ -320,7 +313,7 @@ impl Read for Broken {
 }
 
 #[test]
-fn a_reader_that_fails(rt: HostRuntime) -> Result<(), Fail> {
+fn a_reader_that_fails(rt: HostRuntime) {
     let alloc = rt.alloc();
     let mut out: Vec<u8> = Vec::new(alloc);
     let mut err: Vec<u8> = Vec::new(alloc);
@@ -328,18 +321,16 @@ fn a_reader_that_fails(rt: HostRuntime) -> Result<(), Fail> {
     assert_eq!(rt; read(alloc, &mut reader, &mut out, &mut err), 2);
     assert_eq!(rt; out.as_slice(), b"int(1)\n".as_slice());
     assert_eq!(rt; err.as_slice(), b"refused: I/O error\n".as_slice());
-    Ok(())
 }
 
 #[test]
-fn streams_that_fail(rt: HostRuntime) -> Result<(), Fail> {
+fn streams_that_fail(rt: HostRuntime) {
     let alloc = rt.alloc();
-    let words = words_of(alloc, &["GET", "k"])?;
+    let words = words_of(&rt, &["GET", "k"]);
     let mut err: Vec<u8> = Vec::new(alloc);
     assert_eq!(rt; pack(alloc, words.as_slice(), &mut Closed, &mut err), 2);
     assert_eq!(rt; err.as_slice(), b"refused: I/O error\n".as_slice());
     assert_eq!(rt; pack(alloc, &[], &mut Closed, &mut Closed), 1);
-    let mut link = link_over(alloc, b":1\r\n")?;
+    let mut link = link_over(&rt, b":1\r\n");
     assert_eq!(rt; query(alloc, words.as_slice(), &mut link, &mut Closed), 2);
-    Ok(())
 }

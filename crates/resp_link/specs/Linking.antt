@@ -1,9 +1,10 @@
 -- What a link over a source and a sink is as a connection.
-use Rattle.std.specs.Prelude.{◌≡◌, ℕ, ◌&&◌, Bool, true, List, ◌++◌, Result}
+use Rattle.std.specs.Prelude.{◌≡◌, ℕ, ◌&&◌, Bool, true, false, List, ◌++◌, Result}
 use Rattle.resp_value.specs.declared.value.Value.{Value}
 use Rattle.resp_value.specs.declared.value.PushInfo.{PushInfo}
 use Rattle.resp_errors.specs.declared.redis_error.RedisError.{RedisError}
 use Rattle.resp_link.specs.Sink.{Sink}
+use Rattle.resp_parse.specs.State.{State, IsBetweenValues}
 use Rattle.resp_command.specs.Connection.{Connection, SameKind, Exchange}
 use Rattle.resp_link.specs.Receiving.{Inflow}
 
@@ -20,6 +21,10 @@ connection_of inflow sink broken = record {
   source_failures = inflow.failures;
   sink_failures = sink.failures;
 }
+
+-- the parser of a link stands between values, unless the link is broken
+abbrev pub BetweenUnless : Bool → State → Type 0
+BetweenUnless broken parser = broken ≡ false → IsBetweenValues parser
 
 -- what the exchange of a connection does that isn't broken
 pub record Exchanges {A : Type 0} (old new : Connection) (q : List ℕ) (n : ℕ)

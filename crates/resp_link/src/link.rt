@@ -1,12 +1,12 @@
 //! A connection over bytes.
 
 ghost use Rattle.std.specs.Prelude.{◌≡◌, ◌+◌, [], true, false, Ok, IfOk, length};
-ghost use Rattle.resp_parse.specs.State.{IsBetweenValues, IsBetweenValues-prop};
+ghost use Rattle.resp_parse.specs.State.{IsBetweenValues-prop};
 ghost use Rattle.resp_parse.specs.Source.{source_of};
 ghost use Rattle.resp_link.specs.Sink.{sink_of};
 ghost use Rattle.resp_command.specs.Call.{AnswersReply, AnswersFrom, broken_link, no_command};
 ghost use Rattle.resp_link.specs.Receiving.{inflow_of};
-ghost use Rattle.resp_link.specs.Linking.{Exchanges, connection_of};
+ghost use Rattle.resp_link.specs.Linking.{BetweenUnless, Exchanges, connection_of};
 
 use crate::inbox::Inbox;
 use crate::sink::{CommandSink, send_all};
@@ -29,7 +29,7 @@ pub struct ByteLink<S, K> {
     inbox: Inbox<S>,
     sink: K,
     broken: bool,
-    ghost between: { broken ≡ false → IsBetweenValues inbox.parser } by { Prim.hlevel IsBetweenValues-prop },
+    ghost between: { BetweenUnless broken inbox.parser } by { Prim.hlevel IsBetweenValues-prop },
 }
 
 impl<R: Read, W: Write> ByteLink<Reading<R>, Writing<W>> {
