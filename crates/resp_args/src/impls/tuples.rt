@@ -123,8 +123,8 @@ impl<A: ToRedisArgs, B: ToRedisArgs, C: ToRedisArgs, D: ToRedisArgs> ToRedisArgs
 
 impl<A: ToRedisArgs, B: ToRedisArgs, C: ToRedisArgs, D: ToRedisArgs, E: ToRedisArgs> ToRedisArgs
     for (A, B, C, D, E) {
-    ghost gives = { λ x. GivesBoth (A.gives x.0)
-        (GivesBoth (B.gives x.1) (GivesBoth (C.gives x.2) (GivesBoth (D.gives x.3) (E.gives x.4)))) };
+    ghost gives = { λ x. GivesBoth (A.gives x.0) (GivesBoth (B.gives x.1)
+        (GivesBoth (C.gives x.2) (GivesBoth (D.gives x.3) (E.gives x.4)))) };
 
     ghost refuses = { λ x. A.refuses x.0
         ⊎ (B.refuses x.1 ⊎ (C.refuses x.2 ⊎ (D.refuses x.3 ⊎ E.refuses x.4))) };
