@@ -1,6 +1,10 @@
 //! Links over memory, and what tests look at.
 
-use resp_core::{ByteLink, Cmd, Pipeline, Reading, RedisError, Writing, cmd, pipe};
+use resp_core::{
+    ByteLink, Cmd, ConnectionLike, ErrorKind, IoKind, Pipeline, Reading, RedisError, RedisResult,
+    Writing, cmd, pipe,
+};
+use std::fmt::Debug;
 use std::io::Cursor;
 use std::process::Abort;
 
@@ -38,6 +42,35 @@ pub fn commands(rt: &(impl Abort + AllocGlobal), names: &[&str]) -> Pipeline {
     pipeline
 }
 
+/// What a pipeline of two commands answers, which have to be integers.
+pub fn two_integers(rt: &(impl Abort + AllocGlobal), con: &mut dyn ConnectionLike) -> (i64, i64) {
+    commands(rt, &["FOO", "BAR"])
+        .query(con)
+        .expect(rt, "no refusal")
+}
+
+/// The Debug form of what was answered.
+pub fn shown<T: Debug + Drop>(rt: &(impl Abort + AllocGlobal), answer: RedisResult<T>) -> String {
+    let value = answer.expect(rt, "no refusal");
+    format!(in rt.alloc(); "{value:?}").expect(rt, "no refusal")
+}
+
+/// The Debug form of the refusal.
+pub fn shown_refusal<T: Debug>(rt: &(impl Abort + AllocGlobal), answer: RedisResult<T>) -> String {
+    let error = answer.expect_err(rt, "a refusal");
+    format!(in rt.alloc(); "{error:?}").expect(rt, "no refusal")
+}
+
+/// The kind of the refusal.
+pub fn refused<T: Debug>(rt: &(impl Abort), answer: RedisResult<T>) -> ErrorKind {
+    answer.expect_err(rt, "a refusal").kind()
+}
+
+/// The kind of the fault of a device in the refusal.
+pub fn device_fault<T: Debug>(rt: &(impl Abort), answer: RedisResult<T>) -> Option<IoKind> {
+    answer.expect_err(rt, "a refusal").io_kind()
+}
+
 /// The server errors in a refusal, each with its position, as `1:CROSSSLOT` and a space.
 pub fn listed(rt: &(impl Abort + AllocGlobal), error: RedisError) -> String {
     let mut text = String::new(rt.alloc());
@@ -51,12 +84,4 @@ pub fn listed(rt: &(impl Abort + AllocGlobal), error: RedisError) -> String {
         }
     }
     text
-}
-
-/// The fixed text of a refusal of the library's own.
-pub fn fixed_text(error: &RedisError) -> &str {
-    match error {
-        RedisError::General { text, .. } => text.as_str(),
-        _ => "",
-    }
 }

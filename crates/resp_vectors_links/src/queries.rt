@@ -1,7 +1,10 @@
 //! Queries of pipelines, and of commands beside them, over a link.
 
 use crate::devices::OneAtATime;
-use crate::memory::{commands, fixed_text, link_over, listed, next_integer, ping, sent};
+use crate::memory::{
+    commands, device_fault, link_over, listed, next_integer, ping, refused, sent, shown,
+    shown_refusal,
+};
 use resp_core::{
     Cmd, ErrorKind, IoKind, Pipeline, RedisError, RedisResult, ServerErrorKind, Value, pipe,
 };
@@ -22,10 +25,8 @@ const TWO_OF_FOUR: &[u8] = b"+OK\r\n-CROSSSLOT\r\n+OK\r\n-CROSSSLOT\r\n";
 #[test]
 fn ignored_replies_are_let_go(rt: HostRuntime) {
     let mut link = link_over(&rt, b":1\r\n:2\r\n:3\r\n+OK\r\n");
-    let texts: Vec<String> = four(&rt).query(&mut link).expect(&rt, "no refusal");
-    assert_eq!(rt; texts.len(), 2);
-    assert_eq!(rt; texts[0].as_str(), "1");
-    assert_eq!(rt; texts[1].as_str(), "OK");
+    let texts = shown(&rt, four(&rt).query::<Vec<String>>(&mut link));
+    assert_eq!(rt; texts.as_str(), "[\"1\", \"OK\"]");
 }
 
 #[test]
@@ -44,13 +45,24 @@ fn ignored_errors_are_values(rt: HostRuntime) {
     let mut link = link_over(&rt, TWO_OF_FOUR);
     let mut pipeline = four(&rt);
     let _ = pipeline.ignore_errors();
-    let results: Vec<RedisResult<Value>> = pipeline.query(&mut link).expect(&rt, "no refusal");
-    assert_eq!(rt; results.len(), 2);
-    assert!(rt; results[0] == Ok(Value::Okay));
-    match &results[1] {
-        Ok(_value) => assert!(rt; false),
-        Err(error) => assert_eq!(rt; error.kind(), ErrorKind::Server(ServerErrorKind::CrossSlot)),
+    let results = shown_kinds(&rt, pipeline.query(&mut link));
+    assert_eq!(rt; results.as_str(), "ok Server(CrossSlot) ");
+}
+
+/// The Debug form of each value or of the kind of each error, and a space.
+fn shown_kinds(
+    rt: &(impl Abort + AllocGlobal),
+    answer: RedisResult<Vec<RedisResult<Value>>>,
+) -> String {
+    let mut text = String::new(rt.alloc());
+    let results = answer.expect(rt, "no refusal");
+    for result in &results {
+        match result {
+            Ok(value) => write!(text, "{value:?} ").expect(rt, "no refusal"),
+            Err(error) => write!(text, "{:?} ", error.kind()).expect(rt, "no refusal"),
+        }
     }
+    text
 }
 
 #[test]
@@ -69,10 +81,8 @@ fn an_empty_command_in_a_pipeline(rt: HostRuntime) {
     pipeline
         .push_command(Cmd::new(rt.alloc()))
         .expect(&rt, "no refusal");
-    let error = pipeline
-        .query::<Value>(&mut link)
-        .expect_err(&rt, "a refusal");
-    assert_eq!(rt; error.io_kind(), Some(IoKind::UnexpectedEof));
+    let fault = device_fault(&rt, pipeline.query::<Value>(&mut link));
+    assert_eq!(rt; fault, Some(IoKind::UnexpectedEof));
     assert!(rt; link.is_broken());
     assert_eq!(rt; sent(link).as_slice(), b"*0\r\n".as_slice());
 }
@@ -87,11 +97,13 @@ fn an_error_inside_a_kept_reply(rt: HostRuntime) {
         error.kind(),
         ErrorKind::Server(ServerErrorKind::ResponseError)
     );
-    match &error {
-        RedisError::Server(_) => {}
-        _ => assert!(rt; false),
-    }
+    assert!(rt; is_one_server_error(&error));
     assert_eq!(rt; listed(&rt, error).as_str(), "0:ERR ");
+}
+
+/// Whether the error stands for itself, in no list.
+fn is_one_server_error(error: &RedisError) -> bool {
+    matches!(error, RedisError::Server(_))
 }
 
 #[test]
@@ -127,10 +139,8 @@ fn a_command_without_a_response(rt: HostRuntime) {
 #[test]
 fn no_response_is_no_integer(rt: HostRuntime) {
     let mut link = link_over(&rt, b":7\r\n");
-    let error = no_response_command(&rt)
-        .query::<i64>(&mut link)
-        .expect_err(&rt, "a refusal");
-    assert_eq!(rt; error.kind(), ErrorKind::Parse);
+    let kind = refused(&rt, no_response_command(&rt).query::<i64>(&mut link));
+    assert_eq!(rt; kind, ErrorKind::Parse);
     assert!(rt; !link.is_broken());
     assert_eq!(rt; next_integer(&rt, &mut link), 7);
 }
@@ -138,13 +148,8 @@ fn no_response_is_no_integer(rt: HostRuntime) {
 #[test]
 fn a_connection_without_pipelining(rt: HostRuntime) {
     let mut con = OneAtATime::new();
-    let error = commands(&rt, &["FOO", "BAR"])
-        .query::<Value>(&mut con)
-        .expect_err(&rt, "a refusal");
-    assert_eq!(rt; error.kind(), ErrorKind::Client);
-    assert_eq!(rt;
-        fixed_text(&error),
-        "This connection does not support pipelining."
-    );
+    let refusal = shown_refusal(&rt, commands(&rt, &["FOO", "BAR"]).query::<Value>(&mut con));
+    let wanted = "This connection does not support pipelining. - Client";
+    assert_eq!(rt; refusal.as_str(), wanted);
     assert_eq!(rt; con.requests, 0);
 }

@@ -1,6 +1,6 @@
 //! Queries of transactions over a link.
 
-use crate::memory::{link_over, sent};
+use crate::memory::{link_over, refused, sent};
 use resp_core::{ErrorKind, Pipeline, pipe};
 use std::process::Abort;
 
@@ -40,10 +40,8 @@ fn a_transaction_that_did_not_run(rt: HostRuntime) {
 #[test]
 fn an_aborted_transaction(rt: HostRuntime) {
     let mut link = link_over(&rt, b"+OK\r\n+QUEUED\r\n+QUEUED\r\n-EXECABORT x\r\n");
-    let error = set_and_get(&rt)
-        .query::<(i64,)>(&mut link)
-        .expect_err(&rt, "a refusal");
-    assert_eq!(rt; error.kind(), ErrorKind::UnexpectedReturnType);
+    let kind = refused(&rt, set_and_get(&rt).query::<(i64,)>(&mut link));
+    assert_eq!(rt; kind, ErrorKind::UnexpectedReturnType);
     assert!(rt; !link.is_broken());
 }
 

@@ -191,12 +191,18 @@ fn bytes_that_refuse_are_none(rt: HostRuntime) {
     );
 }
 
+/// Integers as replies.
+fn integers(rt: &(impl Abort + AllocGlobal), numbers: &[i64]) -> Vec<Value> {
+    let mut values = Vec::new(rt.alloc());
+    for number in numbers {
+        values.push(Value::Int(*number)).expect(rt, "no refusal");
+    }
+    values
+}
+
 #[test]
 fn a_short_last_group_is_one_refusal(rt: HostRuntime) {
-    let values = vec![in rt.alloc(); Value::Int(1), Value::Int(2), Value::Int(3)].expect(
-        &rt,
-        "no refusal",
-    );
+    let values = integers(&rt, &[1, 2, 3]);
     let answers = <(i64, i64)>::from_each_redis_values(rt.alloc(), values).expect(
         &rt,
         "no refusal",
@@ -208,7 +214,7 @@ fn a_short_last_group_is_one_refusal(rt: HostRuntime) {
 #[test]
 fn a_borrowed_list_of_replies(rt: HostRuntime) {
     law_of_one_value();
-    let values = [Value::Int(1), Value::Int(2)];
+    let values = integers(&rt, &[1, 2]);
     let both = i64::from_redis_value_refs(rt.alloc(), values.as_slice()).expect(&rt, "no refusal");
     assert_eq!(rt; both.as_slice(), [1, 2].as_slice());
 }

@@ -16,21 +16,13 @@ fn text(rt: &(impl Abort + AllocGlobal), text: &str) -> String {
 }
 
 fn shows<T: Display>(rt: &(impl Abort + AllocGlobal), value: &T, wanted: &str) {
-    assert_eq!(rt;
-        format!(in rt.alloc(); "{value}")
-            .expect(rt, "no refusal")
-            .as_str(),
-        wanted
-    );
+    let shown = format!(in rt.alloc(); "{value}").expect(rt, "no refusal");
+    assert_eq!(rt; shown.as_str(), wanted);
 }
 
 fn debugs<T: Debug>(rt: &(impl Abort + AllocGlobal), value: &T, wanted: &str) {
-    assert_eq!(rt;
-        format!(in rt.alloc(); "{value:?}")
-            .expect(rt, "no refusal")
-            .as_str(),
-        wanted
-    );
+    let shown = format!(in rt.alloc(); "{value:?}").expect(rt, "no refusal");
+    assert_eq!(rt; shown.as_str(), wanted);
 }
 
 #[test]
@@ -166,70 +158,97 @@ fn texts(rt: HostRuntime) {
     );
 }
 
+/// Lines of errors, each with its kind, its code and what it shows.
+const LINES: [(&str, Option<ServerErrorKind>, &str, &str); 5] = [
+    (
+        "LOADING server is loading",
+        Some(ServerErrorKind::BusyLoading),
+        "LOADING",
+        "BusyLoading: server is loading",
+    ),
+    (
+        "SYNTAX invalid syntax",
+        None,
+        "SYNTAX",
+        "\"SYNTAX\": invalid syntax",
+    ),
+    (
+        "CROSSSLOT",
+        Some(ServerErrorKind::CrossSlot),
+        "CROSSSLOT",
+        "CrossSlot",
+    ),
+    ("", None, "", "\"\""),
+    (" x", None, "", "\"\": x"),
+];
+
+fn server_error(rt: &(impl Abort + AllocGlobal), line: &str) -> ServerError {
+    ServerError::from_text(rt.alloc(), line).expect(rt, "no refusal")
+}
+
 #[test]
 fn server_errors(rt: HostRuntime) {
-    for (line, kind, code, shown) in [
-        (
-            "LOADING server is loading",
-            Some(ServerErrorKind::BusyLoading),
-            "LOADING",
-            "BusyLoading: server is loading",
-        ),
-        (
-            "SYNTAX invalid syntax",
-            None,
-            "SYNTAX",
-            "\"SYNTAX\": invalid syntax",
-        ),
-        (
-            "CROSSSLOT",
-            Some(ServerErrorKind::CrossSlot),
-            "CROSSSLOT",
-            "CrossSlot",
-        ),
-        ("", None, "", "\"\""),
-        (" x", None, "", "\"\": x"),
-    ] {
-        let error = ServerError::from_text(rt.alloc(), line).expect(&rt, "no refusal");
+    for (line, kind, code, _) in LINES {
+        let error = server_error(&rt, line);
         assert_eq!(rt; error.kind(), kind);
         assert_eq!(rt; error.code(), code);
         assert_eq!(rt; error.details().is_some(), line.contains(' '));
+    }
+}
+
+#[test]
+fn shown_server_errors(rt: HostRuntime) {
+    for (line, _, _, shown) in LINES {
+        let error = server_error(&rt, line);
         shows(&rt, &error, shown);
         assert!(rt; error.try_clone(rt.alloc()).expect(&rt, "no refusal") == error);
     }
 }
 
+/// Each kind with its code and its category.
+const CODES: [(ServerErrorKind, &str, &str); 14] = [
+    (ServerErrorKind::ResponseError, "ERR", "response error"),
+    (
+        ServerErrorKind::ExecAbort,
+        "EXECABORT",
+        "script execution aborted",
+    ),
+    (ServerErrorKind::BusyLoading, "LOADING", "busy loading"),
+    (ServerErrorKind::NoScript, "NOSCRIPT", "no script"),
+    (ServerErrorKind::Moved, "MOVED", "key moved"),
+    (ServerErrorKind::Ask, "ASK", "key moved (ask)"),
+    (ServerErrorKind::TryAgain, "TRYAGAIN", "try again"),
+    (ServerErrorKind::ClusterDown, "CLUSTERDOWN", "cluster down"),
+    (ServerErrorKind::CrossSlot, "CROSSSLOT", "cross-slot"),
+    (ServerErrorKind::MasterDown, "MASTERDOWN", "master down"),
+    (ServerErrorKind::ReadOnly, "READONLY", "read-only"),
+    (ServerErrorKind::NotBusy, "NOTBUSY", "not busy"),
+    (
+        ServerErrorKind::NoSub,
+        "NOSUB",
+        "Server declined unsubscribe related command in non-subscribed mode",
+    ),
+    (ServerErrorKind::NoPerm, "NOPERM", ""),
+];
+
 #[test]
 fn codes(rt: HostRuntime) {
-    for (kind, code, category) in [
-        (ServerErrorKind::ResponseError, "ERR", "response error"),
-        (
-            ServerErrorKind::ExecAbort,
-            "EXECABORT",
-            "script execution aborted",
-        ),
-        (ServerErrorKind::BusyLoading, "LOADING", "busy loading"),
-        (ServerErrorKind::NoScript, "NOSCRIPT", "no script"),
-        (ServerErrorKind::Moved, "MOVED", "key moved"),
-        (ServerErrorKind::Ask, "ASK", "key moved (ask)"),
-        (ServerErrorKind::TryAgain, "TRYAGAIN", "try again"),
-        (ServerErrorKind::ClusterDown, "CLUSTERDOWN", "cluster down"),
-        (ServerErrorKind::CrossSlot, "CROSSSLOT", "cross-slot"),
-        (ServerErrorKind::MasterDown, "MASTERDOWN", "master down"),
-        (ServerErrorKind::ReadOnly, "READONLY", "read-only"),
-        (ServerErrorKind::NotBusy, "NOTBUSY", "not busy"),
-        (
-            ServerErrorKind::NoSub,
-            "NOSUB",
-            "Server declined unsubscribe related command in non-subscribed mode",
-        ),
-        (ServerErrorKind::NoPerm, "NOPERM", ""),
-    ] {
+    for (kind, code, _) in CODES {
         assert_eq!(rt; kind.code(), code);
         assert_eq!(rt; ServerErrorKind::from_code(code), Some(kind));
-        assert_eq!(rt; ErrorKind::from(kind).category(), category);
     }
     assert_eq!(rt; ServerErrorKind::from_code("WRONGTYPE"), None);
+}
+
+#[test]
+fn categories(rt: HostRuntime) {
+    for (kind, _, category) in CODES {
+        assert_eq!(rt; ErrorKind::from(kind).category(), category);
+    }
+}
+
+#[test]
+fn kinds_and_faults(rt: HostRuntime) {
     assert_eq!(rt; FrameFault::TooDeep.text(), "value is nested too deeply");
     assert_eq!(rt; IoKind::from(io::ErrorKind::WriteZero), IoKind::WriteZero);
     assert_eq!(rt; IoKind::from(io::ErrorKind::AlreadyExists), IoKind::Other);
@@ -249,7 +268,7 @@ fn detailed_errors(rt: HostRuntime) {
     let detailed = RedisError::from((ErrorKind::Client, "other", why));
     assert!(rt; detailed.detail().is_some() && detailed.code().is_none());
     assert!(rt; detailed == RedisError::from((ErrorKind::Client, "empty command")));
-    assert!(rt; detailed.try_clone(rt.alloc()).expect(&rt, "no refusal") == detailed);
+    assert!(rt; equal_error_copy(&rt, &detailed));
     debugs(&rt, &detailed, "other - Client: why");
 }
 
@@ -258,71 +277,70 @@ fn errors_from_below(rt: HostRuntime) {
     let io = RedisError::from(IoKind::TimedOut);
     assert_eq!(rt; io.io_kind(), Some(IoKind::TimedOut));
     shows(&rt, &io, "TimedOut");
+    assert!(rt; equal_error_copy(&rt, &io));
+    assert!(rt; io != RedisError::from(ParsingError::from(FrameFault::BodyEnd)));
+}
+
+#[test]
+fn errors_of_bytes(rt: HostRuntime) {
     let fault = RedisError::from(ParsingError::from(FrameFault::BodyEnd));
     assert_eq!(rt; fault.frame_fault(), Some(FrameFault::BodyEnd));
     assert_eq!(rt; fault.kind(), ErrorKind::Parse);
-    assert_eq!(rt;
-        RedisError::from(ParsingError::OutOfMemory).kind(),
-        ErrorKind::OutOfMemory
-    );
-    assert!(rt; io.try_clone(rt.alloc()).expect(&rt, "no refusal") == io && io != fault);
+    let memory = RedisError::from(ParsingError::OutOfMemory);
+    assert_eq!(rt; memory.kind(), ErrorKind::OutOfMemory);
+}
+
+/// Whether the error equals its copy.
+fn equal_error_copy(rt: &(impl Abort + AllocGlobal), error: &RedisError) -> bool {
+    error.try_clone(rt.alloc()).expect(rt, "no refusal") == *error
+}
+
+/// How many server errors the error has.
+fn count_server_errors(rt: &(impl Abort + AllocGlobal), error: RedisError) -> usize {
+    let errors = error
+        .into_server_errors(rt.alloc())
+        .expect(rt, "no refusal");
+    errors.expect(rt, "some").len()
+}
+
+/// Server errors of these lines at these places.
+fn listed(rt: &(impl Abort + AllocGlobal), lines: &[(usize, &str)]) -> Vec<(usize, ServerError)> {
+    let mut list = Vec::new(rt.alloc());
+    for (place, line) in lines {
+        list.push((*place, server_error(rt, line)))
+            .expect(rt, "no refusal");
+    }
+    list
 }
 
 #[test]
 fn lists_of_errors(rt: HostRuntime) {
-    let mut list = Vec::new(rt.alloc());
-    list.push((
-        1,
-        ServerError::from_text(rt.alloc(), "CROSSSLOT").expect(&rt, "no refusal"),
-    ))
-    .expect(&rt, "no refusal");
-    list.push((
-        3,
-        ServerError::from_text(rt.alloc(), "ERR x").expect(&rt, "no refusal"),
-    ))
-    .expect(&rt, "no refusal");
+    let list = listed(&rt, &[(1, "CROSSSLOT"), (3, "ERR x")]);
     let pipeline = RedisError::Pipeline(list.into());
     assert_eq!(rt;
         pipeline.kind(),
         ErrorKind::Server(ServerErrorKind::CrossSlot)
     );
-    assert!(rt; pipeline.try_clone(rt.alloc()).expect(&rt, "no refusal") == pipeline);
+    assert!(rt; equal_error_copy(&rt, &pipeline));
     shows(
         &rt,
         &pipeline,
         "Pipeline failures: [(Index 1, error: CrossSlot), (Index 3, error: ResponseError: x)]",
     );
-    assert_eq!(rt;
-        pipeline
-            .into_server_errors(rt.alloc())
-            .expect(&rt, "no refusal")
-            .expect(&rt, "some")
-            .len(),
-        2
-    );
+    assert_eq!(rt; count_server_errors(&rt, pipeline), 2);
 }
 
 #[test]
 fn lone_errors(rt: HostRuntime) {
-    let lone = RedisError::from(ServerError::from_text(rt.alloc(), "WRONGTYPE x").expect(
-        &rt,
-        "no refusal",
-    ));
+    let lone = RedisError::from(server_error(&rt, "WRONGTYPE x"));
     assert_eq!(rt; lone.kind(), ErrorKind::Extension);
     assert!(rt; lone.code().is_some() && lone.detail().is_some());
-    assert_eq!(rt;
-        lone.into_server_errors(rt.alloc())
-            .expect(&rt, "no refusal")
-            .expect(&rt, "some")
-            .len(),
-        1
-    );
-    let mut list = Vec::new(rt.alloc());
-    list.push((
-        1,
-        ServerError::from_text(rt.alloc(), "ERR unknown command").expect(&rt, "no refusal"),
-    ))
-    .expect(&rt, "no refusal");
+    assert_eq!(rt; count_server_errors(&rt, lone), 1);
+}
+
+#[test]
+fn aborted_transactions(rt: HostRuntime) {
+    let list = listed(&rt, &[(1, "ERR unknown command")]);
     let aborted = RedisError::Aborted(list.into());
     assert_eq!(rt;
         aborted.kind(),
@@ -353,6 +371,16 @@ fn parsing_errors(rt: HostRuntime) {
     );
 }
 
+/// Whether the kind equals its copy.
+fn equal_kind_copy(rt: &(impl Abort + AllocGlobal), kind: &PushKind) -> bool {
+    kind.try_clone(rt.alloc()).expect(rt, "no refusal") == *kind
+}
+
+/// Whether the format equals its copy.
+fn equal_format_copy(rt: &(impl Abort + AllocGlobal), format: &VerbatimFormat) -> bool {
+    format.try_clone(rt.alloc()).expect(rt, "no refusal") == *format
+}
+
 #[test]
 fn names(rt: HostRuntime) {
     for (name, other) in [
@@ -372,22 +400,28 @@ fn names(rt: HostRuntime) {
         let kind = get_push_kind(text(&rt, name));
         assert_eq!(rt; matches!(kind, PushKind::Other(_)), other);
         shows(&rt, &kind, name);
-        assert!(rt; kind.try_clone(rt.alloc()).expect(&rt, "no refusal") == kind);
+        assert!(rt; equal_kind_copy(&rt, &kind));
     }
+}
+
+#[test]
+fn names_of_formats(rt: HostRuntime) {
     for (name, other) in [("mkd", false), ("txt", false), ("xyz", true)] {
         let format = verbatim_format(text(&rt, name));
         assert_eq!(rt; matches!(format, VerbatimFormat::Unknown(_)), other);
         shows(&rt, &format, name);
-        assert!(rt; format.try_clone(rt.alloc()).expect(&rt, "no refusal") == format);
+        assert!(rt; equal_format_copy(&rt, &format));
     }
 }
 
 #[test]
 fn pushes(rt: HostRuntime) {
-    assert!(rt; Value::default() == Value::Nil);
+    assert!(rt; matches!(Value::default(), Value::Nil));
+    let mut payload = Vec::new(rt.alloc());
+    payload.push(Value::Int(1)).expect(&rt, "no refusal");
     let push = PushInfo {
         kind: PushKind::Message,
-        payload: Items::from(vec![in rt.alloc(); Value::Int(1)].expect(&rt, "no refusal")),
+        payload: Items::from(payload),
     };
     assert!(rt; push.try_clone().expect(&rt, "no refusal") == push);
 }
