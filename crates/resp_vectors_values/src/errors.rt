@@ -85,40 +85,51 @@ fn fixed_texts_that_are_long(rt: HostRuntime) {
 }
 
 /// Whether two errors are equal, in both orders and each to itself.
-fn alike(rt: &(impl Abort + AllocGlobal), a: &RedisError, b: &RedisError) -> bool {
-    assert!(rt; *a == *a && *b == *b);
-    assert_eq!(rt; *a == *b, *b == *a);
-    *a == *b
+fn alike(rt: &(impl Abort + AllocGlobal), a: RedisError, b: RedisError) -> bool {
+    assert!(rt; a == a && b == b);
+    assert_eq!(rt; a == b, b == a);
+    a == b
+}
+
+fn refused(text: &'static str) -> RedisError {
+    RedisError::from((ErrorKind::Client, text))
+}
+
+fn broken() -> RedisError {
+    RedisError::from((ErrorKind::Io, "link is broken"))
 }
 
 #[test]
 fn equal_refusals(rt: HostRuntime) {
     law_of_equal_errors();
-    let refused = RedisError::from((ErrorKind::Client, "empty command"));
-    let other_text = RedisError::from((ErrorKind::Client, "formatting failed"));
-    assert!(rt; alike(&rt, &refused, &other_text));
-    let broken = RedisError::from((ErrorKind::Io, "link is broken"));
-    assert!(rt; !alike(&rt, &refused, &broken));
-    assert!(rt; !alike(&rt, &broken, &RedisError::from(IoKind::UnexpectedEof)));
+    assert!(rt; alike(&rt, refused("empty command"), refused("formatting failed")));
+    assert!(rt; !alike(&rt, refused("empty command"), broken()));
+    assert!(rt; !alike(&rt, broken(), RedisError::from(IoKind::UnexpectedEof)));
 }
 
 #[test]
 fn equal_faults_of_devices(rt: HostRuntime) {
-    let early = RedisError::from(IoKind::UnexpectedEof);
-    assert!(rt; alike(&rt, &early, &RedisError::from(IoKind::UnexpectedEof)));
-    assert!(rt; !alike(&rt, &early, &RedisError::from(IoKind::TimedOut)));
+    let early = IoKind::UnexpectedEof;
+    assert!(rt; alike(&rt, RedisError::from(early), RedisError::from(early)));
+    assert!(rt;
+        !alike(
+            &rt,
+            RedisError::from(early),
+            RedisError::from(IoKind::TimedOut)
+        )
+    );
 }
 
 #[test]
 fn equal_parse_errors(rt: HostRuntime) {
     let described = RedisError::from(ParsingError::from("unknown type byte"));
     let fault = RedisError::from(ParsingError::from(FrameFault::UnknownType));
-    assert!(rt; !alike(&rt, &described, &fault));
+    assert!(rt; !alike(&rt, described, fault));
     let by_hand = RedisError::Parse(ParsingError::OutOfMemory);
     assert_eq!(rt; by_hand.kind(), ErrorKind::Parse);
     let memory = RedisError::from(ParsingError::OutOfMemory);
     assert_eq!(rt; memory.kind(), ErrorKind::OutOfMemory);
-    assert!(rt; !alike(&rt, &by_hand, &memory));
+    assert!(rt; !alike(&rt, by_hand, memory));
 }
 
 #[test]
@@ -235,9 +246,15 @@ const CODES: [(ServerErrorKind, &str, &str); 14] = [
 fn codes(rt: HostRuntime) {
     for (kind, code, _) in CODES {
         assert_eq!(rt; kind.code(), code);
-        assert_eq!(rt; ServerErrorKind::from_code(code), Some(kind));
     }
-    assert_eq!(rt; ServerErrorKind::from_code("WRONGTYPE"), None);
+}
+
+#[test]
+fn kinds_of_codes(rt: HostRuntime) {
+    for (kind, code, _) in CODES {
+        assert!(rt; ServerErrorKind::from_code(code) == Some(kind), "{code}");
+    }
+    assert!(rt; ServerErrorKind::from_code("WRONGTYPE").is_none());
 }
 
 #[test]
