@@ -1,102 +1,113 @@
 //! Commands as bytes.
 
+use crate::answers::shown_reply;
 use resp_core::laws::law_of_packing;
 use resp_core::{Cmd, ErrorKind, RedisWrite, cmd, pack_command, parse_redis_value};
 use std::collections::BTreeMap;
-use std::test::Fail;
+use std::process::Abort;
 
-#[test]
-fn set_is_packed(rt: HostRuntime) -> Result<(), Fail> {
-    let mut set = cmd(rt.alloc(), "SET")?;
-    set.arg("my_key")?.arg(42i32)?;
-    let packed = set.get_packed_command()?;
-    assert_eq!(rt;
-        packed.as_slice(),
-        b"*3\r\n$3\r\nSET\r\n$6\r\nmy_key\r\n$2\r\n42\r\n".as_slice()
-    );
-    Ok(())
+/// The bytes of the command are these.
+fn packs_as(rt: &impl Abort, command: &Cmd, wanted: &[u8]) {
+    let packed = command.get_packed_command().expect(rt, "no refusal");
+    assert_eq!(rt; packed.as_slice(), wanted);
 }
 
 #[test]
-fn arguments_of_each_type(rt: HostRuntime) -> Result<(), Fail> {
+fn set_is_packed(rt: HostRuntime) {
+    let mut set = cmd(rt.alloc(), "SET").expect(&rt, "no refusal");
+    let _ = set
+        .arg("my_key")
+        .expect(&rt, "no refusal")
+        .arg(42i32)
+        .expect(&rt, "no refusal");
+    packs_as(
+        &rt,
+        &set,
+        b"*3\r\n$3\r\nSET\r\n$6\r\nmy_key\r\n$2\r\n42\r\n",
+    );
+}
+
+#[test]
+fn arguments_of_each_type(rt: HostRuntime) {
     let mut command = Cmd::new(rt.alloc());
-    command.arg(String::from_str(rt.alloc(), "a")?)?;
-    command.arg(-1i64)?.arg(u64::MAX)?;
-    command.write_arg(b"")?;
-    let packed = command.get_packed_command()?;
+    let text = String::from_str(rt.alloc(), "a").expect(&rt, "no refusal");
+    let _ = command.arg(text).expect(&rt, "no refusal");
+    let _ = command
+        .arg(-1i64)
+        .expect(&rt, "no refusal")
+        .arg(u64::MAX)
+        .expect(&rt, "no refusal");
+    command.write_arg(b"").expect(&rt, "no refusal");
     let wanted = "*4\r\n$1\r\na\r\n$2\r\n-1\r\n$20\r\n18446744073709551615\r\n$0\r\n\r\n";
-    assert_eq!(rt; packed.as_slice(), wanted.as_bytes());
-    Ok(())
+    packs_as(&rt, &command, wanted.as_bytes());
 }
 
 #[test]
-fn an_argument_in_pieces(rt: HostRuntime) -> Result<(), Fail> {
-    let mut command = cmd(rt.alloc(), "GET")?;
-    command.open_arg()?;
-    command.extend_arg(b"key")?;
-    let packed = command.get_packed_command()?;
-    assert_eq!(rt;
-        packed.as_slice(),
-        b"*2\r\n$3\r\nGET\r\n$3\r\nkey\r\n".as_slice()
-    );
-    Ok(())
+fn an_argument_in_pieces(rt: HostRuntime) {
+    let mut command = cmd(rt.alloc(), "GET").expect(&rt, "no refusal");
+    command.open_arg().expect(&rt, "no refusal");
+    command.extend_arg(b"key").expect(&rt, "no refusal");
+    packs_as(&rt, &command, b"*2\r\n$3\r\nGET\r\n$3\r\nkey\r\n");
 }
 
 #[test]
-fn empty_command(rt: HostRuntime) -> Result<(), Fail> {
+fn empty_command(rt: HostRuntime) {
     let command = Cmd::new(rt.alloc());
     assert!(rt; command.is_empty());
-    assert!(rt; command.get_packed_command()?.is_empty());
-    let mut buffer = Vec::from_slice(rt.alloc(), b"X")?;
-    command.write_packed_command(&mut buffer)?;
+    packs_as(&rt, &command, b"");
+    let mut buffer = Vec::from_slice(rt.alloc(), b"X").expect(&rt, "no refusal");
+    command
+        .write_packed_command(&mut buffer)
+        .expect(&rt, "no refusal");
     assert_eq!(rt; buffer.as_slice(), b"X*0\r\n".as_slice());
-    assert_eq!(rt;
-        pack_command(rt.alloc(), &[])?.as_slice(),
-        b"*0\r\n".as_slice()
-    );
-    Ok(())
 }
 
 #[test]
-fn empty_bytes_are_an_argument(rt: HostRuntime) -> Result<(), Fail> {
-    let args = [Vec::from_slice(rt.alloc(), b"k")?, Vec::new(rt.alloc())];
-    let packed = pack_command(rt.alloc(), args.as_slice())?;
+fn no_arguments_are_packed(rt: HostRuntime) {
+    let packed = pack_command(rt.alloc(), &[]).expect(&rt, "no refusal");
+    assert_eq!(rt; packed.as_slice(), b"*0\r\n".as_slice());
+}
+
+#[test]
+fn empty_bytes_are_an_argument(rt: HostRuntime) {
+    let key = Vec::from_slice(rt.alloc(), b"k").expect(&rt, "no refusal");
+    let args = [key, Vec::new(rt.alloc())];
+    let packed = pack_command(rt.alloc(), args.as_slice()).expect(&rt, "no refusal");
     assert_eq!(rt;
         packed.as_slice(),
         b"*2\r\n$1\r\nk\r\n$0\r\n\r\n".as_slice()
     );
-    Ok(())
 }
 
 #[test]
-fn a_packed_command_reads_as_its_array(rt: HostRuntime) -> Result<(), Fail> {
+fn a_packed_command_reads_as_its_array(rt: HostRuntime) {
     law_of_packing();
-    let mut get = cmd(rt.alloc(), "GET")?;
-    get.arg("$1\r\n")?;
-    let packed = get.get_packed_command()?;
-    let read = parse_redis_value(rt.alloc(), packed.as_slice())?;
-    let text = format!(in rt.alloc(); "{read:?}")?;
+    let mut get = cmd(rt.alloc(), "GET").expect(&rt, "no refusal");
+    let _ = get.arg("$1\r\n").expect(&rt, "no refusal");
+    let packed = get.get_packed_command().expect(&rt, "no refusal");
+    let read = shown_reply(&rt, parse_redis_value(rt.alloc(), packed.as_slice()));
     assert_eq!(rt;
-        text.as_str(),
+        read.as_str(),
         "array([bulk-string('\"GET\"'), bulk-string('\"$1\\r\\n\"')])"
     );
-    Ok(())
+}
+
+/// A map that no command takes: its key is two arguments.
+pub fn refused_map(rt: &(impl Abort + AllocGlobal)) -> BTreeMap<(i64, i64), i64> {
+    let mut map = BTreeMap::new(rt.alloc());
+    let inserted: Result<_, _> = map.insert((1, 2), 3);
+    assert!(rt; inserted.is_ok());
+    map
 }
 
 #[test]
-fn refused_argument_changes_nothing(rt: HostRuntime) -> Result<(), Fail> {
-    let mut pairs = BTreeMap::new(rt.alloc());
-    pairs.insert((1i64, 2i64), 3i64)?;
-    let mut command = cmd(rt.alloc(), "HSET")?;
-    match command.arg(pairs) {
+fn refused_argument_changes_nothing(rt: HostRuntime) {
+    let mut command = cmd(rt.alloc(), "HSET").expect(&rt, "no refusal");
+    match command.arg(refused_map(&rt)) {
         Ok(_command) => assert!(rt; false),
         Err(error) => assert_eq!(rt; error.kind(), ErrorKind::Client),
     }
-    assert_eq!(rt;
-        command.get_packed_command()?.as_slice(),
-        b"*1\r\n$4\r\nHSET\r\n".as_slice()
-    );
-    Ok(())
+    packs_as(&rt, &command, b"*1\r\n$4\r\nHSET\r\n");
 }
 
 #[test]

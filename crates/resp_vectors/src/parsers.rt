@@ -1,17 +1,17 @@
 //! Worked replies, fed whole and in pieces, and readers that end or fail in the middle.
 
+use crate::answers::{next_shown, shown_refusal, shown_reply};
 use resp_core::laws::law_of_prefixes;
-use resp_core::{FrameFault, IoKind, Parser, Reading, Text, Value, parse_redis_value};
+use resp_core::{Parser, Reading, Value, parse_redis_value};
 use std::io;
 use std::io::{Cursor, Read};
 use std::process::Abort;
 
-/// Adds what the parser answers next, in its Debug form, and says whether that was a value: else
-/// it was a refusal, or `..` where bytes are awaited. A value equals its copy.
+/// Adds what the parser answers next, and says whether that was a value: else it was a refusal, or
+/// `..` where bytes are awaited.
 fn show_next(rt: &(impl Abort + AllocGlobal), parser: &mut Parser, text: &mut String) -> bool {
     match parser.take_value() {
         Ok(Some(value)) => {
-            assert!(rt; value.try_clone(rt.alloc()).expect(rt, "no refusal") == value);
             write!(text, "{value:?} ").expect(rt, "no refusal");
             true
         }
@@ -22,10 +22,8 @@ fn show_next(rt: &(impl Abort + AllocGlobal), parser: &mut Parser, text: &mut St
             false
         }
         Err(error) => {
-            match error.frame_fault() {
-                Some(fault) => write!(text, "{fault:?}").expect(rt, "no refusal"),
-                None => write!(text, "{error:?}").expect(rt, "no refusal"),
-            }
+            text.push_str(shown_refusal(rt, error).as_str())
+                .expect(rt, "no refusal");
             false
         }
     }
@@ -42,6 +40,41 @@ fn shown(rt: &(impl Abort + AllocGlobal), bytes: &[u8]) -> String {
         }
     }
     text
+}
+
+/// Whether the value of the bytes equals its copy.
+fn equals_its_copy(rt: &(impl Abort + AllocGlobal), bytes: &[u8]) -> bool {
+    let value = parse_redis_value(rt.alloc(), bytes).expect(rt, "no refusal");
+    value.try_clone(rt.alloc()).expect(rt, "no refusal") == value
+}
+
+#[test]
+fn values_equal_their_copies(rt: HostRuntime) {
+    for bytes in [
+        ":-9223372036854775808\r\n",
+        "_\r\n",
+        "+OK\r\n",
+        "+a\r\r\n",
+        "#t\r\n",
+        ",-nan\r\n",
+        ",2.67923E+8\r\n",
+        "(349\r\n",
+        "- x\r\n",
+        "-LOADING x\r\n",
+        "!21\r\nSYNTAX invalid syntax\r\n",
+        "$2\r\nab\r\n",
+        "=4\r\nmkd:\r\n",
+        "=7\r\nabc:d:e\r\n",
+        "*3\r\n+OK\r\n-LOADING x\r\n:1\r\n",
+        "~5\r\n+orange\r\n+apple\r\n#t\r\n:100\r\n:999\r\n",
+        "%2\r\n+first\r\n:1\r\n+second\r\n:2\r\n",
+        "|1\r\n+k\r\n:1\r\n:2\r\n",
+        ">2\r\n$7\r\nmessage\r\n:1\r\n",
+        ">0\r\n",
+    ] {
+        assert!(rt; equals_its_copy(&rt, bytes.as_bytes()));
+    }
+    assert!(rt; equals_its_copy(&rt, b"$2\r\n\xFF\0\r\n"));
 }
 
 #[test]
@@ -239,18 +272,12 @@ fn pieces(rt: HostRuntime) {
     let mut parser = Parser::new(rt.alloc());
     assert!(rt; !parser.in_progress());
     parser.feed(b"+a\r").expect(&rt, "no refusal");
-    assert!(rt; parser.take_value().expect(&rt, "no refusal").is_none());
+    assert_eq!(rt; next_shown(&rt, &mut parser).as_str(), "none");
     assert!(rt; parser.in_progress());
     parser.feed(b"\n:1\r\n").expect(&rt, "no refusal");
-    let text = Value::SimpleString(Text::from_str(rt.alloc(), "a").expect(&rt, "no refusal"));
-    assert_eq!(rt; parser.take_value().expect(&rt, "no refusal"), Some(text));
-    assert!(rt;
-        matches!(
-            parser.take_value().expect(&rt, "no refusal"),
-            Some(Value::Int(1))
-        )
-    );
-    assert!(rt; parser.take_value().expect(&rt, "no refusal").is_none());
+    for want in ["simple-string(\"a\")", "int(1)", "none"] {
+        assert_eq!(rt; next_shown(&rt, &mut parser).as_str(), want);
+    }
     assert!(rt; !parser.in_progress());
 }
 
@@ -259,17 +286,18 @@ fn single_bytes(rt: HostRuntime) {
     let mut parser = Parser::new(rt.alloc());
     let bytes = b"*2\r\n$3\r\nabc\r\n:7\r\n";
     for at in 0..bytes.len() {
-        assert!(rt; parser.take_value().expect(&rt, "no refusal").is_none());
+        assert_eq!(rt; next_shown(&rt, &mut parser).as_str(), "none");
         parser.feed(&bytes[at..at + 1]).expect(&rt, "no refusal");
     }
-    assert!(rt;
-        matches!(
-            parser.take_value().expect(&rt, "no refusal"),
-            Some(Value::Array(_))
-        )
-    );
+    let whole = "array([bulk-string('\"abc\"'), int(7)])";
+    assert_eq!(rt; next_shown(&rt, &mut parser).as_str(), whole);
+}
+
+#[test]
+fn a_failed_parser_takes_nothing(rt: HostRuntime) {
+    let mut parser = Parser::new(rt.alloc());
     parser.feed(b"@").expect(&rt, "no refusal");
-    assert!(rt; parser.take_value().is_err());
+    assert_eq!(rt; next_shown(&rt, &mut parser).as_str(), "UnknownType");
     assert!(rt; parser.is_failed() && parser.in_progress());
     let again = parser.feed(b":1\r\n").expect_err(&rt, "a refusal");
     assert_eq!(rt; again.detail(), Some("parser has failed"));
@@ -316,59 +344,46 @@ impl Read for Noting {
 #[test]
 fn sources(rt: HostRuntime) {
     let mut parser = Parser::new(rt.alloc());
-    assert_eq!(rt;
-        parser
-            .parse_value(&b":7\r\n+x\r\n"[..])
-            .expect(&rt, "no refusal"),
-        Value::Int(7)
-    );
+    let first = shown_reply(&rt, parser.parse_value(&b":7\r\n+x\r\n"[..]));
+    assert_eq!(rt; first.as_str(), "int(7)");
     let mut source = Reading::new(Cursor::new(&b"*1\r\n"[..]));
-    assert!(rt;
-        matches!(
-            parser.parse_from(&mut source).expect(&rt, "no refusal"),
-            Value::SimpleString(_)
-        )
-    );
-    let early = parser.parse_from(&mut source);
-    assert_eq!(rt;
-        early.expect_err(&rt, "a refusal").io_kind(),
-        Some(IoKind::UnexpectedEof)
-    );
+    for want in ["simple-string(\"x\")", "UnexpectedEof"] {
+        let reply = shown_reply(&rt, parser.parse_from(&mut source));
+        assert_eq!(rt; reply.as_str(), want);
+    }
     assert!(rt; parser.is_failed());
+}
+
+#[test]
+fn a_source_that_fails(rt: HostRuntime) {
     let mut parser = Parser::new(rt.alloc());
     let mut source = Reading::new(Failing { reads: 0 });
-    let broken = parser.parse_from(&mut source);
-    assert_eq!(rt;
-        broken.expect_err(&rt, "a refusal").io_kind(),
-        Some(IoKind::TimedOut)
-    );
+    let broken = shown_reply(&rt, parser.parse_from(&mut source));
+    assert_eq!(rt; broken.as_str(), "TimedOut");
     assert!(rt; !parser.is_failed() && parser.in_progress());
     assert!(rt; source.into_inner().reads == 2);
     parser.feed(b"2\r\n").expect(&rt, "no refusal");
-    assert_eq!(rt;
-        parser.take_value().expect(&rt, "no refusal"),
-        Some(Value::Int(12))
-    );
+    assert_eq!(rt; next_shown(&rt, &mut parser).as_str(), "int(12)");
+}
+
+#[test]
+fn a_source_is_asked_for_4096(rt: HostRuntime) {
+    let mut parser = Parser::new(rt.alloc());
     let mut source = Reading::new(Noting { most: 0 });
-    assert!(rt; parser.parse_from(&mut source).is_err());
+    let reply = shown_reply(&rt, parser.parse_from(&mut source));
+    assert_eq!(rt; reply.as_str(), "UnknownType");
     assert_eq!(rt; source.into_inner().most, 4096);
 }
 
 #[test]
 fn whole_bytes(rt: HostRuntime) {
-    assert_eq!(rt;
-        parse_redis_value(rt.alloc(), b":7\r\n@").expect(&rt, "no refusal"),
-        Value::Int(7)
-    );
-    let unfinished = parse_redis_value(rt.alloc(), b"*9223372036854775807\r\n:1\r\n");
-    assert_eq!(rt;
-        unfinished.expect_err(&rt, "a refusal").io_kind(),
-        Some(IoKind::UnexpectedEof)
-    );
-    let faulty = parse_redis_value(rt.alloc(), b"$1\r\nabc");
-    assert_eq!(rt;
-        faulty.expect_err(&rt, "a refusal").frame_fault(),
-        Some(FrameFault::BodyEnd)
-    );
+    for (bytes, want) in [
+        (&b":7\r\n@"[..], "int(7)"),
+        (&b"*9223372036854775807\r\n:1\r\n"[..], "UnexpectedEof"),
+        (&b"$1\r\nabc"[..], "BodyEnd"),
+    ] {
+        let reply = shown_reply(&rt, parse_redis_value(rt.alloc(), bytes));
+        assert_eq!(rt; reply.as_str(), want);
+    }
     law_of_prefixes();
 }
