@@ -1,6 +1,7 @@
 //! What the answers of parsers and links show, as texts.
 
 use resp_core::{Parser, RedisError, RedisResult, Value};
+use std::fmt::Debug;
 use std::process::Abort;
 
 /// What a parser or a link answered: the Debug form of the value, or what the refusal shows.
@@ -29,4 +30,9 @@ pub fn next_shown(rt: &(impl Abort + AllocGlobal), parser: &mut Parser) -> Strin
         Ok(None) => String::from_str(rt.alloc(), "none").expect(rt, "no refusal"),
         Err(error) => shown_refusal(rt, error),
     }
+}
+
+/// The Debug form of a value.
+pub fn debug_text<T: Debug + Drop>(rt: &(impl Abort + AllocGlobal), value: T) -> String {
+    format!(in rt.alloc(); "{value:?}").expect(rt, "no refusal")
 }

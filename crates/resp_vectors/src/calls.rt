@@ -1,9 +1,8 @@
 //! What readers and writers are asked for, and how often, over devices that count their calls.
 
+use crate::answers::{next_shown, shown_reply};
 use crate::devices::{ScriptedReader, ScriptedWriter, Step};
-use resp_core::{
-    ByteLink, Cmd, CommandSink, IoKind, Parser, Reading, ReplySource, Value, Writing, cmd,
-};
+use resp_core::{ByteLink, Cmd, CommandSink, IoKind, Parser, Reading, ReplySource, Writing, cmd};
 use std::io::ErrorKind;
 use std::process::Abort;
 
@@ -11,29 +10,27 @@ fn ping(rt: &(impl Abort + AllocGlobal)) -> Cmd {
     cmd(rt.alloc(), "PING").expect(rt, "no refusal")
 }
 
+/// What the parser answers over a reader with this script.
+fn scripted(
+    rt: &(impl Abort + AllocGlobal),
+    parser: &mut Parser,
+    script: &'static [Step],
+) -> String {
+    shown_reply(rt, parser.parse_value(ScriptedReader::new(script)))
+}
+
 #[test]
 fn a_readers_fault_is_its_own(rt: HostRuntime) {
     for (script, want) in [
-        (&[Step::Fails(ErrorKind::TimedOut)][..], IoKind::TimedOut),
-        (
-            &[Step::Fails(ErrorKind::BrokenPipe)][..],
-            IoKind::BrokenPipe,
-        ),
-        (
-            &[Step::Fails(ErrorKind::Interrupted)][..],
-            IoKind::Interrupted,
-        ),
+        (&[Step::Fails(ErrorKind::TimedOut)][..], "TimedOut"),
+        (&[Step::Fails(ErrorKind::BrokenPipe)][..], "BrokenPipe"),
+        (&[Step::Fails(ErrorKind::Interrupted)][..], "Interrupted"),
     ] {
         let mut parser = Parser::new(rt.alloc());
-        let error = parser
-            .parse_value(ScriptedReader::new(script))
-            .expect_err(&rt, "a refusal");
-        assert_eq!(rt; error.io_kind(), Some(want));
+        assert_eq!(rt; scripted(&rt, &mut parser, script).as_str(), want);
         assert!(rt; !parser.is_failed());
-        let reply = parser
-            .parse_value(ScriptedReader::new(&[Step::Moves(b":7\r\n")]))
-            .expect(&rt, "no refusal");
-        assert_eq!(rt; reply, Value::Int(7));
+        let reply = scripted(&rt, &mut parser, &[Step::Moves(b":7\r\n")]);
+        assert_eq!(rt; reply.as_str(), "int(7)");
     }
 }
 
@@ -45,16 +42,13 @@ fn a_buffered_value_asks_for_nothing(rt: HostRuntime) {
     parser
         .feed(b":1\r\n:2\r\n:3\r\n:")
         .expect(&rt, "no refusal");
-    let first = parser.parse_from(&mut source).expect(&rt, "no refusal");
-    assert_eq!(rt; first, Value::Int(1));
-    let second = parser
-        .parse_value(ScriptedReader::new(script))
-        .expect(&rt, "no refusal");
-    assert_eq!(rt; second, Value::Int(2));
-    let third = parser.parse_from(&mut source).expect(&rt, "no refusal");
-    assert_eq!(rt; third, Value::Int(3));
-    let error = parser.parse_from(&mut source).expect_err(&rt, "a refusal");
-    assert_eq!(rt; error.io_kind(), Some(IoKind::TimedOut));
+    let first = shown_reply(&rt, parser.parse_from(&mut source));
+    assert_eq!(rt; first.as_str(), "int(1)");
+    assert_eq!(rt; scripted(&rt, &mut parser, script).as_str(), "int(2)");
+    for want in ["int(3)", "TimedOut"] {
+        let reply = shown_reply(&rt, parser.parse_from(&mut source));
+        assert_eq!(rt; reply.as_str(), want);
+    }
     assert_eq!(rt; source.into_inner().calls, 1);
 }
 
@@ -62,16 +56,14 @@ fn a_buffered_value_asks_for_nothing(rt: HostRuntime) {
 fn values_buffered_after_a_reader_ended(rt: HostRuntime) {
     let mut parser = Parser::new(rt.alloc());
     parser.feed(b":1\r\n:2\r\n").expect(&rt, "no refusal");
-    let first = parser.parse_value(&b""[..]).expect(&rt, "no refusal");
-    assert_eq!(rt; first, Value::Int(1));
-    let second = parser.take_value().expect(&rt, "no refusal");
-    assert_eq!(rt; second, Some(Value::Int(2)));
-    let third = parser
-        .parse_value(&b":3\r\n:4\r\n"[..])
-        .expect(&rt, "no refusal");
-    assert_eq!(rt; third, Value::Int(3));
-    let fourth = parser.take_value().expect(&rt, "no refusal");
-    assert_eq!(rt; fourth, Some(Value::Int(4)));
+    for (bytes, parsed, taken) in [
+        (&b""[..], "int(1)", "int(2)"),
+        (&b":3\r\n:4\r\n"[..], "int(3)", "int(4)"),
+    ] {
+        let reply = shown_reply(&rt, parser.parse_value(bytes));
+        assert_eq!(rt; reply.as_str(), parsed);
+        assert_eq!(rt; next_shown(&rt, &mut parser).as_str(), taken);
+    }
 }
 
 #[test]
@@ -83,12 +75,11 @@ fn parse_value_reads_no_further(rt: HostRuntime) {
     ];
     let mut reader = ScriptedReader::new(script);
     let mut parser = Parser::new(rt.alloc());
-    let first = parser.parse_value(&mut reader).expect(&rt, "no refusal");
-    assert_eq!(rt; first, Value::Int(1));
-    assert_eq!(rt; reader.calls, 2);
-    let second = parser.parse_value(&mut reader).expect(&rt, "no refusal");
-    assert_eq!(rt; second, Value::Int(2));
-    assert_eq!(rt; reader.calls, 3);
+    for (want, calls) in [("int(1)", 2), ("int(2)", 3)] {
+        let reply = shown_reply(&rt, parser.parse_value(&mut reader));
+        assert_eq!(rt; reply.as_str(), want);
+        assert_eq!(rt; reader.calls, calls);
+    }
 }
 
 #[test]
@@ -181,18 +172,14 @@ fn at_most_4096_bytes_a_read(rt: HostRuntime) {
         Step::Moves(b"x"),
     ];
     let mut parser = Parser::new(rt.alloc());
-    let early = parser.parse_value(ScriptedReader::new(script));
     assert_eq!(rt;
-        early.expect_err(&rt, "a refusal").io_kind(),
-        Some(IoKind::UnexpectedEof)
+        scripted(&rt, &mut parser, script).as_str(),
+        "UnexpectedEof"
     );
     let mut parser = Parser::new(rt.alloc());
     let mut source = Reading::new(ScriptedReader::new(script));
-    let early = parser.parse_from(&mut source);
-    assert_eq!(rt;
-        early.expect_err(&rt, "a refusal").io_kind(),
-        Some(IoKind::UnexpectedEof)
-    );
+    let early = shown_reply(&rt, parser.parse_from(&mut source));
+    assert_eq!(rt; early.as_str(), "UnexpectedEof");
     let reader = source.into_inner();
     assert_eq!(rt; (reader.calls, reader.most), (5, 4096));
 }

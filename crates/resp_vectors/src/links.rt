@@ -1,8 +1,9 @@
 //! Queries over a link.
 
+use crate::answers::shown_reply;
 use crate::devices::{Dropping, Full};
 use resp_core::{
-    ByteLink, Cmd, CommandSink, ErrorKind, FrameFault, IoKind, Reading, ReplySource,
+    ByteLink, Cmd, CommandSink, ErrorKind, FrameFault, IoKind, Reading, RedisError, ReplySource,
     ServerErrorKind, Value, Writing, cmd,
 };
 use std::io::Cursor;
@@ -20,6 +21,11 @@ fn get(rt: &(impl Abort + AllocGlobal)) -> Cmd {
     let mut get = cmd(rt.alloc(), "GET").expect(rt, "no refusal");
     get.push_arg("k").expect(rt, "no refusal");
     get
+}
+
+/// The refusal of a query for a number.
+fn refusal(rt: &(impl Abort + AllocGlobal), link: &mut MemoryLink) -> RedisError {
+    get(rt).query::<i64>(link).expect_err(rt, "a refusal")
 }
 
 #[test]
@@ -48,10 +54,7 @@ fn server_error_leaves_it_usable(rt: HostRuntime) {
         .query::<Value>(&mut link)
         .expect_err(&rt, "a refusal");
     assert_eq!(rt; error.category(), "busy loading");
-    let error = get(&rt)
-        .query::<i64>(&mut link)
-        .expect_err(&rt, "a refusal");
-    assert_eq!(rt; error.kind(), ErrorKind::Parse);
+    assert_eq!(rt; refusal(&rt, &mut link).kind(), ErrorKind::Parse);
     assert!(rt; !link.is_broken());
     let last: i64 = get(&rt).query(&mut link).expect(&rt, "no refusal");
     assert_eq!(rt; last, 7);
@@ -60,15 +63,10 @@ fn server_error_leaves_it_usable(rt: HostRuntime) {
 #[test]
 fn faulty_prefix_breaks_it(rt: HostRuntime) {
     let mut link = link_over(&rt, b":x\r\n:7\r\n");
-    let error = get(&rt)
-        .query::<i64>(&mut link)
-        .expect_err(&rt, "a refusal");
+    let error = refusal(&rt, &mut link);
     assert_eq!(rt; error.frame_fault(), Some(FrameFault::NotInteger));
     assert!(rt; link.is_broken());
-    let error = get(&rt)
-        .query::<i64>(&mut link)
-        .expect_err(&rt, "a refusal");
-    assert_eq!(rt; error.kind(), ErrorKind::Io);
+    assert_eq!(rt; refusal(&rt, &mut link).kind(), ErrorKind::Io);
 }
 
 #[test]
@@ -88,7 +86,8 @@ fn no_response_reads_nothing(rt: HostRuntime) {
     let mut link = link_over(&rt, b":7\r\n");
     let mut publish = get(&rt);
     let _ = publish.set_no_response(true);
-    assert!(rt; publish.query::<Value>(&mut link).expect(&rt, "no refusal") == Value::Nil);
+    let nothing = shown_reply(&rt, publish.query(&mut link));
+    assert_eq!(rt; nothing.as_str(), "nil");
     let reply: i64 = get(&rt).query(&mut link).expect(&rt, "no refusal");
     assert_eq!(rt; reply, 7);
 }
@@ -109,7 +108,7 @@ fn exec_wants_no_value(rt: HostRuntime) {
 }
 
 #[test]
-fn devices_that_fail(rt: HostRuntime) {
+fn a_reader_that_fails_breaks_it(rt: HostRuntime) {
     let reader = Dropping::new(b"$1\r\n", 1);
     let mut link = ByteLink::new(rt.alloc(), reader, Vec::new(rt.alloc()));
     let error = get(&rt)
@@ -117,6 +116,10 @@ fn devices_that_fail(rt: HostRuntime) {
         .expect_err(&rt, "a refusal");
     assert_eq!(rt; error.io_kind(), Some(IoKind::TimedOut));
     assert!(rt; link.is_broken());
+}
+
+#[test]
+fn a_full_writer_breaks_it(rt: HostRuntime) {
     let mut full = ByteLink::new(rt.alloc(), Dropping::new(b":7\r\n", 0), Full::new(3));
     let error = get(&rt)
         .query::<i64>(&mut full)
