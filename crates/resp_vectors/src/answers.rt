@@ -12,7 +12,7 @@ pub fn shown_reply(rt: &(impl Abort + AllocGlobal), reply: RedisResult<Value>) -
     }
 }
 
-/// The fault of the refusal's bytes, or else the kind of its device's fault, or else its Debug form.
+/// The fault of the refused bytes, else the kind of the device's fault, else the Debug form.
 pub fn shown_refusal(rt: &(impl Abort + AllocGlobal), error: RedisError) -> String {
     if let Some(fault) = error.frame_fault() {
         return format!(in rt.alloc(); "{fault:?}").expect(rt, "no refusal");

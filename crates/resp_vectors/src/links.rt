@@ -28,6 +28,16 @@ fn refusal(rt: &(impl Abort + AllocGlobal), link: &mut MemoryLink) -> RedisError
     get(rt).query::<i64>(link).expect_err(rt, "a refusal")
 }
 
+/// The refusal of a query for a whole reply.
+fn refused_reply(rt: &(impl Abort + AllocGlobal), link: &mut MemoryLink) -> RedisError {
+    get(rt).query::<Value>(link).expect_err(rt, "a refusal")
+}
+
+/// The number that a query answers.
+fn number(rt: &(impl Abort + AllocGlobal), link: &mut MemoryLink) -> i64 {
+    get(rt).query(link).expect(rt, "no refusal")
+}
+
 #[test]
 fn a_query_in_one_line(rt: HostRuntime) -> Result<(), Fail> {
     let mut link = link_over(&rt, b"$1\r\n1\r\n");
@@ -39,9 +49,8 @@ fn a_query_in_one_line(rt: HostRuntime) -> Result<(), Fail> {
 #[test]
 fn later_reply_is_kept(rt: HostRuntime) {
     let mut link = link_over(&rt, b"$2\r\n42\r\n:7\r\n");
-    let first: i64 = get(&rt).query(&mut link).expect(&rt, "no refusal");
-    let second: i64 = get(&rt).query(&mut link).expect(&rt, "no refusal");
-    assert_eq!(rt; (first, second), (42, 7));
+    assert_eq!(rt; number(&rt, &mut link), 42);
+    assert_eq!(rt; number(&rt, &mut link), 7);
     let (_source, sink) = link.into_ends();
     let sent = sink.into_inner();
     assert_eq!(rt; sent.len(), 40);
@@ -50,14 +59,10 @@ fn later_reply_is_kept(rt: HostRuntime) {
 #[test]
 fn server_error_leaves_it_usable(rt: HostRuntime) {
     let mut link = link_over(&rt, b"*2\r\n:1\r\n-LOADING\r\n+x\r\n:7\r\n");
-    let error = get(&rt)
-        .query::<Value>(&mut link)
-        .expect_err(&rt, "a refusal");
-    assert_eq!(rt; error.category(), "busy loading");
+    assert_eq!(rt; refused_reply(&rt, &mut link).category(), "busy loading");
     assert_eq!(rt; refusal(&rt, &mut link).kind(), ErrorKind::Parse);
     assert!(rt; !link.is_broken());
-    let last: i64 = get(&rt).query(&mut link).expect(&rt, "no refusal");
-    assert_eq!(rt; last, 7);
+    assert_eq!(rt; number(&rt, &mut link), 7);
 }
 
 #[test]
@@ -88,8 +93,7 @@ fn no_response_reads_nothing(rt: HostRuntime) {
     let _ = publish.set_no_response(true);
     let nothing = shown_reply(&rt, publish.query(&mut link));
     assert_eq!(rt; nothing.as_str(), "nil");
-    let reply: i64 = get(&rt).query(&mut link).expect(&rt, "no refusal");
-    assert_eq!(rt; reply, 7);
+    assert_eq!(rt; number(&rt, &mut link), 7);
 }
 
 #[test]
