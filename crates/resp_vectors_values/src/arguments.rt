@@ -223,7 +223,7 @@ fn owners_are_what_they_hold(rt: HostRuntime) {
 }
 
 #[test]
-fn tuples_are_their_parts(rt: HostRuntime) {
+fn tuples_are_their_elements(rt: HostRuntime) {
     gives(&rt, &("a",), "1:a ", 1);
     gives(&rt, &("a", Some(2i64)), "1:a 1:2 ", 2);
     gives(&rt, &("a", None::<i64>), "1:a ", 2);
