@@ -95,6 +95,18 @@ impl<T: Drop> Items<T> {
     }
 }
 
+impl<T: Copy + Drop> Items<T> {
+    /// Adds copies of the elements of a slice at the end; on `OutOfMemory` the elements stay as they
+    /// were.
+    pub fn extend_from_slice(&mut self, items: &[T]) -> Result<(), AllocError>
+        ensures ok { OnOk result (self.new ≡ self.old ++ items.now) }
+        ensures err { OnErr result (self.new ≡ self.old) }
+    {
+        self.items.extend_from_slice(items)?;
+        Ok(())
+    }
+}
+
 impl<T: Copy> Items<T> {
     /// A copy of the elements of a slice.
     pub fn from_slice(alloc: Global, items: &[T]) -> Result<Items<T>, AllocError>

@@ -1,12 +1,12 @@
--- A plain parser that asked a source once.
-use Rattle.std.proofs.Common.{◌≡◌, ℕ, zero, suc, ◌∷◌, ◌<◌, ◌≤◌, Bool, true, false, List, [], ◌++◌, length, take, drop, refl, ap, sym, ◌∙◌, arith, Ok, Err}
+-- A parser that asked a source once.
+use Rattle.std.proofs.Common.{◌≡◌, ℕ, zero, suc, ◌∷◌, ◌<◌, ◌≤◌, Bool, true, false, List, [], ◌++◌, length, take, refl, ap, sym, ◌∙◌, arith, Ok, Err}
 use Rattle.resp_errors.specs.declared.kinds.IoKind.{IoKind}
 use Rattle.resp_errors.specs.declared.kinds.IoKind.TheVariants.{UnexpectedEof}
 use Rattle.resp_errors.specs.declared.redis_error.RedisError.TheVariants as form
 use Rattle.resp_parse.specs.State.{State, StandsAfter}
 use Rattle.resp_parse.specs.Source.{Source, Fills}
 use Rattle.resp_parse.specs.Calls.{Filled, Asks, CannotFill}
-use Rattle.resp_parse.proofs.ParserStates.{StandsAfter-works, state_of, StandsAfter-from_unparsed, FailedAfter-from_unparsed, StandsAfter-unparsed, StandsAfter-fed}
+use Rattle.resp_parse.proofs.ParserStates.{StandsAfter-works, StandsAfter-since, StandsAfter-from_since, StandsAfter-fed, FailedAfter-failed}
 
 pub take-some : (n : ℕ) (xs : List ℕ) → (n ≡ 0 → ⊥) → 0 < length xs → 0 < length (take n xs)
 take-some zero xs some l = absurd (some refl)
@@ -18,37 +18,31 @@ take-most zero xs = omega arith
 take-most (suc n) [] = omega arith
 take-most (suc n) (x ∷ xs) = let h : length (take n xs) ≤ n = take-most n xs in omega arith
 
--- the buffer had these bytes, and has them still
-module _ (now : State) (b buffer buffer' : List ℕ) (consumed : ℕ) (failed : Bool) (e : state_of buffer consumed failed ≡ now) (k : buffer' ≡ buffer) (h : StandsAfter now b) where
-  unparsed : b ≡ drop consumed buffer'
-  unparsed = StandsAfter-unparsed now b h ∙ sym (ap (λ (s : State). s.unparsed) e) ∙ ap (drop consumed) (sym k)
+-- a parser that was `old` and stood after b
+module _ (old new : State) (b : List ℕ) (h : StandsAfter old b) where
+  pub Asks-out_of_memory : new.failed ≡ true → new.since ≡ old.since → (s : Source) → CannotFill b form.OutOfMemory new s s
+  Asks-out_of_memory w e s = CannotFill.out_of_memory refl (λ _. refl) refl (FailedAfter-failed old new b h w e)
 
-  works : failed ≡ false
-  works = ap (λ (s : State). s.failed) e ∙ StandsAfter-works now b h
-
-  pub Asks-out_of_memory : (s : Source) → CannotFill b form.OutOfMemory (state_of buffer' consumed true) s s
-  Asks-out_of_memory s = CannotFill.out_of_memory refl (λ _. refl) refl (FailedAfter-from_unparsed (state_of buffer' consumed true) b refl unparsed)
-
-  pub Asks-early_end : (s t : Source) (before after : List ℕ) (n : ℕ) → n ≡ 0 → 0 < length before → Fills s t before after (Ok n) → CannotFill b (form.Io UnexpectedEof) (state_of buffer' consumed true) s t
-  Asks-early_end s t before after n z l f =
+  pub Asks-early_end : new.failed ≡ true → new.since ≡ old.since → (s t : Source) (before after : List ℕ) (n : ℕ) → n ≡ 0 → 0 < length before → Fills s t before after (Ok n) → CannotFill b (form.Io UnexpectedEof) new s t
+  Asks-early_end w e s t before after n z l f =
       CannotFill.early_end refl (λ obs. (f.bytes obs).0 ∙ ap (λ m. take m after ++ t.bytes) z) (λ obs. (f.bytes obs).1 z l) f.failures
-      (FailedAfter-from_unparsed (state_of buffer' consumed true) b refl unparsed)
+      (FailedAfter-failed old new b h w e)
 
-  pub Asks-source_failed : (s t : Source) (before after : List ℕ) (kind : IoKind) → Fills s t before after (Err kind) → CannotFill b (form.Io kind) (state_of buffer' consumed failed) s t
-  Asks-source_failed s t before after kind f =
-      CannotFill.source_failed kind refl (λ obs. sym (f.bytes obs)) f.failures (StandsAfter-from_unparsed (state_of buffer' consumed failed) b works unparsed)
+  pub Asks-source_failed : new.failed ≡ old.failed → new.since ≡ old.since → (s t : Source) (before after : List ℕ) (kind : IoKind) → Fills s t before after (Err kind) → CannotFill b (form.Io kind) new s t
+  Asks-source_failed w e s t before after kind f =
+      CannotFill.source_failed kind refl (λ obs. sym (f.bytes obs)) f.failures (StandsAfter-from_since new b (w ∙ StandsAfter-works old b h) (StandsAfter-since old b h ∙ sym e))
 
-  filled : (s t : Source) (before after more : List ℕ) (n : ℕ) → consumed ≤ length buffer → more ≡ buffer' ++ take n after → Fills s t before after (Ok n) → Filled b (state_of more consumed failed) s t
-  filled s t before after more n l m f = record {
+  filled : (s t : Source) (before after : List ℕ) (n : ℕ) → new.failed ≡ old.failed → new.since ≡ old.since ++ take n after → Fills s t before after (Ok n) → Filled b new s t
+  filled s t before after n w e f = record {
     filled = take n after;
     came = λ obs. (f.bytes obs).0;
-    stands = StandsAfter-fed now b (take n after) buffer more consumed failed e l (m ∙ ap (λ x. x ++ take n after) k) h (StandsAfter-works now b h);
+    stands = StandsAfter-fed old new b (take n after) h w e;
     failures = f.failures;
   }
 
-  pub Asks-filled : (s t : Source) (before after more : List ℕ) (n : ℕ) → consumed ≤ length buffer → more ≡ buffer' ++ take n after → Fills s t before after (Ok n) → length before ≤ 4096 → 0 < length (take n after) → Asks b (state_of more consumed failed) s t (Ok tt)
+  pub Asks-filled : new.failed ≡ old.failed → (s t : Source) (before after : List ℕ) (n : ℕ) → new.since ≡ old.since ++ take n after → Fills s t before after (Ok n) → length before ≤ 4096 → 0 < length (take n after) → Asks b new s t (Ok tt)
   unfolding filled
-  Asks-filled s t before after more n l m f size some =
+  Asks-filled w s t before after n e f size some =
       let most : length (take n after) ≤ n = take-most n after in
       let bound : n ≤ length before = f.bound in
-      record { more = filled s t before after more n l m f; some = some; size = omega (arith, most, bound, size) }
+      record { more = filled s t before after n w e f; some = some; size = omega (arith, most, bound, size) }

@@ -1,14 +1,12 @@
 -- The first line of bytes, by the place of its LF.
-use Rattle.std.proofs.Common.{◌≡◌, ℕ, zero, suc, ◌+◌, ◌-◌, ◌<◌, ◌≤◌, true, false, ◌&&◌, ◌==◌, List, [], ◌∷◌, length, take, drop, get_or, refl, ap, sym, subst, ◌∙◌, arith}
+use Rattle.std.proofs.Common.{◌≡◌, ℕ, zero, suc, ◌+◌, ◌-◌, ◌<◌, ◌≤◌, true, false, ◌&&◌, ◌==◌, List, [], ◌∷◌, ◌++◌, length, take, drop, get_or, refl, ap, sym, subst, ◌∙◌, arith, Some}
 use Rattle.std.proofs.lemmas.Bool.{and_parts, and_from}
 use Rattle.std.proofs.lemmas.Bool.Decides.{Decides-eqb}
 use Rattle.std.proofs.lemmas.Grind.{common_steps}
+use Rattle.resp_parse.specs.Lines.{NoneBefore, Scanned}
 use Rattle.resp_parse.specs.PlainReading.{got, unfinished, line}
+use Rattle.resp_parse.specs.Resume.{FindsLine}
 use Rattle.resp_parse.proofs.ByteTests.{not_true, eq_true}
-
--- no CR LF ends before place m
-abbrev pub NoneBefore : List ℕ → ℕ → Type 0
-NoneBefore bs m = (k : ℕ) → suc k < m → get_or bs k 0 ≡ 13 → get_or bs (suc k) 0 ≡ 10 → ⊥
 
 -- no CR LF stands at the start
 not_here : (b c : ℕ) (bs : List ℕ) (m : ℕ) → NoneBefore (b ∷ c ∷ bs) m → 1 < m → ((b == 13) && (c == 10)) ≡ false
@@ -34,10 +32,23 @@ line-found (b ∷ c ∷ bs) (suc i) none l cr lf =
     rw (here, later) refl
 
 -- the LF stands at `at`
-pub line-at : (bs : List ℕ) (at : ℕ) → 1 ≤ at → NoneBefore bs at → at < length bs → get_or bs (at - 1) 0 ≡ 13 → get_or bs at 0 ≡ 10 →
-    line bs ≡ got (take (at - 1) bs) (take (length bs - (at + 1)) (drop (at + 1) bs))
+pub line-at : (bs : List ℕ) (at : ℕ) → 1 ≤ at → NoneBefore bs at → at < length bs → get_or bs (at - 1) 0 ≡ 13 → get_or bs at 0 ≡ 10 → FindsLine bs (Some (at - 1))
 line-at bs at one none l cr lf =
     let e : suc (at - 1) ≡ at = omega arith in
     let found = line-found bs (at - 1) (subst (NoneBefore bs) (sym e) none) (omega arith) cr (ap (λ k. get_or bs k 0) e ∙ lf) in
-    let rest : take (length bs - (at + 1)) (drop (at + 1) bs) ≡ drop (suc (suc (at - 1))) bs = grind (arith, common_steps) in
-    found ∙ ap (λ s. got (take (at - 1) bs) s) (sym rest)
+    let z : suc (suc (at - 1)) ≡ (at - 1) + 2 = omega arith in
+    (omega arith, found ∙ ap (λ k. got (take (at - 1) bs) (drop k bs)) z)
+
+-- a line that was looked at goes on
+get_or-append : (bs more : List ℕ) (k : ℕ) → k < length bs → get_or (bs ++ more) k 0 ≡ get_or bs k 0
+get_or-append [] more k l = absurd (omega arith)
+get_or-append (b ∷ bs) more zero l = refl
+get_or-append (b ∷ bs) more (suc k) l = get_or-append bs more k (omega arith)
+
+pub Scanned-longer : (bs more : List ℕ) (n : ℕ) → Scanned bs n → Scanned (bs ++ more) n
+Scanned-longer bs more n h =
+    let w : n ≤ length bs = h.within in
+    record {
+      within = grind (arith, common_steps);
+      none = λ k l cr lf. h.none k l (sym (get_or-append bs more k (omega arith)) ∙ cr) (sym (get_or-append bs more (suc k) (omega arith)) ∙ lf);
+    }

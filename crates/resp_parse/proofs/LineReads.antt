@@ -1,5 +1,5 @@
 -- Reading a line gives the text before the first CR LF.
-use Rattle.std.proofs.Common.{◌≡◌, ℕ, Bool, true, false, cond, ◌&&◌, ◌==◌, List, [], ◌∷◌, ◌++◌, refl, ap, subst, ◌∙◌, arith}
+use Rattle.std.proofs.Common.{◌≡◌, ℕ, Bool, true, false, cond, ◌&&◌, ◌==◌, List, [], ◌∷◌, ◌++◌, refl, ap, subst, ◌∙◌, append_assoc, arith}
 use Rattle.std.proofs.lemmas.Bool.{and_parts, and_from}
 use Rattle.std.proofs.lemmas.Bool.Decides.{Decides-eqb}
 use Rattle.resp_errors.specs.declared.kinds.FrameFault.{FrameFault}
@@ -73,3 +73,9 @@ line-no_fault (b ∷ c ∷ bs) rest f e = by_test (λ k. line-no_fault (c ∷ bs
     by_test : (line (c ∷ bs) ≡ fault f rest → ⊥) → (m : Bool) → cond m (got [] bs) (then (line (c ∷ bs)) (λ u r. got (b ∷ u) r)) ≡ fault f rest → ⊥
     by_test later true k = cc
     by_test later false k = elim (then-fault (line (c ∷ bs)) (λ u r. got (b ∷ u) r) f rest k) [ at_first h ↦ later h | at_next p ↦ let z = p.next in cc ]
+
+-- more bytes after a line stand after it
+pub line-longer : (bs more text rest : List ℕ) → line bs ≡ got text rest → line (bs ++ more) ≡ got text (rest ++ more)
+line-longer bs more text rest e =
+    let p = line-got bs text rest e in
+    ap (λ s. line (s ++ more)) p.0 ∙ ap line (append_assoc text (crlf ++ rest) more) ∙ line-reads text (rest ++ more) p.1

@@ -1,29 +1,25 @@
--- What the states of a parser say of the bytes that it holds: it holds those since the last value.
-use Rattle.std.proofs.Common.{◌≡◌, ◌≢◌, ℕ, zero, suc, ◌<◌, ◌≤◌, Bool, true, false, List, [], ◌∷◌, ◌++◌, ◌⊎◌, inl, inr, length, drop, refl, ap, sym, ◌∙◌, arith}
-use Rattle.std.proofs.lemmas.Grind.{common_steps}
+-- What the states of a parser say of the bytes since the last value.
+use Rattle.std.proofs.Common.{◌≡◌, ℕ, Bool, true, false, List, ◌++◌, ◌⊎◌, inl, inr, sym, ap, ◌∙◌}
 use Rattle.resp_parse.specs.State.{State, StandsAfter, FailedAfter, IsBetweenValues}
 
-abbrev pub state_of : List ℕ → ℕ → Bool → State
-state_of buffer consumed failed = record { unparsed = drop consumed buffer; failed = failed }
+abbrev pub state_of : List ℕ → List ℕ → Bool → State
+state_of unparsed since failed = record { unparsed = unparsed; since = since; failed = failed }
 
-pub StandsAfter-from_unparsed : (s : State) (b : List ℕ) → s.failed ≡ false → b ≡ s.unparsed → StandsAfter s b
+pub StandsAfter-from_since : (s : State) (b : List ℕ) → s.failed ≡ false → b ≡ s.since → StandsAfter s b
 unfolding StandsAfter
-StandsAfter-from_unparsed s b w e = (w, e)
+StandsAfter-from_since s b w e = (w, e)
 
-pub FailedAfter-from_unparsed : (s : State) (b : List ℕ) → s.failed ≡ true → b ≡ s.unparsed → FailedAfter s b
+pub FailedAfter-from_since : (s : State) (b : List ℕ) → s.failed ≡ true → b ≡ s.since → FailedAfter s b
 unfolding FailedAfter
-FailedAfter-from_unparsed s b w e = (w, e)
+FailedAfter-from_since s b w e = (w, e)
 
-pub StandsAfter-unparsed : (s : State) (b : List ℕ) → StandsAfter s b → b ≡ s.unparsed
+pub StandsAfter-since : (s : State) (b : List ℕ) → StandsAfter s b → b ≡ s.since
 unfolding StandsAfter
-StandsAfter-unparsed s b h = h.1
+StandsAfter-since s b h = h.1
 
-FailedAfter-unparsed : (s : State) (b : List ℕ) → FailedAfter s b → b ≡ s.unparsed
+FailedAfter-since : (s : State) (b : List ℕ) → FailedAfter s b → b ≡ s.since
 unfolding FailedAfter
-FailedAfter-unparsed s b h = h.1
-
-pub IsBetweenValues-from_works : (s : State) → s.failed ≡ false → IsBetweenValues s
-IsBetweenValues-from_works s w = record { stands = StandsAfter-from_unparsed s s.unparsed w refl; only = λ b h. StandsAfter-unparsed s b h }
+FailedAfter-since s b h = h.1
 
 -- a parser that stands works
 pub StandsAfter-works : (s : State) (b : List ℕ) → StandsAfter s b → s.failed ≡ false
@@ -33,25 +29,29 @@ StandsAfter-works s b h = h.0
 pub StandsAfter-not_failed : (s : State) (b : List ℕ) → StandsAfter s b → s.failed ≡ true → ⊥
 StandsAfter-not_failed s b h e = let w : s.failed ≡ false = StandsAfter-works s b h in let k : false ≡ true = sym w ∙ e in cc
 
+pub StandsOrFailed-since : (s : State) (b : List ℕ) → StandsAfter s b ⊎ FailedAfter s b → b ≡ s.since
+StandsOrFailed-since s b (inl h) = StandsAfter-since s b h
+StandsOrFailed-since s b (inr h) = FailedAfter-since s b h
+
+-- all bytes since the last value are unparsed
+pub IsBetweenValues-from_same : (s : State) → s.failed ≡ false → s.since ≡ s.unparsed → IsBetweenValues s
+IsBetweenValues-from_same s w e = record {
+  stands = StandsAfter-from_since s s.unparsed w (sym e);
+  only = λ b h. StandsAfter-since s b h ∙ e;
+}
+
+pub IsBetweenValues-same : (s : State) → IsBetweenValues s → s.since ≡ s.unparsed
+IsBetweenValues-same s h = sym (StandsAfter-since s s.unparsed h.stands)
+
 -- bytes were added
-pub StandsAfter-fed : (now : State) (b bytes buffer buffer' : List ℕ) (consumed : ℕ) (failed : Bool) → state_of buffer consumed failed ≡ now → consumed ≤ length buffer →
-    buffer' ≡ buffer ++ bytes → StandsAfter now b → now.failed ≡ false → StandsAfter (state_of buffer' consumed failed) (b ++ bytes)
-StandsAfter-fed now b bytes buffer buffer' consumed failed e l k h w =
-    let u : b ≡ drop consumed buffer = StandsAfter-unparsed now b h ∙ sym (ap (λ (s : State). s.unparsed) e) in
-    let f : failed ≡ false = ap (λ (s : State). s.failed) e ∙ w in
-    let d : drop consumed (buffer ++ bytes) ≡ drop consumed buffer ++ bytes = grind (arith, common_steps) in
-    StandsAfter-from_unparsed (state_of buffer' consumed failed) (b ++ bytes) f (ap (λ x. x ++ bytes) u ∙ sym d ∙ ap (drop consumed) (sym k))
+pub StandsAfter-fed : (old new : State) (b bytes : List ℕ) → StandsAfter old b → new.failed ≡ old.failed → new.since ≡ old.since ++ bytes → StandsAfter new (b ++ bytes)
+StandsAfter-fed old new b bytes h f e =
+    StandsAfter-from_since new (b ++ bytes) (f ∙ StandsAfter-works old b h) (ap (λ x. x ++ bytes) (StandsAfter-since old b h) ∙ sym e)
 
-pub StandsOrFailed-unparsed : (s : State) (b : List ℕ) → StandsAfter s b ⊎ FailedAfter s b → b ≡ s.unparsed
-StandsOrFailed-unparsed s b (inl h) = StandsAfter-unparsed s b h
-StandsOrFailed-unparsed s b (inr h) = FailedAfter-unparsed s b h
+pub IsBetweenValues-fed : (old new : State) (bytes : List ℕ) → new.failed ≡ false → new.since ≡ old.since ++ bytes → new.unparsed ≡ old.unparsed ++ bytes → IsBetweenValues old → IsBetweenValues new
+IsBetweenValues-fed old new bytes w e k h =
+    IsBetweenValues-from_same new w (e ∙ ap (λ x. x ++ bytes) (IsBetweenValues-same old h) ∙ sym k)
 
--- bytes are buffered past a place exactly where the place is below the length
-pub drop-not_empty : (buffer : List ℕ) (consumed : ℕ) → consumed < length buffer → drop consumed buffer ≢ []
-drop-not_empty buffer consumed l e = let k : length (drop consumed buffer) ≡ 0 = ap length e in grind (arith, common_steps)
-
-pub below-from_drop : (buffer : List ℕ) (consumed : ℕ) → drop consumed buffer ≢ [] → consumed < length buffer
-below-from_drop [] zero n = absurd (n refl)
-below-from_drop (b ∷ bs) zero n = omega arith
-below-from_drop [] (suc k) n = absurd (n refl)
-below-from_drop (b ∷ bs) (suc k) n = let later : k < length bs = below-from_drop bs k n in omega arith
+-- the parser has failed
+pub FailedAfter-failed : (old new : State) (b : List ℕ) → StandsAfter old b → new.failed ≡ true → new.since ≡ old.since → FailedAfter new b
+FailedAfter-failed old new b h w e = FailedAfter-from_since new b w (StandsAfter-since old b h ∙ sym e)

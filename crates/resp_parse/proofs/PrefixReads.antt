@@ -1,14 +1,10 @@
 -- What reading gives is what stands at the start.
-use Rattle.std.proofs.Common.{◌≡◌, ℕ, ◌-◌, ◌≤◌, List, ◌++◌, length, drop, Ok, Err, Some, refl, ap, sym, ◌∙◌, subst, arith}
-use Rattle.std.proofs.lemmas.Grind.{common_steps}
+use Rattle.std.proofs.Common.{◌≡◌, ℕ, List, ◌++◌, Some, refl, ap, sym, ◌∙◌}
 use Rattle.resp_value.specs.declared.value.Value.{Value}
 use Rattle.resp_errors.specs.declared.kinds.FrameFault.{FrameFault}
-use Rattle.resp_parse.specs.declared.stop.Stop.{Stop}
-use Rattle.resp_parse.specs.declared.stop.Stop.TheVariants.{Memory, Unfinished, Fault}
 use Rattle.resp_parse.specs.PlainReading.{ReadOutcome, got, fault, unfinished, read}
 use Rattle.resp_parse.specs.Prefixes.{HasGoodPrefix, HasFaultyPrefix, IsUnfinished}
-use Rattle.resp_parse.specs.Computes.{Stops, fault_read}
-use Rattle.resp_parse.specs.FirstValue.{FindsFirst}
+use Rattle.resp_parse.specs.Computes.{fault_read}
 use Rattle.resp_parse.proofs.ReadingMeetsGrammar.{read-good, read-faulty, good-reads, faulty-reads}
 
 pub HasGoodPrefix-from_read : (d : ℕ) (b rest : List ℕ) (v : Value) → read d b ≡ got v rest → HasGoodPrefix d b v rest
@@ -33,23 +29,3 @@ no_fault d b e f h = let k : unfinished ≡ fault f h.rest = sym e ∙ ap (read 
 
 pub IsUnfinished-from_read : (d : ℕ) (b : List ℕ) → read d b ≡ unfinished → IsUnfinished d b
 IsUnfinished-from_read d b e = record { no_value = no_value d b e; no_fault = no_fault d b e }
-
-pub FindsFirst-from_stops : (b : List ℕ) (e : Stop) → Stops e (read 100 b) → FindsFirst b (Err e)
-FindsFirst-from_stops b Memory h = tt
-FindsFirst-from_stops b Unfinished h = IsUnfinished-from_read 100 b h
-FindsFirst-from_stops b (Fault f) h = HasFaultyPrefix-from_fault_read 100 b f (read 100 b) refl h
-
-drop-rest : (b x rest : List ℕ) → b ≡ x ++ rest → drop (length b - length rest) b ≡ rest
-drop-rest b x rest e = rw e (grind (arith, common_steps))
-
-length-rest : (b x rest : List ℕ) → b ≡ x ++ rest → length rest ≤ length b
-length-rest b x rest e = rw e (grind (arith, common_steps))
-
-pub rest-fits : (d : ℕ) (b rest : List ℕ) (v : Value) → read d b ≡ got v rest → length rest ≤ length b
-rest-fits d b rest v e = let h = read-good d b rest v e in length-rest b h.prefix rest h.whole
-
-pub FindsFirst-from_got : (b rest : List ℕ) (v : Value) → read 100 b ≡ got v rest → FindsFirst b (Ok (v, length b - length rest))
-FindsFirst-from_got b rest v e =
-    let h = read-good 100 b rest v e in
-    let k : drop (length b - length rest) b ≡ rest = drop-rest b h.prefix rest h.whole in
-    (omega arith, subst (λ r. HasGoodPrefix 100 b v r) (sym k) (HasGoodPrefix-from_read 100 b rest v e))

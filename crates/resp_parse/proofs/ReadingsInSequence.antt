@@ -1,9 +1,7 @@
 -- One reading after another: what comes of the whole comes of a step.
-use Rattle.std.proofs.Common.{◌≡◌, List, ℕ, refl}
+use Rattle.std.proofs.Common.{◌≡◌, List, ℕ, Some, refl}
 use Rattle.resp_errors.specs.declared.kinds.FrameFault.{FrameFault}
-use Rattle.resp_parse.specs.declared.stop.Stop.{Stop}
-use Rattle.resp_parse.specs.declared.stop.Stop.TheVariants.{Memory, Unfinished, Fault}
-use Rattle.resp_parse.specs.Computes.{Stops}
+use Rattle.resp_parse.specs.Computes.{fault_read}
 use Rattle.resp_parse.specs.PlainReading.{ReadOutcome, got, fault, unfinished, then}
 
 -- the first reading has given something, and the second, from where it ended, this outcome
@@ -28,10 +26,8 @@ then-fault (got x mid) more f rest e = at_next (record { first = x; mid = mid; g
 then-fault (fault g mid) more f rest e = at_first (let k : g ≡ f = cc in let l : mid ≡ rest = cc in cc)
 then-fault unfinished more f rest e = absurd (cc)
 
--- a reading that stops at a step stops as a whole
-pub Stops-then : {A B : Type 0} (e : Stop) (o : ReadOutcome A) (more : A → List ℕ → ReadOutcome B) → Stops e o → Stops e (then o more)
-Stops-then Memory o more h = tt
-Stops-then Unfinished o more h = rw h refl
-Stops-then (Fault f) (got x rest) more h = absurd (cc)
-Stops-then (Fault f) (fault g rest) more h = h
-Stops-then (Fault f) unfinished more h = absurd (cc)
+-- a reading that is at fault at a step is at fault as a whole
+pub fault-then : {A B : Type 0} (o : ReadOutcome A) (more : A → List ℕ → ReadOutcome B) (f : FrameFault) → fault_read o ≡ Some f → fault_read (then o more) ≡ Some f
+fault-then (got x rest) more f e = absurd (cc)
+fault-then (fault g rest) more f e = e
+fault-then unfinished more f e = absurd (cc)

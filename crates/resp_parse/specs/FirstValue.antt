@@ -1,13 +1,11 @@
 -- What is read from the start of bytes that are all there.
-use Rattle.std.specs.Prelude.{◌≡◌, ◌≤◌, ℕ, List, length, drop, Result, Ok, Err}
+use Rattle.std.specs.Prelude.{◌≡◌, ℕ, List, Result, Ok, Err}
 use Rattle.resp_value.specs.declared.value.Value.{Value}
 use Rattle.resp_errors.specs.declared.kinds.FrameFault.{FrameFault}
 use Rattle.resp_errors.specs.declared.kinds.IoKind.TheVariants.{UnexpectedEof}
 use Rattle.resp_errors.specs.declared.parsing_error.ParsingError.TheVariants as parsing
 use Rattle.resp_errors.specs.declared.redis_error.RedisError.{RedisError}
 use Rattle.resp_errors.specs.declared.redis_error.RedisError.TheVariants as form
-use Rattle.resp_parse.specs.declared.stop.Stop.{Stop}
-use Rattle.resp_parse.specs.declared.stop.Stop.TheVariants.{Memory, Unfinished, Fault}
 use Rattle.resp_parse.specs.Prefixes.{HasGoodPrefix, HasFaultyPrefix, IsUnfinished}
 
 -- why no value is read from all of the bytes
@@ -21,10 +19,3 @@ pub data RefusesFirst (b : List ℕ) (e : RedisError) : Type 0 where
 abbrev pub ParsesFirst : List ℕ → Result Value RedisError → Type 0
 ParsesFirst b (Ok v) = (rest : List ℕ) × HasGoodPrefix 100 b v rest
 ParsesFirst b (Err e) = RefusesFirst b e
-
--- the same inside the parser, with the number of bytes that spell the value
-abbrev pub FindsFirst : List ℕ → Result (Value × ℕ) Stop → Type 0
-FindsFirst b (Ok x) = (x.1 ≤ length b) × HasGoodPrefix 100 b x.0 (drop x.1 b)
-FindsFirst b (Err Memory) = Unit {0}
-FindsFirst b (Err Unfinished) = IsUnfinished 100 b
-FindsFirst b (Err (Fault f)) = HasFaultyPrefix 100 b f

@@ -10,6 +10,8 @@ pub mod PlainReading
 pub mod Shapes
 pub mod Computes
 pub mod FirstValue
+pub mod Resume
 pub mod State
+pub mod Kept
 pub mod Source
 pub mod Calls

@@ -9,7 +9,7 @@ use Rattle.resp_parse.specs.declared.shape.ElementsKind.TheVariants as elements_
 use Rattle.resp_parse.specs.declared.shape.Shape.{Shape}
 use Rattle.resp_parse.specs.declared.shape.Shape.TheVariants.{Whole, Body, Elements}
 use Rattle.resp_parse.specs.declared.stop.Stop.{Stop}
-use Rattle.resp_parse.specs.declared.stop.Stop.TheVariants.{Memory, Unfinished, Fault}
+use Rattle.resp_parse.specs.declared.stop.Stop.TheVariants.{Memory, Fault}
 use Rattle.resp_parse.specs.Grammar.{Announcement, complete, body, elements, invalid, bulk_error, verbatim, attribute, push}
 use Rattle.resp_value.specs.Views.{pairs}
 
@@ -37,5 +37,4 @@ announcement_of (Elements kind n) = elements n (elements_value kind)
 abbrev pub Announces : Result Shape Stop → Announcement → Type 0
 Announces (Ok shape) a = a ≡ announcement_of shape
 Announces (Err Memory) a = Unit {0}
-Announces (Err Unfinished) a = ⊥
 Announces (Err (Fault f)) a = a ≡ invalid f

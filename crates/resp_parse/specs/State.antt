@@ -5,18 +5,20 @@ use Rattle.resp_errors.specs.declared.parsing_error.ParsingError.TheVariants as 
 use Rattle.resp_errors.specs.declared.redis_error.RedisError.{RedisError}
 use Rattle.resp_errors.specs.declared.redis_error.RedisError.TheVariants as form
 
--- the bytes that are buffered and not yet parsed, and whether the parser has failed
+-- the bytes that are buffered and not yet parsed; those since the last value that was handed out;
+-- and whether the parser has failed
 pub record State : Type 0 where
   pub unparsed : List ℕ
+  pub since : List ℕ
   pub failed : Bool
 
 -- the parser works, and b are the bytes since the last value that it handed out
 unfoldable pub StandsAfter : State → List ℕ → Type 0
-StandsAfter s b = (s.failed ≡ false) × (b ≡ s.unparsed)
+StandsAfter s b = (s.failed ≡ false) × (b ≡ s.since)
 
 -- the parser has failed, and b are the bytes from the last value handed out up to the failure
 unfoldable pub FailedAfter : State → List ℕ → Type 0
-FailedAfter s b = (s.failed ≡ true) × (b ≡ s.unparsed)
+FailedAfter s b = (s.failed ≡ true) × (b ≡ s.since)
 
 -- the parser has looked at no byte after the last value: it stands after the bytes that it holds,
 -- and after no others

@@ -1,14 +1,17 @@
 #![tactic(auto)]
 //! Reading replies of a RESP server (RESP2 and RESP3) from bytes.
 
-mod body;
 mod double;
+mod frames;
 pub mod laws;
+mod line;
+mod machine;
 mod number;
 mod parser;
 mod prefix;
 mod reading;
 mod shape;
+mod since;
 mod source;
 mod stop;
 mod type_byte;

@@ -4,8 +4,9 @@ ghost use Rattle.std.specs.Prelude.{◌≡◌, ◌≢◌, ◌↔◌, ◌++◌, �
 ghost use Rattle.resp_parse.specs.State.{StandsAfter, FailedAfter, IsBetweenValues, has_failed};
 ghost use Rattle.resp_parse.specs.Calls.{Feeds, Takes, Asks, Parses, ParsesReader};
 
-use crate::prefix::first_value;
+use crate::machine::Machine;
 use crate::reading::Reading;
+use crate::since::Since;
 use crate::source::ReplySource;
 use crate::stop::Stop;
 use resp_value::{IoKind, ParsingError, RedisError, RedisResult, Value};
@@ -29,18 +30,22 @@ const CHUNK: usize = 4096;
 pub struct Parser {
     buffer: Vec<u8>,
     consumed: usize,
+    machine: Machine,
+    since: Since,
     failed: bool,
 }
 
 impl Model for Parser {
-    ghost use Rattle.std.specs.Prelude.{drop, length, ◌≤◌};
+    ghost use Rattle.std.specs.Prelude.{drop};
     ghost use Rattle.resp_parse.specs.State.{State};
+    ghost use Rattle.resp_parse.specs.Kept.{Kept};
 
     ghost Value = { State };
 
-    ghost view = { λ p. record { unparsed = drop p.consumed p.buffer.items; failed = p.failed } };
+    ghost view = { λ p. record { unparsed = drop p.consumed p.buffer.items; since = p.since;
+        failed = p.failed } };
 
-    ghost invariant = { λ p. p.consumed ≤ length p.buffer.items };
+    ghost invariant = { Kept };
 }
 
 impl Parser {
@@ -52,6 +57,8 @@ impl Parser {
         Parser {
             buffer: Vec::new(alloc),
             consumed: 0,
+            machine: Machine::new(alloc),
+            since: Since::new(),
             failed: false,
         }
     }
@@ -70,6 +77,7 @@ impl Parser {
         }
         self.compact();
         self.buffer.extend_from_slice(bytes)?;
+        self.since.append(bytes);
         Ok(())
     }
 
@@ -87,12 +95,16 @@ impl Parser {
             return Err(failed_before());
         }
         let alloc = *self.buffer.allocator();
-        match first_value(alloc, &self.buffer[self.consumed..]) {
-            Ok((value, len)) => {
-                self.consumed += len;
+        match self.machine.drive(alloc, &self.buffer[self.consumed..]) {
+            Ok((taken, Some(value))) => {
+                self.consumed += taken;
+                self.since.restart(&self.buffer[self.consumed..]);
                 Ok(Some(value))
             }
-            Err(Stop::Unfinished) => Ok(None),
+            Ok((taken, None)) => {
+                self.consumed += taken;
+                Ok(None)
+            }
             Err(Stop::Fault(fault)) => {
                 self.failed = true;
                 Err(RedisError::Parse(ParsingError::Fault(fault)))
@@ -160,7 +172,7 @@ impl Parser {
         ensures progress { (b : List ℕ) → StandsAfter self.now b ⊎ FailedAfter self.now b →
             (IsTrue result ↔ (b ≢ [])) }
     {
-        self.consumed < self.buffer.len()
+        self.consumed < self.buffer.len() || !self.machine.is_fresh()
     }
 
     /// Asks the source once, for at most 4,096 bytes, and holds what it gives.
@@ -183,6 +195,7 @@ impl Parser {
             }
             Ok(n) => {
                 self.buffer.extend_from_slice(&chunk[..n])?;
+                self.since.append(&chunk[..n]);
                 Ok(())
             }
             Err(kind) => Err(RedisError::Io(kind)),

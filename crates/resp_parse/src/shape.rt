@@ -27,13 +27,13 @@ pub(crate) enum BodyKind {
 
 impl BodyKind {
     /// The value of a body.
-    pub(crate) fn value(self, alloc: Global, body: &[u8]) -> Result<Value, Stop>
-        ensures value { Computes result (body_value self body.now) }
+    pub(crate) fn value(self, alloc: Global, body: Items<u8>) -> Result<Value, Stop>
+        ensures value { Computes result (body_value self body) }
     {
         match self {
-            BodyKind::Bulk => Ok(Value::BulkString(Items::from_slice(alloc, body)?)),
-            BodyKind::Error => Ok(bulk_error_of(alloc, body)?),
-            BodyKind::Verbatim => verbatim_of(alloc, body),
+            BodyKind::Bulk => Ok(Value::BulkString(body)),
+            BodyKind::Error => Ok(bulk_error_of(alloc, body.as_slice())?),
+            BodyKind::Verbatim => verbatim_of(alloc, body.as_slice()),
         }
     }
 }
@@ -50,15 +50,15 @@ pub(crate) enum ElementsKind {
 
 impl ElementsKind {
     /// The value of the elements.
-    pub(crate) fn value(self, alloc: Global, elements: Vec<Value>) -> Result<Value, Stop>
-        ensures value { Computes result (elements_value self elements.items) }
+    pub(crate) fn value(self, alloc: Global, elements: Items<Value>) -> Result<Value, Stop>
+        ensures value { Computes result (elements_value self elements) }
     {
         match self {
-            ElementsKind::Array => Ok(Value::Array(elements.into())),
-            ElementsKind::Set => Ok(Value::Set(elements.into())),
-            ElementsKind::Map => Ok(Value::Map(pairs_from(alloc, elements)?)),
-            ElementsKind::Attribute => Ok(attribute_of(alloc, elements)?),
-            ElementsKind::Push => Ok(push_of(elements)?),
+            ElementsKind::Array => Ok(Value::Array(elements)),
+            ElementsKind::Set => Ok(Value::Set(elements)),
+            ElementsKind::Map => Ok(Value::Map(pairs_from(alloc, elements.into_vec())?)),
+            ElementsKind::Attribute => Ok(attribute_of(alloc, elements.into_vec())?),
+            ElementsKind::Push => Ok(push_of(elements.into_vec())?),
         }
     }
 }

@@ -1,4 +1,4 @@
-//! Why no value was read.
+//! Why no value can be read.
 
 ghost use Rattle.std.specs.Prelude.{◌≡◌};
 ghost use Rattle.resp_parse.specs.declared.stop.Stop.TheVariants.{Fault, Memory};
@@ -6,13 +6,11 @@ ghost use Rattle.resp_parse.specs.declared.stop.Stop.TheVariants.{Fault, Memory}
 use resp_value::FrameFault;
 use std::alloc::{AllocError, AllocFailed};
 
-/// Why no value was read from the start of bytes.
+/// Why no value can be read.
 #[derive(Debug, Drop)]
 pub(crate) enum Stop {
     /// Memory ran out.
     Memory,
-    /// The bytes end before the value does.
-    Unfinished,
     /// The bytes can't begin a value.
     Fault(FrameFault),
 }

@@ -1,26 +1,39 @@
-use Rattle.std.proofs.Common.{◌∙◌, arith}
+use Rattle.std.proofs.Common.{◌≡◌, ◌≤◌, ◌++◌, false, length, take, refl, ap, sym, ◌∙◌, arith}
 use Rattle.std.proofs.lemmas.Grind.{common_steps}
+use Rattle.resp_parse.specs.State.{State}
 use Rattle.resp_parse.proofs.Asking.{Asks-out_of_memory, Asks-early_end, Asks-source_failed, Asks-filled, take-some}
+use Rattle.resp_parse.proofs.Holding.{Holds-asked, fed-fits}
 use Rattle.resp_parse.proofs.parser.Parser.ask.Goals as goal
 
 pub returns-then-is_err-clause-asks : goal.returns-then-is_err-clause-asks
 returns-then-is_err-clause-asks g c = λ b h.
-    Asks-out_of_memory c.args.self.now b c.self.inside.buffer.items c.reserve.new.self.items c.self.inside.consumed c.self.inside.failed (c.self.view_is ∙ c.compact.ensures.same) c.reserve.ensures.items h
-    (g.S.ReplySource.source c.args.source.now)
+    Asks-out_of_memory c.args.self.now _ b h refl (ap (λ (s : State). s.since) (c.self.view_is ∙ c.compact.ensures.same)) (g.S.ReplySource.source c.args.source.now)
 
 pub returns-in-Ok-eq0-clause-asks : goal.returns-in-Ok-eq0-clause-asks
 returns-in-Ok-eq0-clause-asks g c = λ b h.
-    Asks-early_end c.args.self.now b c.self.inside.buffer.items c.reserve.new.self.items c.self.inside.consumed c.self.inside.failed (c.self.view_is ∙ c.compact.ensures.same) c.reserve.ensures.items h
+    Asks-early_end c.args.self.now _ b h refl (ap (λ (s : State). s.since) (c.self.view_is ∙ c.compact.ensures.same))
     (g.S.ReplySource.source c.args.source.now) (g.S.ReplySource.source c.fill.new.self) _ c.fill.new.buf c.in-Ok-eq0.field-0 c.in-Ok-eq0.field-0-test (grind (arith, common_steps)) c.in-Ok-eq0.ensures.fills
 
 pub returns-in-Err-clause-asks : goal.returns-in-Err-clause-asks
 returns-in-Err-clause-asks g c = λ b h.
-    Asks-source_failed c.args.self.now b c.self.inside.buffer.items c.reserve.new.self.items c.self.inside.consumed c.self.inside.failed (c.self.view_is ∙ c.compact.ensures.same) c.reserve.ensures.items h
+    let e = c.self.view_is ∙ c.compact.ensures.same in
+    Asks-source_failed c.args.self.now _ b h (ap (λ (s : State). s.failed) e) (ap (λ (s : State). s.since) e)
     (g.S.ReplySource.source c.args.source.now) (g.S.ReplySource.source c.fill.new.self) _ c.fill.new.buf c.in-Err.kind c.in-Err.ensures.fills
 
 pub returns-in_ok-extend_from_slice-in-Ok-clause-asks : goal.returns-in_ok-extend_from_slice-in-Ok-clause-asks
 returns-in_ok-extend_from_slice-in-Ok-clause-asks g c = λ b h.
-    Asks-filled c.args.self.now b c.self.inside.buffer.items c.reserve.new.self.items c.self.inside.consumed c.self.inside.failed (c.self.view_is ∙ c.compact.ensures.same) c.reserve.ensures.items h
-    (g.S.ReplySource.source c.args.source.now) (g.S.ReplySource.source c.fill.new.self) _ c.fill.new.buf c.extend_from_slice.new.self.items c.in-Ok.n c.self.invariant
-    c.in_ok-extend_from_slice-in-Ok.ensures.items c.in-Ok.ensures.fills (grind (arith, common_steps))
+    let e = c.self.view_is ∙ c.compact.ensures.same in
+    Asks-filled c.args.self.now _ b h (ap (λ (s : State). s.failed) e)
+    (g.S.ReplySource.source c.args.source.now) (g.S.ReplySource.source c.fill.new.self) _ c.fill.new.buf c.in-Ok.n
+    (c.append.ensures ∙ ap (λ (s : State). s.since ++ take c.in-Ok.n c.fill.new.buf) e) c.in-Ok.ensures.fills (grind (arith, common_steps))
     (take-some c.in-Ok.n c.fill.new.buf c.in-Ok.n-test.1 (grind (arith, common_steps)))
+
+pub invariant_of-self-in-Ok : goal.invariant_of-self-in-Ok
+invariant_of-self-in-Ok g c =
+    let bytes = take c.in-Ok.n c.fill.new.buf in
+    let e = c.in_ok-extend_from_slice-in-Ok.ensures.items ∙ ap (λ x. x ++ bytes) c.reserve.ensures.items in
+    record {
+      consumed = fed-fits c.self.inside.buffer.items c.extend_from_slice.new.self.items bytes c.self.inside.consumed c.self.invariant.consumed e;
+      holds = Holds-asked c.self.inside.machine c.self.inside.buffer.items c.extend_from_slice.new.self.items c.self.inside.since c.append.new.self bytes c.self.inside.consumed c.self.inside.failed c.self.invariant.consumed
+          (take-some c.in-Ok.n c.fill.new.buf c.in-Ok.n-test.1 (grind (arith, common_steps))) c.self.invariant.holds e c.append.ensures;
+    }

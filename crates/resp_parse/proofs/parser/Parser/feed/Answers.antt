@@ -1,17 +1,31 @@
-use Rattle.std.proofs.Common.{◌≡◌, false, ap, sym, ◌∙◌}
+use Rattle.std.proofs.Common.{◌≡◌, ◌≤◌, ◌++◌, drop, length, false, ap, sym, ◌∙◌, arith}
+use Rattle.std.proofs.lemmas.Grind.{common_steps}
 use Rattle.resp_parse.specs.State.{State}
-use Rattle.resp_parse.proofs.ParserStates.{StandsAfter-works, StandsAfter-not_failed, state_of, StandsAfter-fed, IsBetweenValues-from_works}
+use Rattle.resp_parse.proofs.ParserStates.{StandsAfter-works, StandsAfter-not_failed, StandsAfter-fed, IsBetweenValues-fed}
+use Rattle.resp_parse.proofs.Holding.{Holds-fed, fed-fits}
 use Rattle.resp_parse.proofs.parser.Parser.feed.Goals as goal
 
 pub returns-then-self-clause-feeds : goal.returns-then-self-clause-feeds
 returns-then-self-clause-feeds c = λ b h. absurd (StandsAfter-not_failed c.args.self.now b h (sym (ap (λ (s : State). s.failed) c.self.view_is) ∙ c.if-self.true))
 
+pub invariant_of-self-2 : goal.invariant_of-self-2
+invariant_of-self-2 c =
+    let w : c.self-2.inside.failed ≡ false = ap (λ (s : State). s.failed) (c.self-2.view_is ∙ c.compact.ensures.same ∙ sym c.self.view_is) ∙ c.if-self.false in
+    record {
+      consumed = fed-fits c.self-2.inside.buffer.items c.extend_from_slice.new.self.items c.args.bytes.now c.self-2.inside.consumed c.self-2.invariant.consumed c.in_ok-extend_from_slice.ensures.items;
+      holds = Holds-fed c.self-2.inside.machine c.self-2.inside.buffer.items c.extend_from_slice.new.self.items c.self-2.inside.since c.append.new.self c.args.bytes.now c.self-2.inside.consumed c.self-2.inside.failed c.self-2.invariant.consumed w c.self-2.invariant.holds
+          c.in_ok-extend_from_slice.ensures.items c.append.ensures;
+    }
+
 pub returns-clause-feeds : goal.returns-clause-feeds
 returns-clause-feeds c = λ b h.
-    StandsAfter-fed c.args.self.now b c.args.bytes.now c.self-2.inside.buffer.items c.extend_from_slice.new.self.items c.self-2.inside.consumed c.self-2.inside.failed
-    (c.self-2.view_is ∙ c.compact.ensures.same) c.self-2.invariant c.in_ok-extend_from_slice.ensures.items h (StandsAfter-works c.args.self.now b h)
+    let e = c.self-2.view_is ∙ c.compact.ensures.same in
+    StandsAfter-fed c.args.self.now _ b c.args.bytes.now h (ap (λ (s : State). s.failed) e) (c.append.ensures ∙ ap (λ (s : State). s.since ++ c.args.bytes.now) e)
 
 pub returns-clause-rest : goal.returns-clause-rest
-returns-clause-rest c = λ _.
-    let w : c.self-2.inside.failed ≡ false = ap (λ (s : State). s.failed) (c.self-2.view_is ∙ c.compact.ensures.same ∙ sym c.self.view_is) ∙ c.if-self.false in
-    IsBetweenValues-from_works (state_of c.extend_from_slice.new.self.items c.self-2.inside.consumed c.self-2.inside.failed) w
+returns-clause-rest c =
+    let e = c.self-2.view_is ∙ c.compact.ensures.same in
+    let l : c.self-2.inside.consumed ≤ length c.self-2.inside.buffer.items = c.self-2.invariant.consumed in
+    let d : drop c.self-2.inside.consumed (c.self-2.inside.buffer.items ++ c.args.bytes.now) ≡ drop c.self-2.inside.consumed c.self-2.inside.buffer.items ++ c.args.bytes.now = grind (arith, common_steps) in
+    IsBetweenValues-fed c.args.self.now _ c.args.bytes.now (ap (λ (s : State). s.failed) (e ∙ sym c.self.view_is) ∙ c.if-self.false) (c.append.ensures ∙ ap (λ (s : State). s.since ++ c.args.bytes.now) e)
+    (ap (drop c.self-2.inside.consumed) c.in_ok-extend_from_slice.ensures.items ∙ d ∙ ap (λ (s : State). s.unparsed ++ c.args.bytes.now) e)

@@ -1,33 +1,58 @@
-use Rattle.std.proofs.Common.{◌≡◌, ◌-◌, length, take, drop, ap, sym, ◌∙◌, arith}
+use Rattle.std.proofs.Common.{◌≡◌, ◌+◌, ◌-◌, List, ℕ, length, take, drop, ap, sym, ◌∙◌, arith, Ok, Err, Some, None}
 use Rattle.std.proofs.lemmas.Grind.{common_steps}
+use Rattle.resp_parse.specs.declared.stop.Stop.TheVariants as stop
 use Rattle.resp_parse.specs.State.{State}
-use Rattle.resp_parse.proofs.ParserStates.{StandsAfter-not_failed}
-use Rattle.resp_parse.proofs.Taking.{Takes-value, Takes-none, Takes-fault, Takes-memory}
+use Rattle.resp_parse.specs.Resume.{Drives}
+use Rattle.resp_parse.proofs.ParserStates.{StandsAfter-not_failed, StandsAfter-since}
+use Rattle.resp_parse.proofs.Taking.{waits-takes, waits-fits, waits-holds, value-takes, value-fits, value-holds, stops-fault, stops-memory, stops-holds}
 use Rattle.resp_parse.proofs.parser.Parser.take_value.Goals as goal
 
 pub returns-then-self-clause-takes : goal.returns-then-self-clause-takes
 returns-then-self-clause-takes c = λ b h. absurd (StandsAfter-not_failed c.args.self.now b h (sym (ap (λ (s : State). s.failed) c.self.view_is) ∙ c.if-self.true))
 
-pub returns-in-Ok-clause-takes : goal.returns-in-Ok-clause-takes
-returns-in-Ok-clause-takes c = λ b h.
-    let prefix = take (length c.deref.result.now - c.self.inside.consumed) (drop c.self.inside.consumed c.deref.result.now) in
-    let f : prefix ≡ drop c.self.inside.consumed c.self.inside.buffer.items = grind (arith, common_steps, c.deref.ensures.value) in
-    Takes-value c.args.self.now b c.self.inside.buffer.items c.self.inside.consumed c.self.inside.failed c.self.view_is h prefix c.in-Ok.value c.in-Ok.len c.if-self.false f c.in-Ok.ensures.finds
+pub invariant_of-self : goal.invariant_of-self
+invariant_of-self c =
+    let u = take (length c.deref.result.now - c.self.inside.consumed) (drop c.self.inside.consumed c.deref.result.now) in
+    let f : u ≡ drop c.self.inside.consumed c.self.inside.buffer.items = grind (arith, common_steps, c.deref.ensures.value) in
+    let at : ℕ = c.self.inside.consumed + c.in-Ok-default-Some.taken in
+    let x : take (length c.deref-in-Ok-default-Some.result.now - at) (drop at c.deref-in-Ok-default-Some.result.now) ≡ drop at c.self.inside.buffer.items = grind (arith, common_steps, c.deref-in-Ok-default-Some.ensures.value) in
+    let d : Drives c.self.inside.machine u c.drive.new.self (Ok (c.in-Ok-default-Some.taken, Some c.in-Ok-default-Some.value)) = rw c.in-Ok-default-Some.field-0-1-is at c.in-Ok-default-Some.ensures.drives in
+    record {
+      consumed = value-fits c.self.inside.buffer.items c.self.inside.since c.self.inside.consumed c.self.inside.failed c.self.inside.machine c.drive.new.self c.self.invariant.consumed c.self.invariant.holds c.if-self.false u f
+          c.in-Ok-default-Some.taken c.in-Ok-default-Some.value d c.restart.new.self (c.restart.ensures ∙ x);
+      holds = value-holds c.self.inside.buffer.items c.self.inside.since c.self.inside.consumed c.self.inside.failed c.self.inside.machine c.drive.new.self c.self.invariant.consumed c.self.invariant.holds c.if-self.false u f
+          c.in-Ok-default-Some.taken c.in-Ok-default-Some.value d c.restart.new.self (c.restart.ensures ∙ x);
+    }
 
-pub returns-in-Err-Unfinished-clause-takes : goal.returns-in-Err-Unfinished-clause-takes
-returns-in-Err-Unfinished-clause-takes c = λ b h.
-    let prefix = take (length c.deref.result.now - c.self.inside.consumed) (drop c.self.inside.consumed c.deref.result.now) in
-    let f : prefix ≡ drop c.self.inside.consumed c.self.inside.buffer.items = grind (arith, common_steps, c.deref.ensures.value) in
-    let found = rw c.in-Err-Unfinished.field-0-is at c.in-Err-Unfinished.ensures.finds in
-    Takes-none c.args.self.now b c.self.inside.buffer.items c.self.inside.consumed c.self.inside.failed c.self.view_is h prefix f found
+pub returns-in-Ok-default-Some-clause-takes : goal.returns-in-Ok-default-Some-clause-takes
+returns-in-Ok-default-Some-clause-takes c = λ b h.
+    let u = take (length c.deref.result.now - c.self.inside.consumed) (drop c.self.inside.consumed c.deref.result.now) in
+    let f : u ≡ drop c.self.inside.consumed c.self.inside.buffer.items = grind (arith, common_steps, c.deref.ensures.value) in
+    let at : ℕ = c.self.inside.consumed + c.in-Ok-default-Some.taken in
+    let x : take (length c.deref-in-Ok-default-Some.result.now - at) (drop at c.deref-in-Ok-default-Some.result.now) ≡ drop at c.self.inside.buffer.items = grind (arith, common_steps, c.deref-in-Ok-default-Some.ensures.value) in
+    let d : Drives c.self.inside.machine u c.drive.new.self (Ok (c.in-Ok-default-Some.taken, Some c.in-Ok-default-Some.value)) = rw c.in-Ok-default-Some.field-0-1-is at c.in-Ok-default-Some.ensures.drives in
+    value-takes c.self.inside.buffer.items c.self.inside.since c.self.inside.consumed c.self.inside.failed c.self.inside.machine c.drive.new.self c.self.invariant.consumed c.self.invariant.holds c.if-self.false u f
+    c.in-Ok-default-Some.taken c.in-Ok-default-Some.value d c.restart.new.self (c.restart.ensures ∙ x) b (StandsAfter-since c.args.self.now b h ∙ sym (ap (λ (s : State). s.since) c.self.view_is))
+
+pub returns-in-Ok-default-None-clause-takes : goal.returns-in-Ok-default-None-clause-takes
+returns-in-Ok-default-None-clause-takes c = λ b h.
+    let u = take (length c.deref.result.now - c.self.inside.consumed) (drop c.self.inside.consumed c.deref.result.now) in
+    let f : u ≡ drop c.self.inside.consumed c.self.inside.buffer.items = grind (arith, common_steps, c.deref.ensures.value) in
+    let d : Drives c.self.inside.machine u c.drive.new.self (Ok (c.in-Ok-default-None.taken, None)) = rw c.in-Ok-default-None.field-0-1-is at c.in-Ok-default-None.ensures.drives in
+    waits-takes c.self.inside.buffer.items c.self.inside.since c.self.inside.consumed c.self.inside.failed c.self.inside.machine c.drive.new.self c.self.invariant.consumed c.self.invariant.holds c.if-self.false u f
+    c.in-Ok-default-None.taken d b (StandsAfter-since c.args.self.now b h ∙ sym (ap (λ (s : State). s.since) c.self.view_is))
 
 pub returns-in-Err-Fault-clause-takes : goal.returns-in-Err-Fault-clause-takes
 returns-in-Err-Fault-clause-takes c = λ b h.
-    let prefix = take (length c.deref.result.now - c.self.inside.consumed) (drop c.self.inside.consumed c.deref.result.now) in
-    let f : prefix ≡ drop c.self.inside.consumed c.self.inside.buffer.items = grind (arith, common_steps, c.deref.ensures.value) in
-    let found = rw c.in-Err-Fault.field-0-is at c.in-Err-Fault.ensures.finds in
-    Takes-fault c.args.self.now b c.self.inside.buffer.items c.self.inside.consumed c.self.inside.failed c.self.view_is h prefix c.in-Err-Fault.fault f found
+    let u = take (length c.deref.result.now - c.self.inside.consumed) (drop c.self.inside.consumed c.deref.result.now) in
+    let f : u ≡ drop c.self.inside.consumed c.self.inside.buffer.items = grind (arith, common_steps, c.deref.ensures.value) in
+    let d : Drives c.self.inside.machine u c.drive.new.self (Err (stop.Fault c.in-Err-Fault.fault)) = rw c.in-Err-Fault.field-0-is at c.in-Err-Fault.ensures.drives in
+    stops-fault c.self.inside.buffer.items c.self.inside.since c.self.inside.consumed c.self.inside.failed c.self.inside.machine c.drive.new.self c.self.invariant.consumed c.self.invariant.holds c.if-self.false u f
+    c.in-Err-Fault.fault d b (StandsAfter-since c.args.self.now b h ∙ sym (ap (λ (s : State). s.since) c.self.view_is))
 
 pub returns-in-Err-Memory-clause-takes : goal.returns-in-Err-Memory-clause-takes
 returns-in-Err-Memory-clause-takes c = λ b h.
-    Takes-memory c.args.self.now b c.self.inside.buffer.items c.self.inside.consumed c.self.inside.failed c.self.view_is h
+    let u = take (length c.deref.result.now - c.self.inside.consumed) (drop c.self.inside.consumed c.deref.result.now) in
+    let f : u ≡ drop c.self.inside.consumed c.self.inside.buffer.items = grind (arith, common_steps, c.deref.ensures.value) in
+    stops-memory c.self.inside.buffer.items c.self.inside.since c.self.inside.consumed c.self.inside.failed c.self.inside.machine c.drive.new.self c.self.invariant.consumed c.self.invariant.holds c.if-self.false u f
+    b (StandsAfter-since c.args.self.now b h ∙ sym (ap (λ (s : State). s.since) c.self.view_is))

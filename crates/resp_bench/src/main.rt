@@ -1,0 +1,130 @@
+//! `resp_bench`: how fast replies are parsed and commands are packed.
+//!
+//! `resp_bench parse FILE PIECE ROUNDS` feeds the bytes of a file to a parser, PIECE bytes at a time
+//! (0: 16,384), takes each value and drops it. `resp_bench pack WHAT COUNT ROUNDS` packs COUNT times:
+//! `set`, a command of three short arguments, built and packed; `big`, one of an argument of 1 MiB,
+//! built and packed; `big-only`, the same, packed alone; `pipe`, a pipeline of 1,000 of the first.
+//!
+//! Each does one round untimed and then ROUNDS timed ones, and prints how many replies or commands a
+//! round reads or packs, how many bytes those are, and the nanoseconds of CPU time of the best timed
+//! round, 0 if there is none. The exit status is 1 for wrong words, and 2 where the file can't be
+//! read or a call is refused.
+#![tactic(auto)]
+
+mod packing;
+mod parsing;
+
+use packing::{Packing, pack_round};
+use parsing::parse_round;
+use resp_core::RedisResult;
+use std::process::ExitCode;
+use std::time::CpuClock;
+use std::{env, fs, io};
+
+/// What one round did.
+#[derive(Clone, Copy, Debug)]
+pub struct Round {
+    /// Replies or commands.
+    pub units: u64,
+    /// The bytes that spell them.
+    pub bytes: u64,
+}
+
+fn main(rt: HostRuntime) -> ExitCode {
+    ExitCode::from(run(&rt))
+}
+
+fn run(rt: &HostRuntime) -> u8 {
+    let Ok(words) = words(rt) else {
+        return 1;
+    };
+    match words.as_slice() {
+        [task, what, size, rounds] => {
+            let (Ok(size), Ok(rounds)) = (size.parse::<usize>(), rounds.parse::<u64>()) else {
+                return 1;
+            };
+            match task.as_str() {
+                "parse" => parse(rt, what.as_str(), size, rounds),
+                "pack" => pack(rt, what.as_str(), size, rounds),
+                _ => 1,
+            }
+        }
+        _ => 1,
+    }
+}
+
+/// The words after the program's name.
+fn words(rt: &HostRuntime) -> io::Result<Vec<String>> {
+    let mut words = Vec::new(rt.alloc());
+    for word in env::args(rt)?.skip(1) {
+        words.push(word)?;
+    }
+    Ok(words)
+}
+
+fn parse(rt: &HostRuntime, file: &str, piece: usize, rounds: u64) -> u8 {
+    let Ok(bytes) = fs::read(rt, file) else {
+        return 2;
+    };
+    let Ok(round) = parse_round(rt.alloc(), bytes.as_slice(), piece) else {
+        return 2;
+    };
+    let mut best = None;
+    for _ in 0..rounds {
+        let start = now(rt);
+        let Ok(_) = parse_round(rt.alloc(), bytes.as_slice(), piece) else {
+            return 2;
+        };
+        best = quicker(best, now(rt).saturating_sub(start));
+    }
+    print(rt, round, best)
+}
+
+fn pack(rt: &HostRuntime, what: &str, count: usize, rounds: u64) -> u8 {
+    let Some(packing) = Packing::named(what) else {
+        return 1;
+    };
+    let Ok(load) = packing.load(rt.alloc()) else {
+        return 2;
+    };
+    let Ok(round) = pack_round(rt.alloc(), packing, &load, count) else {
+        return 2;
+    };
+    let mut best = None;
+    for _ in 0..rounds {
+        let start = now(rt);
+        let Ok(_) = pack_round(rt.alloc(), packing, &load, count) else {
+            return 2;
+        };
+        best = quicker(best, now(rt).saturating_sub(start));
+    }
+    print(rt, round, best)
+}
+
+/// The less of two times, of which the first may be missing.
+fn quicker(best: Option<u64>, time: u64) -> Option<u64> {
+    match best {
+        Some(best) => Some(best.min(time)),
+        None => Some(time),
+    }
+}
+
+/// The CPU time of this process in nanoseconds; 0 where it isn't known.
+fn now(rt: &HostRuntime) -> u64 {
+    match rt.process_cpu_time() {
+        Ok(time) => time
+            .as_secs()
+            .saturating_mul(1_000_000_000)
+            .saturating_add(time.subsec_nanos() as u64),
+        Err(_) => 0,
+    }
+}
+
+fn print(rt: &HostRuntime, round: Round, best: Option<u64>) -> u8 {
+    let Round { units, bytes } = round;
+    let best = best.unwrap_or(0);
+    match println!(rt; "{units} {bytes} {best}") {
+        Ok(()) => 0,
+        Err(_) => 2,
+    }
+}

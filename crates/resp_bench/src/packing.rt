@@ -1,0 +1,112 @@
+//! Rounds of packing.
+
+use crate::Round;
+use resp_core::{Cmd, Pipeline, RedisResult, cmd, pipe};
+use std::alloc::Global;
+
+const KEY: &str = "key:000000001";
+
+const VALUE: &str = "value-of-twenty-byte";
+
+/// How many bytes the large argument has.
+const LARGE: usize = 1 << 20;
+
+/// How many commands the pipeline has.
+const COMMANDS: usize = 1000;
+
+/// What is packed.
+#[derive(Clone, Copy, Debug)]
+pub enum Packing {
+    Set,
+    Big,
+    BigOnly,
+    Pipe,
+}
+
+/// What is there before the rounds.
+#[derive(Drop)]
+pub struct Load {
+    large: Vec<u8>,
+    command: Cmd,
+}
+
+impl Packing {
+    /// What the word names, if it names one.
+    pub fn named(word: &str) -> Option<Packing> {
+        match word {
+            "set" => Some(Packing::Set),
+            "big" => Some(Packing::Big),
+            "big-only" => Some(Packing::BigOnly),
+            "pipe" => Some(Packing::Pipe),
+            _ => None,
+        }
+    }
+
+    /// The argument and the command that rounds of it need.
+    pub fn load(self, alloc: Global) -> RedisResult<Load> {
+        let mut large = Vec::new(alloc);
+        for _ in 0..LARGE {
+            large.push(b'x')?;
+        }
+        let command = large_command(alloc, large.as_slice())?;
+        Ok(Load { large, command })
+    }
+}
+
+/// Packs `count` times, and adds up the bytes.
+#[inline(never)]
+pub fn pack_round(
+    alloc: Global,
+    packing: Packing,
+    load: &Load,
+    count: usize,
+) -> RedisResult<Round> {
+    let mut bytes: u64 = 0;
+    for _ in 0..count {
+        let packed = match packing {
+            Packing::Set => packed_length(&set_command(alloc)?)?,
+            Packing::Big => packed_length(&large_command(alloc, load.large.as_slice())?)?,
+            Packing::BigOnly => packed_length(&load.command)?,
+            Packing::Pipe => set_pipeline(alloc)?.get_packed_pipeline()?.len() as u64,
+        };
+        bytes = bytes.saturating_add(packed);
+    }
+    let each = match packing {
+        Packing::Pipe => COMMANDS as u64,
+        _ => 1,
+    };
+    Ok(Round {
+        units: each.saturating_mul(count as u64),
+        bytes,
+    })
+}
+
+#[inline(never)]
+fn packed_length(command: &Cmd) -> RedisResult<u64> {
+    Ok(command.get_packed_command()?.len() as u64)
+}
+
+#[inline(never)]
+fn set_command(alloc: Global) -> RedisResult<Cmd> {
+    let mut command = cmd(alloc, "SET")?;
+    command.push_arg(KEY)?;
+    command.push_arg(VALUE)?;
+    Ok(command)
+}
+
+#[inline(never)]
+fn large_command(alloc: Global, large: &[u8]) -> RedisResult<Cmd> {
+    let mut command = cmd(alloc, "SET")?;
+    command.push_arg(KEY)?;
+    command.push_arg(large)?;
+    Ok(command)
+}
+
+#[inline(never)]
+fn set_pipeline(alloc: Global) -> RedisResult<Pipeline> {
+    let mut pipeline = pipe(alloc);
+    for _ in 0..COMMANDS {
+        pipeline.add_command(set_command(alloc)?)?;
+    }
+    Ok(pipeline)
+}

@@ -1,0 +1,142 @@
+-- Bodies that come in pieces.
+use Rattle.std.proofs.Common.{◌≡◌, ℕ, zero, suc, ◌+◌, ◌-◌, ◌<◌, ◌≤◌, min, List, [], ◌∷◌, ◌++◌, length, take, drop, refl, ap, sym, ◌∙◌, append_assoc, subst, arith, Option, Some, None, Ok, Err, true, false}
+use Rattle.std.proofs.lemmas.List.{append-nil}
+use Rattle.std.proofs.lemmas.Grind.{common_steps}
+use Rattle.resp_value.specs.declared.value.Value.{Value}
+use Rattle.resp_errors.specs.declared.kinds.FrameFault.{FrameFault}
+use Rattle.resp_parse.specs.declared.stop.Stop.{Stop}
+use Rattle.resp_parse.specs.declared.stop.Stop.TheVariants.{Memory, Fault}
+use Rattle.resp_parse.specs.declared.machine.Body.{Body}
+use Rattle.resp_parse.specs.declared.machine.Machine.{Machine}
+use Rattle.resp_parse.specs.declared.machine.Step.TheVariants as step
+use Rattle.resp_parse.specs.PlainReading.{ReadOutcome, got, fault, unfinished, then, end_of_body, read_body, made}
+use Rattle.resp_parse.specs.Shapes.{body_value}
+use Rattle.resp_parse.specs.Computes.{Computes, fault_read}
+use Rattle.resp_parse.proofs.ReadingsInSequence.{fault-then}
+use Rattle.resp_parse.specs.Resume.{value_of, place, resume, levels_left, IsScanned, EndsBody, FillsBody, Steps}
+
+pub drop-all : (n : ℕ) (xs : List ℕ) → length xs ≤ n → drop n xs ≡ []
+drop-all zero [] l = refl
+drop-all zero (x ∷ xs) l = absurd (omega arith)
+drop-all (suc n) [] l = refl
+drop-all (suc n) (x ∷ xs) l = drop-all n xs (omega arith)
+
+pub drop-drop : (n k : ℕ) (xs : List ℕ) → drop k (drop n xs) ≡ drop (n + k) xs
+drop-drop n k xs = grind (arith, common_steps)
+
+abbrev in_body : (List ℕ → List ℕ → ReadOutcome Value) → List ℕ → ℕ → List ℕ → ReadOutcome Value
+in_body K bytes n more = then (read_body n more) (λ x rest. K (bytes ++ x) rest)
+
+one_more : (K : List ℕ → List ℕ → ReadOutcome Value) (bytes : List ℕ) (b : ℕ) (o : ReadOutcome (List ℕ)) →
+    then (then o (λ x rest. got (b ∷ x) rest)) (λ x rest. K (bytes ++ x) rest) ≡ then o (λ x rest. K ((bytes ++ b ∷ []) ++ x) rest)
+one_more K bytes b (got x rest) = ap (λ s. K s rest) (sym (append_assoc bytes (b ∷ []) x))
+one_more K bytes b (fault f rest) = refl
+one_more K bytes b unfinished = refl
+
+runs : (K : List ℕ → List ℕ → ReadOutcome Value) (n : ℕ) (bytes piece : List ℕ) → length piece ≤ n → (more : List ℕ) →
+    in_body K bytes n (piece ++ more) ≡ in_body K (bytes ++ piece) (n - length piece) more
+runs K n bytes [] l more = let e : n - 0 ≡ n = omega arith in rw (e, append-nil bytes) refl
+runs K zero bytes (b ∷ piece) l more = absurd (omega arith)
+runs K (suc n) bytes (b ∷ piece) l more =
+    let e : suc n - suc (length piece) ≡ n - length piece = omega arith in
+    one_more K bytes b (read_body n (piece ++ more)) ∙ runs K n (bytes ++ b ∷ []) piece (omega arith) more
+    ∙ ap (λ s. in_body K s (n - length piece) more) (append_assoc bytes (b ∷ []) piece) ∙ ap (λ k. in_body K (bytes ++ (b ∷ piece)) k more) (sym e)
+
+-- a body that took n bytes
+module _ (old new : Body) (bytes : List ℕ) (n : ℕ) (n_is : n ≡ min (length bytes) old.missing) (new_is : new ≡ record old { missing = old.missing - n; bytes = old.bytes ++ take n bytes }) where
+  fills : (d : ℕ) (more : List ℕ) → value_of d (Some old) (bytes ++ more) ≡ value_of d (Some new) (drop n bytes ++ more)
+  fills d more =
+      let K : List ℕ → List ℕ → ReadOutcome Value = λ x rest. made (body_value old.kind x) rest in
+      let l : length (take n bytes) ≡ n = grind (arith, common_steps) in
+      let s : bytes ++ more ≡ take n bytes ++ (drop n bytes ++ more) = ap (λ s. s ++ more) (sym (Rattle.std.proofs.lemmas.List.take-append-drop n bytes)) ∙ append_assoc (take n bytes) (drop n bytes) more in
+      ap (in_body K old.bytes old.missing) s
+      ∙ runs K old.missing old.bytes (take n bytes) (omega (arith, l, n_is)) (drop n bytes ++ more)
+      ∙ ap (λ k. in_body K (old.bytes ++ take n bytes) (old.missing - k) (drop n bytes ++ more)) l
+      ∙ ap (λ (b : Body). value_of d (Some b) (drop n bytes ++ more)) (sym new_is)
+
+  missing-is : new.missing ≡ old.missing - n
+  missing-is = ap (λ (b : Body). b.missing) new_is
+
+  kind-is : new.kind ≡ old.kind
+  kind-is = ap (λ (b : Body). b.kind) new_is
+
+  -- something is missing only where no byte is left
+  none_left : 0 < new.missing → drop n bytes ≡ []
+  none_left l = drop-all n bytes (omega (arith, missing-is, n_is, l))
+
+  -- with no CR LF the body waits
+  waits-missing : (k d : ℕ) → new.missing ≡ k → end_of_body (drop n bytes) ≡ unfinished → value_of d (Some new) (drop n bytes) ≡ unfinished
+  waits-missing zero d e h = ap (λ k. in_body (λ x rest. made (body_value new.kind x) rest) new.bytes k (drop n bytes)) e ∙ rw h refl
+  waits-missing (suc k) d e h =
+      let none : drop n bytes ≡ [] = none_left (omega (arith, e)) in
+      ap (λ k. in_body (λ x rest. made (body_value new.kind x) rest) new.bytes k (drop n bytes)) e
+      ∙ ap (λ s. in_body (λ x rest. made (body_value new.kind x) rest) new.bytes (suc k) s) none
+
+  -- the byte after the body is a fault: nothing is missing
+  none_missing : (k : ℕ) → new.missing ≡ k → ((f : FrameFault) → ((more : List ℕ) → fault_read (end_of_body (drop n bytes ++ more)) ≡ Some f) → k ≡ 0)
+  none_missing zero e f h = refl
+  none_missing (suc k) e f h =
+      let none : drop n bytes ≡ [] = none_left (omega (arith, e)) in
+      absurd (let z : fault_read (end_of_body ([] ++ [])) ≡ Some f = ap (λ s. fault_read (end_of_body (s ++ []))) (sym none) ∙ h [] in cc)
+
+  -- the body and its CR LF are there
+  whole : (d : ℕ) (more : List ℕ) → 2 ≤ length (drop n bytes) → end_of_body (drop n bytes ++ more) ≡ got [] (drop 2 (drop n bytes) ++ more) →
+      value_of d (Some new) (drop n bytes ++ more) ≡ made (body_value new.kind new.bytes) (drop 2 (drop n bytes) ++ more)
+  whole d more l h =
+      let r : length (drop n bytes) ≡ length bytes - n = grind (arith, common_steps) in
+      let z : new.missing ≡ 0 = omega (arith, missing-is, n_is, l, r) in
+      ap (λ k. in_body (λ x rest. made (body_value new.kind x) rest) new.bytes k (drop n bytes ++ more)) z
+      ∙ ap (λ o. then o (λ x rest. made (body_value new.kind (new.bytes ++ x)) rest)) h
+      ∙ ap (λ s. made (body_value new.kind s) (drop 2 (drop n bytes) ++ more)) (append-nil new.bytes)
+
+  faulty : (d : ℕ) (f : FrameFault) → ((more : List ℕ) → fault_read (end_of_body (drop n bytes ++ more)) ≡ Some f) → (more : List ℕ) → fault_read (value_of d (Some new) (drop n bytes ++ more)) ≡ Some f
+  faulty d f h more =
+      let z : new.missing ≡ 0 = none_missing new.missing refl f h in
+      ap (λ k. fault_read (in_body (λ x rest. made (body_value new.kind x) rest) new.bytes k (drop n bytes ++ more))) z
+      ∙ fault-then (end_of_body (drop n bytes ++ more)) (λ x rest. made (body_value new.kind (new.bytes ++ x)) rest) f (h more)
+
+-- a machine in a body that took n bytes
+module _ (m : Machine) (old new : Body) (bytes : List ℕ) (n : ℕ) (body_is : m.body ≡ Some old) (h : FillsBody {E = Unit {0}} old bytes new (Ok n)) where
+  resumes : (more : List ℕ) → resume m (bytes ++ more) ≡ then (value_of (levels_left m.frames) (Some new) (drop n bytes ++ more)) (place m.frames)
+  resumes more =
+      ap (λ o. then (value_of (levels_left m.frames) o (bytes ++ more)) (place m.frames)) body_is
+      ∙ ap (λ o. then o (place m.frames)) (fills old new bytes n h.0 h.1 (levels_left m.frames) more)
+
+  within : n ≤ length bytes
+  within = omega (arith, h.0)
+
+  pub body-waits : m.scanned ≡ 0 → EndsBody (drop n bytes) (Ok false) → (m' : Machine) → m' ≡ record m { body = Some new } → Steps m bytes m' (Ok (step.Waits n))
+  body-waits s e m' i = rw i (record {
+    within = within;
+    same = resumes;
+    waits = ap (λ o. then o (place m.frames)) (waits-missing old new bytes n h.0 h.1 new.missing (levels_left m.frames) refl e);
+    scanned = s;
+    fresh = λ e. absurd (cc);
+    begun = λ _. rw body_is refl;
+  })
+
+  pub body-faulty : (m' : Machine) (f : FrameFault) → EndsBody (drop n bytes) (Err f) → Steps m bytes m' (Err (Fault f))
+  body-faulty m' f e = λ more. ap fault_read (resumes more) ∙ fault-then (value_of (levels_left m.frames) (Some new) (drop n bytes ++ more)) (place m.frames) f (faulty old new bytes n h.0 h.1 (levels_left m.frames) f e more)
+
+  ended : EndsBody (drop n bytes) (Ok true) → (more : List ℕ) → resume m (bytes ++ more) ≡ then (made (body_value new.kind new.bytes) (drop 2 (drop n bytes) ++ more)) (place m.frames)
+  ended e more = resumes more ∙ ap (λ o. then o (place m.frames)) (whole old new bytes n h.0 h.1 (levels_left m.frames) more e.0 (e.1 more))
+
+  pub body-refused : EndsBody (drop n bytes) (Ok true) → (m' : Machine) (e : Stop) → Computes (Err e) (body_value new.kind new.bytes) → Steps m bytes m' (Err e)
+  body-refused e m' Memory c = tt
+  body-refused e m' (Fault f) c = λ more. ap fault_read (ended e more) ∙ rw c refl
+
+  pub body-whole : m.scanned ≡ 0 → EndsBody (drop n bytes) (Ok true) → (m' : Machine) → m' ≡ record m { body = None } → (v : Value) → Computes (Ok v) (body_value new.kind new.bytes) → Steps m bytes m' (Ok (step.Whole (n + 2) v))
+  body-whole s e m' i v c =
+      let r : length (drop n bytes) ≡ length bytes - n = grind (arith, common_steps) in
+      let l : 2 ≤ length (drop n bytes) = e.0 in
+      let d : drop 2 (drop n bytes) ≡ drop (n + 2) bytes = drop-drop n 2 bytes in
+      rw i (record {
+        some = omega arith;
+        within = omega arith;
+        same = λ more. ended e more ∙ rw (c, d) refl;
+        scanned = s;
+      }, refl)
+
+-- no line is looked at while a body is open
+pub IsScanned-body : (m : Machine) (b : Body) (bytes : List ℕ) → m.body ≡ Some b → IsScanned m.body m.scanned bytes → m.scanned ≡ 0
+IsScanned-body m b bytes e h = let k : IsScanned (Some b) m.scanned bytes = subst (λ (o : Option Body). IsScanned o m.scanned bytes) e h in k

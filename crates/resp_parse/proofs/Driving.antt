@@ -1,0 +1,90 @@
+-- Steps, one after another.
+use Rattle.std.proofs.Common.{◌≡◌, ℕ, ◌+◌, ◌<◌, ◌≤◌, Bool, true, false, List, [], ◌++◌, length, drop, refl, ap, sym, ◌∙◌, subst, arith, Option, Some, None, Result, Ok, Err}
+use Rattle.std.proofs.lemmas.Grind.{common_steps}
+use Rattle.resp_value.specs.declared.value.Value.{Value}
+use Rattle.resp_parse.specs.declared.stop.Stop.{Stop}
+use Rattle.resp_parse.specs.declared.stop.Stop.TheVariants.{Memory, Fault}
+use Rattle.resp_parse.specs.declared.machine.Machine.{Machine}
+use Rattle.resp_parse.specs.declared.machine.Step.TheVariants as step
+use Rattle.resp_parse.specs.PlainReading.{ReadOutcome, got}
+use Rattle.resp_parse.specs.Computes.{fault_read}
+use Rattle.resp_parse.specs.Resume.{place, resume, fresh_of, IsScanned, FaultsAlways, Ends, Steps, Waits, Reads, Drives}
+use Rattle.resp_parse.proofs.BodiesInPieces.{drop-all, drop-drop}
+use Rattle.resp_parse.proofs.HeadersInPieces.{resume-nothing, IsScanned-zero}
+
+-- a machine that was `old` has taken the first bytes up to `at`
+pub record Driven (old m : Machine) (bytes : List ℕ) (at : ℕ) : Type 0 where
+  pub within : at ≤ length bytes
+  pub same : (more : List ℕ) → resume old (bytes ++ more) ≡ resume m (drop at bytes ++ more)
+  pub levels : length m.frames ≤ 100
+  pub scanned : IsScanned m.body m.scanned (drop at bytes)
+  pub fresh : fresh_of m.body m.frames ≡ true → at ≡ 0
+  pub begun : at ≡ 0 → fresh_of m.body m.frames ≡ fresh_of old.body old.frames
+
+pub Driven-start : (m : Machine) (bytes : List ℕ) → length m.frames ≤ 100 → IsScanned m.body m.scanned bytes → Driven m m bytes 0
+Driven-start m bytes l s = record { within = omega arith; same = λ more. refl; levels = l; scanned = s; fresh = λ _. refl; begun = λ _. refl }
+
+-- all bytes were taken
+pub Driven-end : (old m : Machine) (bytes : List ℕ) (at : ℕ) → Driven old m bytes at → length bytes ≤ at → Drives old bytes m (Ok (at, None))
+Driven-end old m bytes at h l = record {
+  within = h.within;
+  same = h.same;
+  waits = ap (resume m) (drop-all at bytes l) ∙ resume-nothing m;
+  scanned = h.scanned;
+  fresh = h.fresh;
+  begun = h.begun;
+}
+
+module _ (old m : Machine) (bytes : List ℕ) (at : ℕ) (h : Driven old m bytes at) where
+  dropped : (n : ℕ) → drop n (drop at bytes) ≡ drop (at + n) bytes
+  dropped n = drop-drop at n bytes
+
+  within : (n : ℕ) → n ≤ length (drop at bytes) → at + n ≤ length bytes
+  within n l = let w : at ≤ length bytes = h.within in grind (arith, common_steps)
+
+  pub Driven-stops : (new : Machine) (e : Stop) → at < length bytes → Steps m (drop at bytes) new (Err e) → Drives old bytes new (Err e)
+  Driven-stops new Memory l s = (tt, omega arith)
+  Driven-stops new (Fault f) l s = ((λ more. ap fault_read (h.same more) ∙ s more), omega arith)
+
+  pub Driven-waits : (new : Machine) (n : ℕ) → Steps m (drop at bytes) new (Ok (step.Waits n)) → Drives old bytes new (Ok (at + n, None))
+  Driven-waits new n s = record {
+    within = within n s.within;
+    same = λ more. h.same more ∙ s.same more ∙ ap (λ x. resume new (x ++ more)) (dropped n);
+    waits = ap (resume new) (sym (dropped n)) ∙ s.waits;
+    scanned = subst (IsScanned new.body new.scanned) (dropped n) s.scanned;
+    fresh = λ e. let z : n ≡ 0 = s.fresh e in let y : at ≡ 0 = h.fresh (sym (s.begun z) ∙ e) in omega arith;
+    begun = λ e. let z : n ≡ 0 = omega arith in let y : at ≡ 0 = omega arith in s.begun z ∙ h.begun y;
+  }
+
+  -- bytes were taken, and something is open
+  Driven-takes : (new : Machine) (n : ℕ) → 0 < n → n ≤ length (drop at bytes) → ((more : List ℕ) → resume m (drop at bytes ++ more) ≡ resume new (drop n (drop at bytes) ++ more)) →
+      new.scanned ≡ 0 → fresh_of new.body new.frames ≡ false → length new.frames ≤ 100 → Driven old new bytes (at + n)
+  Driven-takes new n some w same z f l = record {
+    within = within n w;
+    same = λ more. h.same more ∙ same more ∙ ap (λ x. resume new (x ++ more)) (dropped n);
+    levels = l;
+    scanned = IsScanned-zero new.body new.scanned (drop (at + n) bytes) z;
+    fresh = λ e. absurd (let k : true ≡ false = sym e ∙ f in cc);
+    begun = λ e. absurd (omega arith);
+  }
+
+  pub Driven-goes : (new : Machine) (n : ℕ) → Steps m (drop at bytes) new (Ok (step.Goes n)) → length new.frames ≤ 100 → Driven old new bytes (at + n)
+  Driven-goes new n s l = Driven-takes new n s.0.some s.0.within s.0.same s.0.scanned s.1 l
+
+  -- a value is whole, and was put where it belongs
+  module _ (mid new : Machine) (n : ℕ) (v : Value) (s : Steps m (drop at bytes) mid (Ok (step.Whole n v))) where
+    pub Driven-settles : Ends (place mid.frames v) new (Ok None) → new.scanned ≡ mid.scanned → length new.frames ≤ 100 → Driven old new bytes (at + n)
+    Driven-settles e z l =
+        Driven-takes new n s.0.some s.0.within (λ more. s.0.same more ∙ e.0 (drop n (drop at bytes) ++ more)) (z ∙ s.0.scanned) e.1 l
+
+    pub Driven-reads : (w : Value) → Ends (place mid.frames v) new (Ok (Some w)) → new.scanned ≡ mid.scanned → Drives old bytes new (Ok (at + n, Some w))
+    Driven-reads w e z = record {
+      within = within n s.0.within;
+      same = λ more. h.same more ∙ s.0.same more ∙ e.0 (drop n (drop at bytes) ++ more) ∙ ap (λ x. got w (x ++ more)) (dropped n);
+      fresh = e.1;
+      scanned = z ∙ s.0.scanned;
+    }
+
+    pub Driven-refused : (e : Stop) → at < length bytes → Ends (place mid.frames v) new (Err e) → Drives old bytes new (Err e)
+    Driven-refused Memory l k = (tt, omega arith)
+    Driven-refused (Fault f) l k = ((λ more. ap fault_read (h.same more ∙ s.0.same more) ∙ k (drop n (drop at bytes) ++ more)), omega arith)

@@ -1,0 +1,132 @@
+-- Headers whose bytes may not be all there.
+use Rattle.std.proofs.Common.{◌≡◌, ℕ, zero, suc, ◌+◌, ◌-◌, ◌<◌, ◌≤◌, Bool, true, false, List, [], ◌∷◌, ◌++◌, length, take, drop, refl, ap, sym, ◌∙◌, arith, Option, Some, None, Result, Ok, Err}
+use Rattle.std.specs.Str.{IsUtf8, is_utf8}
+use Rattle.std.proofs.lemmas.Str.{IsUtf8-from_is_utf8, is_utf8-from_IsUtf8}
+use Rattle.std.proofs.lemmas.Grind.{common_steps}
+use Rattle.resp_value.specs.declared.value.Value.{Value}
+use Rattle.resp_errors.specs.declared.kinds.FrameFault.{FrameFault}
+use Rattle.resp_errors.specs.declared.kinds.FrameFault.TheVariants.{TooDeep, UnknownType, LineNotUtf8}
+use Rattle.resp_parse.specs.declared.stop.Stop.{Stop}
+use Rattle.resp_parse.specs.declared.stop.Stop.TheVariants.{Memory, Fault}
+use Rattle.resp_parse.specs.declared.type_byte.TypeByte.{TypeByte}
+use Rattle.resp_parse.specs.declared.machine.Body.{Body}
+use Rattle.resp_parse.specs.declared.machine.Machine.{Machine}
+use Rattle.resp_parse.specs.declared.machine.Step.TheVariants as step
+use Rattle.resp_parse.specs.TypeBytes.{type_of}
+use Rattle.resp_parse.specs.Lines.{NoneBefore, Scanned}
+use Rattle.resp_parse.specs.Grammar.{announced}
+use Rattle.resp_parse.specs.PlainReading.{ReadOutcome, got, fault, unfinished, then, line, read_body, read_announced, read_line, read}
+use Rattle.resp_parse.specs.Computes.{fault_read}
+use Rattle.resp_parse.specs.Resume.{value_of, place, resume, levels_left, fresh_of, IsScanned, FindsLine, Goes, Steps}
+use Rattle.resp_parse.proofs.ByteTests.{not_true}
+use Rattle.resp_parse.proofs.LineAt.{line-none}
+use Rattle.resp_parse.proofs.LineReads.{line-longer}
+
+-- nothing is read of no bytes
+body-nothing : (n : ℕ) → read_body n [] ≡ unfinished
+body-nothing zero = refl
+body-nothing (suc n) = refl
+
+value-nothing : (d : ℕ) (b : Option Body) → value_of d b [] ≡ unfinished
+value-nothing d None = refl
+value-nothing d (Some b) = rw (body-nothing b.missing) refl
+
+pub resume-nothing : (m : Machine) → resume m [] ≡ unfinished
+resume-nothing m = rw (value-nothing (levels_left m.frames) m.body) refl
+
+pub Scanned-none : (bs : List ℕ) → Scanned bs 0
+Scanned-none bs = record { within = omega arith; none = λ k l. absurd (omega arith) }
+
+pub IsScanned-zero : (b : Option Body) (n : ℕ) (bs : List ℕ) → n ≡ 0 → IsScanned b n bs
+IsScanned-zero None n bs e = rw e (Scanned-none (drop 1 bs))
+IsScanned-zero (Some b) n bs e = e
+
+-- a step that takes no byte and opens nothing
+pub empty-waits : (m : Machine) (bytes : List ℕ) → bytes ≡ [] → IsScanned m.body m.scanned bytes → Steps m bytes m (Ok (step.Waits 0))
+empty-waits m bytes e s = record {
+  within = omega arith;
+  same = λ more. refl;
+  waits = ap (resume m) e ∙ resume-nothing m;
+  scanned = s;
+  fresh = λ _. refl;
+  begun = λ _. refl;
+}
+
+-- a machine before a value, whose type byte is c
+module _ (m : Machine) (c : ℕ) (after : List ℕ) (body_is : m.body ≡ None) where
+  before : (bs : List ℕ) → resume m bs ≡ then (read (levels_left m.frames) bs) (place m.frames)
+  before bs = ap (λ o. then (value_of (levels_left m.frames) o bs) (place m.frames)) body_is
+
+  pub too_deep : (m' : Machine) → length m.frames ≡ 100 → Steps m (c ∷ after) m' (Err (Fault TooDeep))
+  too_deep m' l = λ more.
+      let z : levels_left m.frames ≡ 0 = omega arith in
+      ap fault_read (before (c ∷ (after ++ more)) ∙ ap (λ d. then (read d (c ∷ (after ++ more))) (place m.frames)) z)
+
+  module _ (l : length m.frames < 100) where
+    level : levels_left m.frames ≡ suc (99 - length m.frames)
+    level = omega arith
+
+    leveled : (bs : List ℕ) → resume m bs ≡ then (read (suc (99 - length m.frames)) bs) (place m.frames)
+    leveled bs = before bs ∙ ap (λ d. then (read d bs) (place m.frames)) level
+
+    pub unknown_type : (m' : Machine) → type_of c ≡ None → Steps m (c ∷ after) m' (Err (Fault UnknownType))
+    unknown_type m' k = λ more. ap fault_read (leveled (c ∷ (after ++ more))) ∙ rw k refl
+
+    module _ (kind : TypeByte) (kind_is : type_of c ≡ Some kind) where
+      pub line-waits : FindsLine after None → (m' : Machine) → m' ≡ record m { scanned = length after } → Steps m (c ∷ after) m' (Ok (step.Waits 0))
+      line-waits none m' i = rw i (record {
+        within = omega arith;
+        same = λ more. refl;
+        waits = leveled (c ∷ after) ∙ rw (kind_is, line-none after none) refl;
+        scanned = rw body_is (record { within = omega arith; none = none });
+        fresh = λ _. refl;
+        begun = λ _. refl;
+      })
+
+      module _ (len : ℕ) (found : FindsLine after (Some len)) where
+        text : List ℕ
+        text = take len after
+
+        rest : List ℕ
+        rest = drop (len + 2) after
+
+        header-reads : (more : List ℕ) → resume m (c ∷ (after ++ more)) ≡ then (read_line (read (99 - length m.frames)) kind (take len after) (drop (len + 2) after ++ more)) (place m.frames)
+        header-reads more = leveled (c ∷ (after ++ more)) ∙ rw (kind_is, line-longer after more (take len after) (drop (len + 2) after) found.1) refl
+
+        pub line-not_utf8 : (m' : Machine) → (IsUtf8 (take len after) → ⊥) → Steps m (c ∷ after) m' (Err (Fault LineNotUtf8))
+        line-not_utf8 m' u = λ more.
+            let w : is_utf8 (take len after) ≡ false = not_true _ (λ t. u (IsUtf8-from_is_utf8 (take len after) t)) in
+            ap fault_read (header-reads more) ∙ rw w refl
+
+        module _ (u : IsUtf8 (take len after)) where
+          announced-reads : (more : List ℕ) → resume m (c ∷ (after ++ more)) ≡ then (read_announced (read (99 - length m.frames)) (announced kind (take len after)) (drop (len + 2) after ++ more)) (place m.frames)
+          announced-reads more = header-reads more ∙ rw (is_utf8-from_IsUtf8 (take len after) u) refl
+
+          abbrev begins : List ℕ → ReadOutcome Value
+          begins more = then (read_announced (read (99 - length m.frames)) (announced kind (take len after)) more) (place m.frames)
+
+          dropped : drop (len + 3) (c ∷ after) ≡ drop (len + 2) after
+          dropped = let e : len + 3 ≡ suc (len + 2) = omega arith in rw e refl
+
+          within : len + 3 ≤ length (c ∷ after)
+          within = let l : len + 2 ≤ length after = found.0 in omega arith
+
+          pub header-stops : (m' : Machine) (e : Stop) → Goes begins m' (Err e) → Steps m (c ∷ after) m' (Err e)
+          header-stops m' Memory g = tt
+          header-stops m' (Fault f) g = λ more. ap fault_read (announced-reads more) ∙ g (drop (len + 2) after ++ more)
+
+          pub header-goes : (m' : Machine) → m'.scanned ≡ 0 → Goes begins m' (Ok None) → Steps m (c ∷ after) m' (Ok (step.Goes (len + 3)))
+          header-goes m' s g = (record {
+            some = omega arith;
+            within = within;
+            same = λ more. announced-reads more ∙ g.0 (drop (len + 2) after ++ more) ∙ ap (λ x. resume m' (x ++ more)) (sym dropped);
+            scanned = s;
+          }, g.1)
+
+          pub header-whole : (m' : Machine) (v : Value) → m'.scanned ≡ 0 → Goes begins m' (Ok (Some v)) → Steps m (c ∷ after) m' (Ok (step.Whole (len + 3) v))
+          header-whole m' v s g = (record {
+            some = omega arith;
+            within = within;
+            same = λ more. announced-reads more ∙ g.0 (drop (len + 2) after ++ more) ∙ ap (λ x. place m'.frames v (x ++ more)) (sym dropped);
+            scanned = s;
+          }, g.1)

@@ -1,0 +1,172 @@
+-- What a parser keeps of itself, from call to call.
+use Rattle.std.proofs.Common.{◌≡◌, ◌≢◌, ℕ, zero, suc, ◌-◌, ◌<◌, ◌≤◌, ◌↔◌, IsTrue, not, Bool, true, false, List, [], ◌∷◌, ◌++◌, length, drop, refl, ap, sym, ◌∙◌, subst, append_assoc, arith, Option, Some, None, Result, Ok, Err}
+use Rattle.std.proofs.lemmas.List.{append-nil}
+use Rattle.std.proofs.lemmas.Grind.{common_steps}
+use Rattle.resp_value.specs.declared.value.Value.{Value}
+use Rattle.resp_errors.specs.declared.kinds.FrameFault.{FrameFault}
+use Rattle.resp_parse.specs.declared.stop.Stop.TheVariants.{Fault}
+use Rattle.resp_parse.specs.declared.frames.Frame.{Frame}
+use Rattle.resp_parse.specs.declared.machine.Body.{Body}
+use Rattle.resp_parse.specs.declared.machine.Machine.{Machine}
+use Rattle.resp_parse.specs.PlainReading.{ReadOutcome, got, fault, unfinished, then, read}
+use Rattle.resp_parse.specs.Prefixes.{HasGoodPrefix, HasFaultyPrefix, IsUnfinished}
+use Rattle.resp_parse.specs.Computes.{fault_read}
+use Rattle.resp_parse.specs.Resume.{value_of, place, resume, levels_left, fresh_of, IsScanned, FaultsAlways, Waits, Reads, Drives}
+use Rattle.resp_parse.specs.Kept.{Resumes, Rests, Holds}
+use Rattle.resp_parse.proofs.LineAt.{Scanned-longer}
+use Rattle.resp_parse.proofs.BodiesInPieces.{drop-all}
+use Rattle.resp_parse.proofs.HeadersInPieces.{IsScanned-zero}
+use Rattle.resp_parse.proofs.PrefixReads.{HasGoodPrefix-from_read, HasFaultyPrefix-from_fault_read, IsUnfinished-from_read}
+
+then-nothing : (o : ReadOutcome Value) → o ≡ then o (place [])
+then-nothing (got v rest) = refl
+then-nothing (fault f rest) = refl
+then-nothing unfinished = refl
+
+-- nothing is open
+pub record NothingOpen (b : Option Body) (fs : List Frame) : Type 0 where
+  pub no_body : b ≡ None
+  pub no_frame : fs ≡ []
+
+nothing_open : (b : Option Body) (fs : List Frame) → fresh_of b fs ≡ true → NothingOpen b fs
+nothing_open None [] e = record { no_body = refl; no_frame = refl }
+nothing_open None (f ∷ fs) e = absurd (cc)
+nothing_open (Some b) fs e = absurd (cc)
+
+resume-fresh : (m : Machine) → fresh_of m.body m.frames ≡ true → (bs : List ℕ) → read 100 bs ≡ resume m bs
+resume-fresh m e bs = let n = nothing_open m.body m.frames e in rw (n.no_body, n.no_frame) (then-nothing (read 100 bs))
+
+-- a machine that has read nothing
+pub Resumes-fresh : (m : Machine) (u : List ℕ) → fresh_of m.body m.frames ≡ true → m.scanned ≡ 0 → Resumes m u u
+Resumes-fresh m u e s = record {
+  levels = (let n = nothing_open m.body m.frames e in rw n.no_frame (omega arith));
+  scanned = IsScanned-zero m.body m.scanned u s;
+  reads = λ more. resume-fresh m e (u ++ more);
+  fresh = λ _. refl;
+  begun = λ k. absurd (let z : true ≡ false = sym e ∙ k in cc);
+}
+
+drop-append : (n : ℕ) (xs ys : List ℕ) → n ≤ length xs → drop n (xs ++ ys) ≡ drop n xs ++ ys
+drop-append n xs ys l = grind (arith, common_steps)
+
+IsScanned-longer : (b : Option Body) (n : ℕ) (u more : List ℕ) → IsScanned b n u → IsScanned b n (u ++ more)
+IsScanned-longer None n [] more h = IsScanned-zero None n more (omega (arith, h.within))
+IsScanned-longer None n (c ∷ u) more h = Scanned-longer u more n h
+IsScanned-longer (Some b) n u more h = h
+
+-- bytes were added
+pub Resumes-fed : (m : Machine) (u since bytes : List ℕ) → Resumes m u since → Resumes m (u ++ bytes) (since ++ bytes)
+Resumes-fed m u since bytes h = record {
+  levels = h.levels;
+  scanned = IsScanned-longer m.body m.scanned u bytes h.scanned;
+  reads = λ more. ap (read 100) (append_assoc since bytes more) ∙ h.reads (bytes ++ more) ∙ ap (resume m) (sym (append_assoc u bytes more));
+  fresh = λ e. ap (λ x. x ++ bytes) (h.fresh e);
+  begun = λ e. let l : length u < length since = h.begun e in grind (arith, common_steps);
+}
+
+length-zero : (xs : List ℕ) → length xs ≡ 0 → xs ≡ []
+length-zero [] e = refl
+length-zero (x ∷ xs) e = absurd (omega arith)
+
+-- a parser that reads on can tell whether bytes stand after the last value
+progress : (m : Machine) (u since : List ℕ) → Resumes m u since → (since ≡ []) ↔ Rests m u
+progress m u since h = (
+  (λ e. by_fresh e (fresh_of m.body m.frames) refl),
+  (λ r. h.fresh r.fresh ∙ r.none),
+)
+  where
+    by_fresh : since ≡ [] → (k : Bool) → fresh_of m.body m.frames ≡ k → Rests m u
+    by_fresh e true k = record { fresh = k; none = sym (h.fresh k) ∙ e }
+    by_fresh e false k = absurd (let l : length u < length since = h.begun k in let z : length since ≡ 0 = ap length e in omega arith)
+
+pub Holds-working : (m : Machine) (u since : List ℕ) (failed : Bool) → Resumes m u since → Holds m u since failed
+Holds-working m u since failed h = record { resumes = λ _. h; progress = progress m u since h }
+
+-- from here on the parser has failed
+pub Holds-failing : (m : Machine) (u since : List ℕ) (failed : Bool) → Holds m u since failed → Holds m u since true
+Holds-failing m u since failed h = record { resumes = λ e. absurd (let z : true ≡ false = e in cc); progress = h.progress }
+
+-- it failed at bytes that it has kept
+pub Holds-failed : (m m' : Machine) (u since : List ℕ) (failed : Bool) → Holds m u since failed → 0 < length u → Holds m' u since true
+Holds-failed m m' u since failed h l = record {
+  resumes = λ e. absurd (let z : true ≡ false = e in cc);
+  progress = (
+    (λ e. absurd (let r = h.progress.0 e in let z : length u ≡ 0 = ap length r.none in omega arith)),
+    (λ r. absurd (let z : length u ≡ 0 = ap length r.none in omega arith)),
+  );
+}
+
+-- bytes are unparsed: some stand after the last value
+pub in_progress-unparsed : (m : Machine) (buffer since : List ℕ) (consumed : ℕ) (failed : Bool) → Holds m (drop consumed buffer) since failed → consumed < length buffer → (b : List ℕ) → b ≡ since → b ≢ []
+in_progress-unparsed m buffer since consumed failed h l b u e =
+    let r = h.progress.0 (sym u ∙ e) in
+    let z : length (drop consumed buffer) ≡ 0 = ap length r.none in
+    grind (arith, common_steps)
+
+-- none are: some stand after it where the machine isn't fresh
+pub in_progress-machine : (m : Machine) (buffer since : List ℕ) (consumed : ℕ) (failed : Bool) → Holds m (drop consumed buffer) since failed → length buffer ≡ consumed → (b : List ℕ) → b ≡ since → (fresh : Bool) →
+    fresh ≡ fresh_of m.body m.frames → IsTrue (not fresh) ↔ (b ≢ [])
+in_progress-machine m buffer since consumed failed h l b u true e = (
+  (λ t n. let z : false ≡ true = t in cc),
+  (λ n. absurd (n (u ∙ h.progress.1 (record { fresh = sym e; none = drop-all consumed buffer (omega arith) })))),
+)
+in_progress-machine m buffer since consumed failed h l b u false e = (
+  (λ t n. let r = h.progress.0 (sym u ∙ n) in let z : false ≡ true = e ∙ r.fresh in cc),
+  (λ n. refl),
+)
+
+-- a machine that went on in the unparsed bytes
+module _ (m new : Machine) (u since : List ℕ) (h : Resumes m u since) where
+  at_end : read 100 since ≡ resume m (u ++ [])
+  at_end = ap (read 100) (sym (append-nil since)) ∙ h.reads []
+
+  pub good-from_reads : (n : ℕ) (v : Value) → Reads m u new n v → HasGoodPrefix 100 since v (drop n u)
+  good-from_reads n v d = HasGoodPrefix-from_read 100 since (drop n u) v (at_end ∙ d.same [] ∙ ap (λ r. got v r) (append-nil (drop n u)))
+
+  pub faulty-from_drives : (f : FrameFault) → Drives m u new (Err (Fault f)) → HasFaultyPrefix 100 since f
+  faulty-from_drives f d = HasFaultyPrefix-from_fault_read 100 since f (read 100 since) refl (ap fault_read at_end ∙ d.0 [])
+
+  pub unfinished-from_waits : (n : ℕ) → Waits m u new n → IsUnfinished 100 since
+  unfinished-from_waits n d = IsUnfinished-from_read 100 since (at_end ∙ d.same [] ∙ ap (resume new) (append-nil (drop n u)) ∙ d.waits)
+
+  pub Resumes-waits : (n : ℕ) → Waits m u new n → length new.frames ≤ 100 → Resumes new (drop n u) since
+  Resumes-waits n d l = record {
+    levels = l;
+    scanned = d.scanned;
+    reads = λ more. h.reads more ∙ d.same more;
+    fresh = λ e. let z : n ≡ 0 = d.fresh e in h.fresh (sym (d.begun z) ∙ e) ∙ ap (λ k. drop k u) (sym z);
+    begun = λ e. longer n d e (fresh_of m.body m.frames) refl;
+  }
+    where
+      longer : (n : ℕ) → Waits m u new n → fresh_of new.body new.frames ≡ false → (k : Bool) → fresh_of m.body m.frames ≡ k → length (drop n u) < length since
+      longer zero d e true k = absurd (let z : true ≡ false = sym k ∙ sym (d.begun refl) ∙ e in cc)
+      longer zero d e false k = h.begun k
+      longer (suc n) d e true k = let w : suc n ≤ length u = d.within in let s : length since ≡ length u = ap length (h.fresh k) in let r : length (drop (suc n) u) ≡ length u - suc n = grind (arith, common_steps) in omega arith
+      longer (suc n) d e false k = let w : suc n ≤ length u = d.within in let s : length u < length since = h.begun k in let r : length (drop (suc n) u) ≡ length u - suc n = grind (arith, common_steps) in omega arith
+
+-- nothing is buffered
+pub Holds-new : (m : Machine) (buffer since : List ℕ) → buffer ≡ [] → since ≡ [] → fresh_of m.body m.frames ≡ true → m.scanned ≡ 0 → Holds m (drop 0 buffer) since false
+Holds-new m buffer since e k f s = rw (e, k) (Holds-working m [] [] false (Resumes-fresh m [] f s))
+
+-- bytes were added to the buffer
+pub Holds-fed : (m : Machine) (buffer buffer' since since' bytes : List ℕ) (consumed : ℕ) (failed : Bool) → consumed ≤ length buffer → failed ≡ false → Holds m (drop consumed buffer) since failed →
+    buffer' ≡ buffer ++ bytes → since' ≡ since ++ bytes → Holds m (drop consumed buffer') since' failed
+Holds-fed m buffer buffer' since since' bytes consumed failed l w h e k =
+    let d : drop consumed (buffer ++ bytes) ≡ drop consumed buffer ++ bytes = grind (arith, common_steps) in
+    rw (e, k, d) (Holds-working m (drop consumed buffer ++ bytes) (since ++ bytes) failed (Resumes-fed m (drop consumed buffer) since bytes (h.resumes w)))
+
+pub fed-fits : (buffer buffer' bytes : List ℕ) (consumed : ℕ) → consumed ≤ length buffer → buffer' ≡ buffer ++ bytes → consumed ≤ length buffer'
+fed-fits buffer buffer' bytes consumed l e = rw e (grind (arith, common_steps))
+
+-- some bytes were added, by a parser that may have failed
+pub Holds-asked : (m : Machine) (buffer buffer' since since' bytes : List ℕ) (consumed : ℕ) (failed : Bool) → consumed ≤ length buffer → 0 < length bytes → Holds m (drop consumed buffer) since failed →
+    buffer' ≡ buffer ++ bytes → since' ≡ since ++ bytes → Holds m (drop consumed buffer') since' failed
+Holds-asked m buffer buffer' since since' bytes consumed failed l some h e k =
+    let d : drop consumed (buffer ++ bytes) ≡ drop consumed buffer ++ bytes = grind (arith, common_steps) in
+    rw (e, k, d) (record {
+      resumes = λ w. Resumes-fed m (drop consumed buffer) since bytes (h.resumes w);
+      progress = (
+        (λ z. absurd (let y : length (since ++ bytes) ≡ 0 = ap length z in grind (arith, common_steps))),
+        (λ r. absurd (let y : length (drop consumed buffer ++ bytes) ≡ 0 = ap length r.none in grind (arith, common_steps))),
+      );
+    })

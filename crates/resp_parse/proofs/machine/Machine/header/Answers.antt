@@ -1,0 +1,43 @@
+use Rattle.std.proofs.Common.{◌<◌, ◌-◌, List, ℕ, length, arith, refl, sym, subst, Err}
+use Rattle.std.proofs.lemmas.Result.{err_from_is_err_and}
+use Rattle.resp_parse.specs.Grammar.{announced}
+use Rattle.resp_parse.specs.PlainReading.{then, read_announced, read}
+use Rattle.resp_parse.specs.Resume.{place, Goes}
+use Rattle.resp_parse.proofs.HeadersInPieces.{line-waits, line-not_utf8, header-stops, header-goes, header-whole}
+use Rattle.resp_parse.proofs.machine.Machine.header.Goals as goal
+
+pub returns-in_default-line_end-clause-steps : goal.returns-in_default-line_end-clause-steps
+returns-in_default-line_end-clause-steps c =
+    let l : length c.args.self.now.frames < 100 = omega arith in
+    rw c.in-Some.ensures.cases.0
+    (line-waits c.args.self.now c.in-Some.first.now c.in-Some.after.now c.requires.no_body l c.in-Some-from_byte.kind (sym c.in-Some-from_byte.ensures.kind) c.in_default-line_end.ensures.line _ refl)
+
+pub returns-in_default-from_utf8-clause-steps : goal.returns-in_default-from_utf8-clause-steps
+returns-in_default-from_utf8-clause-steps c =
+    let l : length c.args.self.now.frames < 100 = omega arith in
+    rw c.in-Some.ensures.cases.0
+    (line-not_utf8 c.args.self.now c.in-Some.first.now c.in-Some.after.now c.requires.no_body l c.in-Some-from_byte.kind (sym c.in-Some-from_byte.ensures.kind) c.in-Some-line_end.len c.in-Some-line_end.ensures.line
+    c.args.self.now c.in_default-from_utf8.ensures.cases.0)
+
+pub returns-in_err-value-clause-steps : goal.returns-in_err-value-clause-steps
+returns-in_err-value-clause-steps c =
+    let l : length c.args.self.now.frames < 100 = omega arith in
+    let p = err_from_is_err_and c.from_residual.result c.from_residual.ensures.1 in
+    rw (p.1, p.2, c.in-Some.ensures.cases.0)
+    (header-stops c.args.self.now c.in-Some.first.now c.in-Some.after.now c.requires.no_body l c.in-Some-from_byte.kind (sym c.in-Some-from_byte.ensures.kind) c.in-Some-line_end.len c.in-Some-line_end.ensures.line
+    c.in-Ok.ensures.cases.1 c.begin.new.self c.in_err-value.field-0.0
+    (subst (λ (t : List ℕ). Goes (λ more. then (read_announced (read (99 - length c.args.self.now.frames)) (announced c.in-Some-from_byte.kind t) more) (place c.args.self.now.frames)) c.begin.new.self (Err c.in_err-value.field-0.0)) c.in-Ok.ensures.cases.0 c.in_err-value.ensures.goes))
+
+pub returns-in-Some-2-clause-steps : goal.returns-in-Some-2-clause-steps
+returns-in-Some-2-clause-steps c =
+    let l : length c.args.self.now.frames < 100 = omega arith in
+    rw c.in-Some.ensures.cases.0
+    (header-whole c.args.self.now c.in-Some.first.now c.in-Some.after.now c.requires.no_body l c.in-Some-from_byte.kind (sym c.in-Some-from_byte.ensures.kind) c.in-Some-line_end.len c.in-Some-line_end.ensures.line
+    c.in-Ok.ensures.cases.1 c.begin.new.self c.in-Some-2.value c.in_ok-value.ensures.scanned (rw (← c.in-Ok.ensures.cases.0) (rw c.in-Some-2.is at c.in_ok-value.ensures.goes)))
+
+pub returns-in-None-clause-steps : goal.returns-in-None-clause-steps
+returns-in-None-clause-steps c =
+    let l : length c.args.self.now.frames < 100 = omega arith in
+    rw c.in-Some.ensures.cases.0
+    (header-goes c.args.self.now c.in-Some.first.now c.in-Some.after.now c.requires.no_body l c.in-Some-from_byte.kind (sym c.in-Some-from_byte.ensures.kind) c.in-Some-line_end.len c.in-Some-line_end.ensures.line
+    c.in-Ok.ensures.cases.1 c.begin.new.self c.in_ok-value.ensures.scanned (rw (← c.in-Ok.ensures.cases.0) (rw c.in-None.is at c.in_ok-value.ensures.goes)))

@@ -1,0 +1,29 @@
+-- What a parser keeps of itself.
+use Rattle.std.specs.Prelude.{◌≡◌, ◌↔◌, ◌<◌, ◌≤◌, ℕ, Bool, true, false, List, [], ◌++◌, length, drop}
+use Rattle.resp_parse.specs.declared.machine.Machine.{Machine}
+use Rattle.resp_parse.specs.declared.parser.Parser.TheInside.{Inside}
+use Rattle.resp_parse.specs.PlainReading.{read}
+use Rattle.resp_parse.specs.Resume.{resume, fresh_of, IsScanned}
+
+-- what reads on in the unparsed bytes reads on in the bytes since the last value
+pub record Resumes (m : Machine) (unparsed since : List ℕ) : Type 0 where
+  pub levels : length m.frames ≤ 100
+  pub scanned : IsScanned m.body m.scanned unparsed
+  pub reads : (more : List ℕ) → read 100 (since ++ more) ≡ resume m (unparsed ++ more)
+  pub fresh : fresh_of m.body m.frames ≡ true → since ≡ unparsed
+  pub begun : fresh_of m.body m.frames ≡ false → length unparsed < length since
+
+-- nothing is in progress
+pub record Rests (m : Machine) (unparsed : List ℕ) : Type 0 where
+  pub fresh : fresh_of m.body m.frames ≡ true
+  pub none : unparsed ≡ []
+
+-- a parser that has not failed reads on; one that has can still tell whether bytes stand after the
+-- last value
+pub record Holds (m : Machine) (unparsed since : List ℕ) (failed : Bool) : Type 0 where
+  pub resumes : failed ≡ false → Resumes m unparsed since
+  pub progress : (since ≡ []) ↔ Rests m unparsed
+
+pub record Kept (p : Inside) : Type 0 where
+  pub consumed : p.consumed ≤ length p.buffer.items
+  pub holds : Holds p.machine (drop p.consumed p.buffer.items) p.since p.failed

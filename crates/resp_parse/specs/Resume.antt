@@ -1,0 +1,128 @@
+-- What reading gives from where a machine stands, if these bytes come next; and how a machine gets
+-- from one place to another.
+use Rattle.std.specs.Prelude.{◌≡◌, ℕ, ◌+◌, ◌-◌, ◌<◌, ◌≤◌, Bool, true, false, List, [], ◌∷◌, ◌++◌, length, take, drop, min, Option, None, Some, Result, Ok, Err}
+use Rattle.resp_value.specs.declared.value.Value.{Value}
+use Rattle.resp_errors.specs.declared.kinds.FrameFault.{FrameFault}
+use Rattle.resp_parse.specs.declared.stop.Stop.{Stop}
+use Rattle.resp_parse.specs.declared.stop.Stop.TheVariants.{Memory, Fault}
+use Rattle.resp_parse.specs.declared.frames.Frame.{Frame}
+use Rattle.resp_parse.specs.declared.machine.Body.{Body}
+use Rattle.resp_parse.specs.declared.machine.Machine.{Machine}
+use Rattle.resp_parse.specs.declared.machine.Step.{Step}
+use Rattle.resp_parse.specs.declared.machine.Step.TheVariants as step
+use Rattle.resp_parse.specs.Lines.{NoneBefore, Scanned}
+use Rattle.resp_parse.specs.Shapes.{body_value, elements_value}
+use Rattle.resp_parse.specs.PlainReading.{ReadOutcome, got, unfinished, then, line, end_of_body, read_body, read_elements, made, read}
+use Rattle.resp_parse.specs.Computes.{fault_read}
+
+-- how many levels are left inside these frames
+abbrev pub levels_left : List Frame → ℕ
+levels_left frames = 100 - length frames
+
+-- a value is whole inside these frames, the innermost first
+abbrev pub place : List Frame → Value → List ℕ → ReadOutcome Value
+place [] v rest = got v rest
+place (f ∷ fs) v rest =
+    then (read_elements (read (levels_left (f ∷ fs))) f.after rest)
+    (λ vs after. then (made (elements_value f.kind (f.elements ++ (v ∷ vs))) after) (place fs))
+
+-- the value in progress, where d levels are left
+abbrev pub value_of : ℕ → Option Body → List ℕ → ReadOutcome Value
+value_of d None more = read d more
+value_of d (Some b) more =
+    then (read_body b.missing more) (λ x rest. made (body_value b.kind (b.bytes ++ x)) rest)
+
+abbrev pub resume : Machine → List ℕ → ReadOutcome Value
+resume m more = then (value_of (levels_left m.frames) m.body more) (place m.frames)
+
+-- no body and no frame is open
+abbrev pub fresh_of : Option Body → List Frame → Bool
+fresh_of None [] = true
+fresh_of None (f ∷ fs) = false
+fresh_of (Some b) fs = false
+
+-- so many bytes after the type byte of a line hold no CR LF
+abbrev pub IsScanned : Option Body → ℕ → List ℕ → Type 0
+IsScanned None n bytes = Scanned (drop 1 bytes) n
+IsScanned (Some b) n bytes = n ≡ 0
+
+-- reading is at fault, whatever bytes come; memory aside
+abbrev pub FaultsAlways : (List ℕ → ReadOutcome Value) → Stop → Type 0
+FaultsAlways before Memory = Unit {0}
+FaultsAlways before (Fault f) = (more : List ℕ) → fault_read (before more) ≡ Some f
+
+-- from `before`, by the bytes that come, the machine has come to `new`, and a body or a frame is
+-- open; with Some, the value in progress is whole
+abbrev pub Goes : (List ℕ → ReadOutcome Value) → Machine → Result (Option Value) Stop → Type 0
+Goes before new (Ok None) =
+    ((more : List ℕ) → before more ≡ resume new more) × (fresh_of new.body new.frames ≡ false)
+Goes before new (Ok (Some v)) =
+    ((more : List ℕ) → before more ≡ place new.frames v more) × (new.body ≡ None)
+Goes before new (Err e) = FaultsAlways before e
+
+-- the same, with Some where the outermost value is whole
+abbrev pub Ends : (List ℕ → ReadOutcome Value) → Machine → Result (Option Value) Stop → Type 0
+Ends before new (Ok None) =
+    ((more : List ℕ) → before more ≡ resume new more) × (fresh_of new.body new.frames ≡ false)
+Ends before new (Ok (Some v)) =
+    ((more : List ℕ) → before more ≡ got v more) × (fresh_of new.body new.frames ≡ true)
+Ends before new (Err e) = FaultsAlways before e
+
+-- the length of the first line's text, or none
+abbrev pub FindsLine : List ℕ → Option ℕ → Type 0
+FindsLine bs (Some n) =
+    (n + 2 ≤ length bs) × (line bs ≡ got (take n bs) (drop (n + 2) bs))
+FindsLine bs None = NoneBefore bs (length bs)
+
+-- whether the CR LF of a body stands at the start
+abbrev pub EndsBody : List ℕ → Result Bool FrameFault → Type 0
+EndsBody bs (Ok true) =
+    (2 ≤ length bs) × ((more : List ℕ) → end_of_body (bs ++ more) ≡ got [] (drop 2 bs ++ more))
+EndsBody bs (Ok false) = end_of_body bs ≡ unfinished
+EndsBody bs (Err f) = (more : List ℕ) → fault_read (end_of_body (bs ++ more)) ≡ Some f
+
+-- a body took n bytes: all, or as many as it lacked
+abbrev pub FillsBody : {E : Type 0} → Body → List ℕ → Body → Result ℕ E → Type 0
+FillsBody old bytes new (Ok n) = (n ≡ min (length bytes) old.missing)
+    × (new ≡ record old { missing = old.missing - n; bytes = old.bytes ++ take n bytes })
+FillsBody old bytes new (Err e) = Unit {0}
+
+-- n bytes were taken, and no more can be before more bytes come
+pub record Waits (old : Machine) (bytes : List ℕ) (new : Machine) (n : ℕ) : Type 0 where
+  pub within : n ≤ length bytes
+  pub same : (more : List ℕ) → resume old (bytes ++ more) ≡ resume new (drop n bytes ++ more)
+  pub waits : resume new (drop n bytes) ≡ unfinished
+  pub scanned : IsScanned new.body new.scanned (drop n bytes)
+  pub fresh : fresh_of new.body new.frames ≡ true → n ≡ 0
+  pub begun : n ≡ 0 → fresh_of new.body new.frames ≡ fresh_of old.body old.frames
+
+-- n bytes were taken, one at least
+pub record Takes (old : Machine) (bytes : List ℕ) (new : Machine)
+    (after : List ℕ → ReadOutcome Value) (n : ℕ) : Type 0 where
+  pub some : 0 < n
+  pub within : n ≤ length bytes
+  pub same : (more : List ℕ) → resume old (bytes ++ more) ≡ after (drop n bytes ++ more)
+  pub scanned : new.scanned ≡ 0
+
+-- what one step does
+abbrev pub Steps : Machine → List ℕ → Machine → Result Step Stop → Type 0
+Steps old bytes new (Ok (step.Waits n)) = Waits old bytes new n
+Steps old bytes new (Ok (step.Goes n)) =
+    Takes old bytes new (resume new) n × (fresh_of new.body new.frames ≡ false)
+Steps old bytes new (Ok (step.Whole n v)) =
+    Takes old bytes new (place new.frames v) n × (new.body ≡ None)
+Steps old bytes new (Err e) = FaultsAlways (λ more. resume old (bytes ++ more)) e
+
+-- a value was read, and n bytes taken
+pub record Reads (old : Machine) (bytes : List ℕ) (new : Machine) (n : ℕ) (v : Value) : Type 0 where
+  pub within : n ≤ length bytes
+  pub same : (more : List ℕ) → resume old (bytes ++ more) ≡ got v (drop n bytes ++ more)
+  pub fresh : fresh_of new.body new.frames ≡ true
+  pub scanned : new.scanned ≡ 0
+
+-- what all steps do until a value is whole or more bytes are needed
+abbrev pub Drives : Machine → List ℕ → Machine → Result (ℕ × Option Value) Stop → Type 0
+Drives old bytes new (Ok (n, Some v)) = Reads old bytes new n v
+Drives old bytes new (Ok (n, None)) = Waits old bytes new n
+Drives old bytes new (Err e) =
+    FaultsAlways (λ more. resume old (bytes ++ more)) e × (0 < length bytes)

@@ -1,0 +1,39 @@
+//! The ends of lines and bodies.
+
+ghost use Rattle.resp_parse.specs.Lines.{Scanned};
+ghost use Rattle.resp_parse.specs.Resume.{FindsLine, EndsBody};
+
+use resp_value::FrameFault;
+
+/// The length of the text up to the first CR LF, where so many bytes hold none.
+pub(crate) fn line_end(bytes: &[u8], scanned: usize) -> Option<usize>
+    requires scanned { Scanned bytes.now scanned }
+    ensures line { FindsLine bytes.now result }
+{
+    for at in scanned.max(1)..bytes.len() {
+        if bytes[at] == b'\n' && bytes[at - 1] == b'\r' {
+            return Some(at - 1);
+        }
+    }
+    None
+}
+
+/// Whether the CR LF after a body is there; a byte in its place is a fault.
+#[tactic(auto, using(crate::proofs::BodyEnds::ends))]
+pub(crate) fn body_ends(bytes: &[u8]) -> Result<bool, FrameFault>
+    ensures end { EndsBody bytes.now result }
+{
+    if bytes.is_empty() {
+        return Ok(false);
+    }
+    if bytes[0] != b'\r' {
+        return Err(FrameFault::BodyEnd);
+    }
+    if bytes.len() == 1 {
+        return Ok(false);
+    }
+    if bytes[1] != b'\n' {
+        return Err(FrameFault::BodyEnd);
+    }
+    Ok(true)
+}

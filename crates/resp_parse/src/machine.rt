@@ -1,0 +1,238 @@
+//! The reading of a value, which stops where the bytes end and goes on from there.
+
+ghost use Rattle.std.specs.Prelude.{◌≡◌, ◌<◌, ◌≤◌, ◌-◌, ◌++◌, [], length, drop, true, OnOk};
+ghost use Rattle.resp_parse.specs.declared.stop.Stop.{Stop};
+ghost use Rattle.std.specs.Prelude.{None};
+ghost use Rattle.resp_parse.specs.Grammar.{announced};
+ghost use Rattle.resp_parse.specs.PlainReading.{then, read_announced, read};
+ghost use Rattle.resp_parse.specs.Shapes.{body_value};
+ghost use Rattle.resp_parse.specs.Computes.{Computes};
+ghost use Rattle.resp_parse.specs.Resume.{place, resume, fresh_of, IsScanned, Goes, Ends, Steps};
+ghost use Rattle.resp_parse.specs.Resume.{Drives, FillsBody};
+
+use crate::frames::{Frame, Frames};
+use crate::line::{body_ends, line_end};
+use crate::shape::{BodyKind, Shape, shape_of};
+use crate::stop::Stop;
+use crate::type_byte::TypeByte;
+use resp_value::{FrameFault, Items, Value};
+use std::alloc::{AllocError, Global};
+use std::mem;
+
+/// How many levels of values inside values are read.
+const LEVELS: usize = 100;
+
+/// A body whose bytes and CR LF aren't all there.
+#[derive(Drop)]
+pub(crate) struct Body {
+    pub(crate) kind: BodyKind,
+    /// How many bytes it lacks, its CR LF aside.
+    pub(crate) missing: usize,
+    pub(crate) bytes: Items<u8>,
+}
+
+impl Body {
+    /// Takes what it lacks, or all of the bytes if they are fewer; tells how many.
+    fn fill(&mut self, bytes: &[u8]) -> Result<usize, AllocError>
+        ensures fills { FillsBody self.old bytes.now self.new result }
+    {
+        let taken = bytes.len().min(self.missing);
+        self.bytes.extend_from_slice(&bytes[..taken])?;
+        self.missing -= taken;
+        Ok(taken)
+    }
+
+    /// The value of the body.
+    fn value(self, alloc: Global) -> Result<Value, Stop>
+        ensures value { Computes result (body_value self.kind self.bytes) }
+    {
+        let Body {
+            kind,
+            missing: _,
+            bytes,
+        } = self;
+        kind.value(alloc, bytes)
+    }
+}
+
+/// How many bytes one step took, and what came of it.
+#[derive(Drop)]
+pub(crate) enum Step {
+    /// No more can be taken before more bytes come.
+    Waits(usize),
+    /// A body or elements follow.
+    Goes(usize),
+    /// A value is whole.
+    Whole(usize, Value),
+}
+
+/// What was read of a value that isn't whole.
+#[derive(Drop)]
+pub(crate) struct Machine {
+    pub(crate) frames: Frames,
+    pub(crate) body: Option<Body>,
+    /// So many bytes after the type byte of the line in progress hold no CR LF.
+    pub(crate) scanned: usize,
+}
+
+impl Machine {
+    /// Nothing was read. Takes no memory.
+    pub(crate) fn new(alloc: Global) -> Machine
+        ensures fresh { fresh_of result.body result.frames ≡ true }
+        ensures scanned { result.scanned ≡ 0 }
+    {
+        Machine {
+            frames: Frames::new(alloc),
+            body: None,
+            scanned: 0,
+        }
+    }
+
+    /// Whether no value is in progress, but for a line's beginning that wasn't taken.
+    pub(crate) fn is_fresh(&self) -> bool
+        ensures { result ≡ fresh_of self.now.body self.now.frames }
+    {
+        self.body.is_none() && self.frames.len() == 0
+    }
+
+    /// Begins what a header announces; Some is a value that is whole with it.
+    fn begin(
+        &mut self,
+        alloc: Global,
+        kind: TypeByte,
+        text: &str,
+    ) -> Result<Option<Value>, Stop>
+        requires no_body { self.old.body ≡ None }
+        requires level { length self.old.frames < 100 }
+        ensures goes { Goes (λ more. then (read_announced (read (99 - length self.old.frames))
+            (announced kind text.now) more) (place self.old.frames)) self.new result }
+        ensures levels { OnOk result (length self.new.frames ≤ 100) }
+        ensures scanned { self.new.scanned ≡ self.old.scanned }
+    {
+        match shape_of(alloc, kind, text)? {
+            Shape::Whole(value) => Ok(Some(value)),
+            Shape::Body(kind, missing) => {
+                self.body = Some(Body {
+                    kind,
+                    missing,
+                    bytes: Items::new(alloc),
+                });
+                Ok(None)
+            }
+            Shape::Elements(kind, 0) => Ok(Some(kind.value(alloc, Items::new(alloc))?)),
+            Shape::Elements(kind, count) => {
+                self.frames.push(Frame {
+                    kind,
+                    after: count - 1,
+                    elements: Items::new(alloc),
+                })?;
+                Ok(None)
+            }
+        }
+    }
+
+    /// Reads the header at the start of the bytes.
+    fn header(&mut self, alloc: Global, bytes: &[u8]) -> Result<Step, Stop>
+        requires no_body { self.old.body ≡ None }
+        requires levels { length self.old.frames ≤ 100 }
+        requires scanned { IsScanned self.old.body self.old.scanned bytes.now }
+        ensures steps { Steps self.old bytes.now self.new result }
+        ensures levels { OnOk result (length self.new.frames ≤ 100) }
+    {
+        let Some((first, after)) = bytes.split_first() else {
+            return Ok(Step::Waits(0));
+        };
+        if self.frames.len() == LEVELS {
+            return Err(Stop::Fault(FrameFault::TooDeep));
+        }
+        let Some(kind) = TypeByte::from_byte(*first) else {
+            return Err(Stop::Fault(FrameFault::UnknownType));
+        };
+        let Some(len) = line_end(after, self.scanned) else {
+            self.scanned = after.len();
+            return Ok(Step::Waits(0));
+        };
+        self.scanned = 0;
+        let Ok(text) = std::str::from_utf8(&after[..len]) else {
+            return Err(Stop::Fault(FrameFault::LineNotUtf8));
+        };
+        match self.begin(alloc, kind, text)? {
+            Some(value) => Ok(Step::Whole(len + 3, value)),
+            None => Ok(Step::Goes(len + 3)),
+        }
+    }
+
+    /// Takes a header, or goes on in a body.
+    fn step(&mut self, alloc: Global, bytes: &[u8]) -> Result<Step, Stop>
+        requires levels { length self.old.frames ≤ 100 }
+        requires scanned { IsScanned self.old.body self.old.scanned bytes.now }
+        ensures steps { Steps self.old bytes.now self.new result }
+        ensures levels { OnOk result (length self.new.frames ≤ 100) }
+    {
+        let Some(mut body) = mem::replace(&mut self.body, None) else {
+            return self.header(alloc, bytes);
+        };
+        let taken = body.fill(bytes)?;
+        if !body_ends(&bytes[taken..])? {
+            self.body = Some(body);
+            return Ok(Step::Waits(taken));
+        }
+        Ok(Step::Whole(taken + 2, body.value(alloc)?))
+    }
+
+    /// Puts a whole value where it belongs; Some is one that stands in no frame.
+    fn settle(&mut self, alloc: Global, value: Value) -> Result<Option<Value>, Stop>
+        requires no_body { self.old.body ≡ None }
+        requires levels { length self.old.frames ≤ 100 }
+        ensures ends { Ends (place self.old.frames value) self.new result }
+        ensures levels { OnOk result (length self.new.frames ≤ 100) }
+        ensures scanned { self.new.scanned ≡ self.old.scanned }
+    {
+        let mut value = value;
+        while let Some(frame) = self.frames.pop() {
+            let Frame {
+                kind,
+                after,
+                mut elements,
+            } = frame;
+            elements.push(value)?;
+            if after > 0 {
+                self.frames.push(Frame {
+                    kind,
+                    after: after - 1,
+                    elements,
+                })?;
+                return Ok(None);
+            }
+            value = kind.value(alloc, elements)?;
+        }
+        Ok(Some(value))
+    }
+
+    /// Goes on until a value is whole or more bytes are needed; tells how many it took.
+    pub(crate) fn drive(
+        &mut self,
+        alloc: Global,
+        bytes: &[u8],
+    ) -> Result<(usize, Option<Value>), Stop>
+        requires levels { length self.old.frames ≤ 100 }
+        requires scanned { IsScanned self.old.body self.old.scanned bytes.now }
+        ensures drives { Drives self.old bytes.now self.new result }
+        ensures levels { OnOk result (length self.new.frames ≤ 100) }
+    {
+        let mut at = 0;
+        while at < bytes.len() {
+            match self.step(alloc, &bytes[at..])? {
+                Step::Waits(taken) => return Ok((at + taken, None)),
+                Step::Goes(taken) => at += taken,
+                Step::Whole(taken, value) => {
+                    at += taken;
+                    if let Some(value) = self.settle(alloc, value)? {
+                        return Ok((at, Some(value)));
+                    }
+                }
+            }
+        }
+        Ok((at, None))
+    }
+}
