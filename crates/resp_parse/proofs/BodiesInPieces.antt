@@ -130,12 +130,15 @@ module _ (m : Machine) (old new : Body) (bytes : List ℕ) (n : ℕ) (body_is : 
       let r : length (drop n bytes) ≡ length bytes - n = grind (arith, common_steps) in
       let l : 2 ≤ length (drop n bytes) = e.0 in
       let d : drop 2 (drop n bytes) ≡ drop (n + 2) bytes = drop-drop n 2 bytes in
-      rw i (record {
-        some = omega arith;
-        within = omega arith;
-        same = λ more. ended e more ∙ rw (c, d) refl;
-        scanned = s;
-      }, refl)
+      rw i (
+        record {
+          some = omega arith;
+          within = omega arith;
+          same = λ more. ended e more ∙ rw (c, d) refl;
+          scanned = s;
+        },
+        refl,
+      )
 
 -- no line is looked at while a body is open
 pub IsScanned-body : (m : Machine) (b : Body) (bytes : List ℕ) → m.body ≡ Some b → IsScanned m.body m.scanned bytes → m.scanned ≡ 0

@@ -116,17 +116,23 @@ module _ (m : Machine) (c : ℕ) (after : List ℕ) (body_is : m.body ≡ None) 
           header-stops m' (Fault f) g = λ more. ap fault_read (announced-reads more) ∙ g (drop (len + 2) after ++ more)
 
           pub header-goes : (m' : Machine) → m'.scanned ≡ 0 → Goes begins m' (Ok None) → Steps m (c ∷ after) m' (Ok (step.Goes (len + 3)))
-          header-goes m' s g = (record {
-            some = omega arith;
-            within = within;
-            same = λ more. announced-reads more ∙ g.0 (drop (len + 2) after ++ more) ∙ ap (λ x. resume m' (x ++ more)) (sym dropped);
-            scanned = s;
-          }, g.1)
+          header-goes m' s g = (
+            record {
+              some = omega arith;
+              within = within;
+              same = λ more. announced-reads more ∙ g.0 (drop (len + 2) after ++ more) ∙ ap (λ x. resume m' (x ++ more)) (sym dropped);
+              scanned = s;
+            },
+            g.1,
+          )
 
           pub header-whole : (m' : Machine) (v : Value) → m'.scanned ≡ 0 → Goes begins m' (Ok (Some v)) → Steps m (c ∷ after) m' (Ok (step.Whole (len + 3) v))
-          header-whole m' v s g = (record {
-            some = omega arith;
-            within = within;
-            same = λ more. announced-reads more ∙ g.0 (drop (len + 2) after ++ more) ∙ ap (λ x. place m'.frames v (x ++ more)) (sym dropped);
-            scanned = s;
-          }, g.1)
+          header-whole m' v s g = (
+            record {
+              some = omega arith;
+              within = within;
+              same = λ more. announced-reads more ∙ g.0 (drop (len + 2) after ++ more) ∙ ap (λ x. place m'.frames v (x ++ more)) (sym dropped);
+              scanned = s;
+            },
+            g.1,
+          )

@@ -96,12 +96,7 @@ impl Machine {
     }
 
     /// Begins what a header announces; Some is a value that is whole with it.
-    fn begin(
-        &mut self,
-        alloc: Global,
-        kind: TypeByte,
-        text: &str,
-    ) -> Result<Option<Value>, Stop>
+    fn begin(&mut self, alloc: Global, kind: TypeByte, text: &str) -> Result<Option<Value>, Stop>
         requires no_body { self.old.body ≡ None }
         requires level { length self.old.frames < 100 }
         ensures goes { Goes (λ more. then (read_announced (read (99 - length self.old.frames))

@@ -42,8 +42,11 @@ impl Model for Parser {
 
     ghost Value = { State };
 
-    ghost view = { λ p. record { unparsed = drop p.consumed p.buffer.items; since = p.since;
-        failed = p.failed } };
+    ghost view = { λ p. record {
+      unparsed = drop p.consumed p.buffer.items;
+      since = p.since;
+      failed = p.failed;
+    } };
 
     ghost invariant = { Kept };
 }
