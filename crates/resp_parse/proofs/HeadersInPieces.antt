@@ -17,7 +17,7 @@ use Rattle.resp_parse.specs.Lines.{NoneBefore, Scanned}
 use Rattle.resp_parse.specs.Grammar.{announced}
 use Rattle.resp_parse.specs.PlainReading.{ReadOutcome, got, fault, unfinished, then, line, read_body, read_announced, read_line, read}
 use Rattle.resp_parse.specs.Computes.{fault_read}
-use Rattle.resp_parse.specs.Resume.{value_of, place, resume, levels_left, fresh_of, IsScanned, FindsLine, Goes, Steps}
+use Rattle.resp_parse.specs.Resume.{value_of, place, resume, levels_left, fresh_of, IsLooked, IsScanned, FindsLine, Goes, Steps}
 use Rattle.resp_parse.proofs.ByteTests.{not_true}
 use Rattle.resp_parse.proofs.LineAt.{line-none}
 use Rattle.resp_parse.proofs.LineReads.{line-longer}
@@ -38,7 +38,7 @@ pub Scanned-none : (bs : List ℕ) → Scanned bs 0
 Scanned-none bs = record { within = omega arith; none = λ k l. absurd (omega arith) }
 
 pub IsScanned-zero : (b : Option Body) (n : ℕ) (bs : List ℕ) → n ≡ 0 → IsScanned b n bs
-IsScanned-zero None n bs e = rw e (Scanned-none (drop 1 bs))
+IsScanned-zero None n bs e = rw e (record { within = omega arith; rest = Scanned-none (drop 1 bs) })
 IsScanned-zero (Some b) n bs e = e
 
 -- a step that takes no byte and opens nothing
@@ -51,6 +51,12 @@ empty-waits m bytes e s = record {
   fresh = λ _. refl;
   begun = λ _. refl;
 }
+
+-- all bytes of a line were looked at
+looked : (c : ℕ) (after : List ℕ) → NoneBefore after (length after) → IsLooked (c ∷ after) (suc (length after))
+looked c after none =
+    let e : suc (length after) - 1 ≡ length after = omega arith in
+    record { within = omega arith; rest = rw e (record { within = omega arith; none = none }) }
 
 -- a machine before a value, whose type byte is c
 module _ (m : Machine) (c : ℕ) (after : List ℕ) (body_is : m.body ≡ None) where
@@ -73,12 +79,12 @@ module _ (m : Machine) (c : ℕ) (after : List ℕ) (body_is : m.body ≡ None) 
     unknown_type m' k = λ more. ap fault_read (leveled (c ∷ (after ++ more))) ∙ rw k refl
 
     module _ (kind : TypeByte) (kind_is : type_of c ≡ Some kind) where
-      pub line-waits : FindsLine after None → (m' : Machine) → m' ≡ record m { scanned = length after } → Steps m (c ∷ after) m' (Ok (step.Waits 0))
+      pub line-waits : FindsLine after None → (m' : Machine) → m' ≡ record m { scanned = suc (length after) } → Steps m (c ∷ after) m' (Ok (step.Waits 0))
       line-waits none m' i = rw i (record {
         within = omega arith;
         same = λ more. refl;
         waits = leveled (c ∷ after) ∙ rw (kind_is, line-none after none) refl;
-        scanned = rw body_is (record { within = omega arith; none = none });
+        scanned = rw body_is (looked c after none);
         fresh = λ _. refl;
         begun = λ _. refl;
       })

@@ -1,5 +1,5 @@
 -- What a parser keeps of itself, from call to call.
-use Rattle.std.proofs.Common.{◌≡◌, ◌≢◌, ℕ, zero, suc, ◌-◌, ◌<◌, ◌≤◌, ◌↔◌, IsTrue, not, Bool, true, false, List, [], ◌∷◌, ◌++◌, length, drop, refl, ap, sym, ◌∙◌, subst, append_assoc, arith, Option, Some, None, Result, Ok, Err}
+use Rattle.std.proofs.Common.{◌≡◌, ◌≢◌, ℕ, zero, suc, ◌+◌, ◌-◌, ◌<◌, ◌≤◌, ◌↔◌, IsTrue, not, Bool, true, false, List, [], ◌∷◌, ◌++◌, length, drop, refl, ap, sym, ◌∙◌, subst, append_assoc, arith, Option, Some, None, Result, Ok, Err}
 use Rattle.std.proofs.lemmas.List.{append-nil}
 use Rattle.std.proofs.lemmas.Grind.{common_steps}
 use Rattle.resp_value.specs.declared.value.Value.{Value}
@@ -12,6 +12,7 @@ use Rattle.resp_parse.specs.PlainReading.{ReadOutcome, got, fault, unfinished, t
 use Rattle.resp_parse.specs.Prefixes.{HasGoodPrefix, HasFaultyPrefix, IsUnfinished}
 use Rattle.resp_parse.specs.Computes.{fault_read}
 use Rattle.resp_parse.specs.Resume.{value_of, place, resume, levels_left, fresh_of, IsScanned, FaultsAlways, Waits, Reads, Drives}
+use Rattle.resp_parse.specs.Weights.{weight}
 use Rattle.resp_parse.specs.Kept.{Resumes, Rests, Holds}
 use Rattle.resp_parse.proofs.LineAt.{Scanned-longer}
 use Rattle.resp_parse.proofs.BodiesInPieces.{drop-all}
@@ -28,7 +29,7 @@ pub record NothingOpen (b : Option Body) (fs : List Frame) : Type 0 where
   pub no_body : b ≡ None
   pub no_frame : fs ≡ []
 
-nothing_open : (b : Option Body) (fs : List Frame) → fresh_of b fs ≡ true → NothingOpen b fs
+pub nothing_open : (b : Option Body) (fs : List Frame) → fresh_of b fs ≡ true → NothingOpen b fs
 nothing_open None [] e = record { no_body = refl; no_frame = refl }
 nothing_open None (f ∷ fs) e = absurd (cc)
 nothing_open (Some b) fs e = absurd (cc)
@@ -39,11 +40,11 @@ resume-fresh m e bs = let n = nothing_open m.body m.frames e in rw (n.no_body, n
 -- a machine that has read nothing
 pub Resumes-fresh : (m : Machine) (u : List ℕ) → fresh_of m.body m.frames ≡ true → m.scanned ≡ 0 → Resumes m u u
 Resumes-fresh m u e s = record {
-  levels = (let n = nothing_open m.body m.frames e in rw n.no_frame (omega arith));
   scanned = IsScanned-zero m.body m.scanned u s;
   reads = λ more. resume-fresh m e (u ++ more);
   fresh = λ _. refl;
   begun = λ k. absurd (let z : true ≡ false = sym e ∙ k in cc);
+  weighs = (let n = nothing_open m.body m.frames e in rw (n.no_body, n.no_frame) (omega arith));
 }
 
 drop-append : (n : ℕ) (xs ys : List ℕ) → n ≤ length xs → drop n (xs ++ ys) ≡ drop n xs ++ ys
@@ -51,17 +52,17 @@ drop-append n xs ys l = grind (arith, common_steps)
 
 IsScanned-longer : (b : Option Body) (n : ℕ) (u more : List ℕ) → IsScanned b n u → IsScanned b n (u ++ more)
 IsScanned-longer None n [] more h = IsScanned-zero None n more (omega (arith, h.within))
-IsScanned-longer None n (c ∷ u) more h = Scanned-longer u more n h
+IsScanned-longer None n (c ∷ u) more h = let w : n ≤ length (c ∷ u) = h.within in record { within = grind (arith, common_steps); rest = Scanned-longer u more (n - 1) h.rest }
 IsScanned-longer (Some b) n u more h = h
 
 -- bytes were added
 pub Resumes-fed : (m : Machine) (u since bytes : List ℕ) → Resumes m u since → Resumes m (u ++ bytes) (since ++ bytes)
 Resumes-fed m u since bytes h = record {
-  levels = h.levels;
   scanned = IsScanned-longer m.body m.scanned u bytes h.scanned;
   reads = λ more. ap (read 100) (append_assoc since bytes more) ∙ h.reads (bytes ++ more) ∙ ap (resume m) (sym (append_assoc u bytes more));
   fresh = λ e. ap (λ x. x ++ bytes) (h.fresh e);
   begun = λ e. let l : length u < length since = h.begun e in grind (arith, common_steps);
+  weighs = (let l : length (u ++ bytes) ≡ length u + length bytes = grind (arith, common_steps) in let k : length (since ++ bytes) ≡ length since + length bytes = grind (arith, common_steps) in omega (arith, l, k, h.weighs));
 }
 
 length-zero : (xs : List ℕ) → length xs ≡ 0 → xs ≡ []
@@ -129,13 +130,13 @@ module _ (m new : Machine) (u since : List ℕ) (h : Resumes m u since) where
   pub unfinished-from_waits : (n : ℕ) → Waits m u new n → IsUnfinished 100 since
   unfinished-from_waits n d = IsUnfinished-from_read 100 since (at_end ∙ d.same [] ∙ ap (resume new) (append-nil (drop n u)) ∙ d.waits)
 
-  pub Resumes-waits : (n : ℕ) → Waits m u new n → length new.frames ≤ 100 → Resumes new (drop n u) since
-  Resumes-waits n d l = record {
-    levels = l;
+  pub Resumes-waits : (n : ℕ) → Waits m u new n → weight new ≤ weight m + n → Resumes new (drop n u) since
+  Resumes-waits n d k = record {
     scanned = d.scanned;
     reads = λ more. h.reads more ∙ d.same more;
     fresh = λ e. let z : n ≡ 0 = d.fresh e in h.fresh (sym (d.begun z) ∙ e) ∙ ap (λ k. drop k u) (sym z);
     begun = λ e. longer n d e (fresh_of m.body m.frames) refl;
+    weighs = (let w : n ≤ length u = d.within in let r : length (drop n u) ≡ length u - n = grind (arith, common_steps) in omega (arith, w, r, k, h.weighs));
   }
     where
       longer : (n : ℕ) → Waits m u new n → fresh_of new.body new.frames ≡ false → (k : Bool) → fresh_of m.body m.frames ≡ k → length (drop n u) < length since
@@ -170,3 +171,6 @@ Holds-asked m buffer buffer' since since' bytes consumed failed l some h e k =
         (λ r. absurd (let y : length (drop consumed buffer ++ bytes) ≡ 0 = ap length r.none in grind (arith, common_steps))),
       );
     })
+
+pub fed-length : (buffer buffer' bytes : List ℕ) (consumed : ℕ) → consumed ≤ length buffer → buffer' ≡ buffer ++ bytes → length (drop consumed buffer') ≡ length (drop consumed buffer) + length bytes
+fed-length buffer buffer' bytes consumed l e = rw e (grind (arith, common_steps))

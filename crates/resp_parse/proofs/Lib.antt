@@ -2,9 +2,11 @@ pub mod Announced
 pub mod Asking
 pub mod BodyEnds
 pub mod BodyReads
+pub mod BuiltOf
 pub mod ByteTests
 pub mod ElementReads
 pub mod BodiesInPieces
+pub mod Counting
 pub mod Driving
 pub mod HeadersInPieces
 pub mod Holding
@@ -16,10 +18,13 @@ pub mod ParserStates
 pub mod OpenFrames
 pub mod Parsing
 pub mod PrefixReads
+pub mod Paying
 pub mod Prefixes
 pub mod PushesAndAttributes
 pub mod ReadingMeetsGrammar
 pub mod ReadingsInSequence
 pub mod Settling
+pub mod Sizes
 pub mod Taking
+pub mod Tallies
 pub mod TypeBytes

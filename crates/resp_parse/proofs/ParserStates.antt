@@ -2,9 +2,6 @@
 use Rattle.std.proofs.Common.{◌≡◌, ℕ, Bool, true, false, List, ◌++◌, ◌⊎◌, inl, inr, sym, ap, ◌∙◌}
 use Rattle.resp_parse.specs.State.{State, StandsAfter, FailedAfter, IsBetweenValues}
 
-abbrev pub state_of : List ℕ → List ℕ → Bool → State
-state_of unparsed since failed = record { unparsed = unparsed; since = since; failed = failed }
-
 pub StandsAfter-from_since : (s : State) (b : List ℕ) → s.failed ≡ false → b ≡ s.since → StandsAfter s b
 unfolding StandsAfter
 StandsAfter-from_since s b w e = (w, e)

@@ -1,5 +1,8 @@
 -- A whole value is put in the innermost of the open frames.
-use Rattle.std.proofs.Common.{◌≡◌, ℕ, suc, false, List, [], ◌∷◌, ◌++◌, refl, ap, ◌∙◌, sym, None, Result, Ok, Err}
+use Rattle.std.proofs.Common.{◌≡◌, ℕ, suc, ◌+◌, ◌*◌, ◌≤◌, false, List, [], ◌∷◌, ◌++◌, length, refl, ap, ◌∙◌, sym, arith, None, Ok, Err}
+use Rattle.std.proofs.lemmas.Grind.{common_steps}
+use Rattle.std.proofs.lemmas.List.Sums.{sum_by-cons, sum_by-append}
+use Rattle.std.specs.List.{sum_by}
 use Rattle.resp_value.specs.declared.value.Value.{Value}
 use Rattle.resp_parse.specs.declared.stop.Stop.{Stop}
 use Rattle.resp_parse.specs.declared.stop.Stop.TheVariants.{Memory, Fault}
@@ -9,7 +12,10 @@ use Rattle.resp_parse.specs.Shapes.{elements_value}
 use Rattle.resp_parse.specs.PlainReading.{then, made}
 use Rattle.resp_parse.specs.Computes.{Computes, fault_read}
 use Rattle.resp_parse.specs.Resume.{place, Ends}
+use Rattle.resp_parse.specs.Built.{built}
+use Rattle.resp_parse.specs.Weights.{built_of, frames_weight, frames_credit}
 use Rattle.resp_parse.proofs.OpenFrames.{keeps, closes}
+use Rattle.resp_parse.proofs.Sizes.{elements-small}
 
 -- what began as w inside gs has become v inside f and fs; the elements of f are then vs
 module _ (gs : List Frame) (w : Value) (now : List Frame) (v : Value) (same : (more : List ℕ) → place gs w more ≡ place now v more)
@@ -32,3 +38,31 @@ module _ (gs : List Frame) (w : Value) (now : List Frame) (v : Value) (same : (m
   pub settle-refused : (m : Machine) (e : Stop) → f.after ≡ 0 → Computes (Err e) (elements_value f.kind vs) → Ends (place gs w) m (Err e)
   settle-refused m Memory a c = tt
   settle-refused m (Fault g) a c = λ more. ap fault_read (closed a more) ∙ rw c refl
+
+-- what the frames have taken and saved, where the innermost has one element more
+module _ (now : List Frame) (f : Frame) (fs : List Frame) (now_is : now ≡ f ∷ fs) (v : Value) (vs : List Value) (vs_is : vs ≡ f.elements ++ (v ∷ [])) where
+  pub elements-more : length vs ≡ suc (length f.elements)
+  elements-more = ap length vs_is ∙ grind (arith, common_steps)
+
+  pub built-more : built_of vs ≡ built_of f.elements + built v
+  built-more = let one : sum_by built (v ∷ []) ≡ built v + sum_by built [] = sum_by-cons built v [] in let both : sum_by built (f.elements ++ (v ∷ [])) ≡ sum_by built f.elements + sum_by built (v ∷ []) = sum_by-append built f.elements (v ∷ []) in ap built_of vs_is ∙ omega (arith, one, both)
+
+  pub weight-now : frames_weight now ≡ 3 + 3 * built_of f.elements + frames_weight fs
+  weight-now = ap frames_weight now_is
+
+  pub credit-now : frames_credit now ≡ 2 + length f.elements + frames_credit fs
+  credit-now = ap frames_credit now_is
+
+  -- more elements are to come
+  pub keeps-weight : (m : ℕ) (new : List Frame) → new ≡ record { kind = f.kind; after = m; elements = vs } ∷ fs → frames_weight new ≡ frames_weight now + 3 * built v
+  keeps-weight m new e = ap frames_weight e ∙ omega (arith, built-more, weight-now)
+
+  pub keeps-credit : (m : ℕ) (new : List Frame) → new ≡ record { kind = f.kind; after = m; elements = vs } ∷ fs → frames_credit new ≡ suc (frames_credit now)
+  keeps-credit m new e = ap frames_credit e ∙ omega (arith, elements-more, credit-now)
+
+  -- all elements are there
+  pub closes-weight : (u : Value) → Computes (Ok u) (elements_value f.kind vs) → frames_weight fs + 3 * built u ≤ frames_weight now + 3 * built v
+  closes-weight u c = let small : built u ≤ suc (built_of vs) = elements-small f.kind vs u (omega (arith, elements-more)) c in omega (arith, small, built-more, weight-now)
+
+  pub closes-credit : frames_credit fs + length vs + 1 ≤ frames_credit now
+  closes-credit = omega (arith, elements-more, credit-now)

@@ -12,10 +12,13 @@ use Rattle.resp_parse.specs.Prefixes.{HasGoodPrefix, HasFaultyPrefix, IsUnfinish
 use Rattle.resp_parse.specs.State.{State, StandsAfter}
 use Rattle.resp_parse.specs.Calls.{Takes, CannotTake}
 use Rattle.resp_parse.specs.Resume.{Drives}
-use Rattle.resp_parse.specs.Kept.{Resumes, Holds}
+use Rattle.resp_parse.specs.Tally.{Tally}
+use Rattle.resp_parse.specs.Weights.{weight, DrivePays}
+use Rattle.resp_parse.specs.Kept.{Resumes, Holds, Counted}
+use Rattle.resp_parse.proofs.Counting.{Counted-taken, Counted-stopped, scanned-within}
 use Rattle.resp_parse.proofs.BodiesInPieces.{drop-drop}
 use Rattle.resp_parse.proofs.Holding.{Resumes-fresh, Resumes-waits, Holds-working, Holds-failed, good-from_reads, faulty-from_drives, unfinished-from_waits}
-use Rattle.resp_parse.proofs.ParserStates.{state_of, IsBetweenValues-from_same, StandsAfter-since, StandsAfter-from_since, FailedAfter-from_since}
+use Rattle.resp_parse.proofs.ParserStates.{IsBetweenValues-from_same, StandsAfter-since, StandsAfter-from_since, FailedAfter-from_since}
 
 -- the machine was in these unparsed bytes, and is now `new`
 module _ (buffer since : List ℕ) (consumed : ℕ) (failed : Bool) (m new : Machine) (within : consumed ≤ length buffer) (h : Holds m (drop consumed buffer) since failed) (w : failed ≡ false)
@@ -34,11 +37,14 @@ module _ (buffer since : List ℕ) (consumed : ℕ) (failed : Bool) (m new : Mac
     pub waits-fits : consumed + n ≤ length buffer
     waits-fits = fits n d.within
 
-    pub waits-holds : length new.frames ≤ 100 → Holds new (drop (consumed + n) buffer) since failed
-    waits-holds l = subst (λ x. Holds new x since failed) (dropped n) (Holds-working new (drop n u) since failed (Resumes-waits m new u since resumes n d l))
+    pub waits-holds : weight new ≤ weight m + n → Holds new (drop (consumed + n) buffer) since failed
+    waits-holds k = subst (λ x. Holds new x since failed) (dropped n) (Holds-working new (drop n u) since failed (Resumes-waits m new u since resumes n d k))
 
-    pub waits-takes : (b : List ℕ) → b ≡ since → Takes b (state_of (drop (consumed + n) buffer) since failed) (Ok None)
-    waits-takes b e = (subst (IsUnfinished 100) (sym e) (unfinished-from_waits m new u since resumes n d), StandsAfter-from_since (state_of (drop (consumed + n) buffer) since failed) b w e)
+    pub waits-counted : (c t e : Tally) → Counted m (drop consumed buffer) c failed → t ≡ record c { calls = c.calls + 1 } → DrivePays m new u t e (Ok (n, None)) → Counted new (drop (consumed + n) buffer) e failed
+    waits-counted c t e k i p = subst (λ x. Counted new x e failed) (dropped n) (Counted-taken m new u c t e failed n None d.within (scanned-within new.body new.scanned (drop n u) d.scanned) (subst (λ x. Counted m x c failed) (sym u_is) k) w i p)
+
+    pub waits-takes : (s : State) → s.failed ≡ failed → s.since ≡ since → (b : List ℕ) → b ≡ since → Takes b s (Ok None)
+    waits-takes s f k b e = (subst (IsUnfinished 100) (sym e) (unfinished-from_waits m new u since resumes n d), StandsAfter-from_since s b (f ∙ w) (e ∙ sym k))
 
   -- a value was read
   module _ (n : ℕ) (v : Value) (d : Drives m u new (Ok (n, Some v))) (now : List ℕ) (now_is : now ≡ drop (consumed + n) buffer) where
@@ -48,18 +54,24 @@ module _ (buffer since : List ℕ) (consumed : ℕ) (failed : Bool) (m new : Mac
     pub value-holds : Holds new (drop (consumed + n) buffer) now failed
     value-holds = subst (λ x. Holds new (drop (consumed + n) buffer) x failed) (sym now_is) (Holds-working new (drop (consumed + n) buffer) (drop (consumed + n) buffer) failed (Resumes-fresh new (drop (consumed + n) buffer) d.fresh d.scanned))
 
-    pub value-takes : (b : List ℕ) → b ≡ since → Takes b (state_of (drop (consumed + n) buffer) now failed) (Ok (Some v))
-    value-takes b e = (
-      subst (λ x. HasGoodPrefix 100 x v (drop (consumed + n) buffer)) (sym e) (subst (λ r. HasGoodPrefix 100 since v r) (dropped n) (good-from_reads m new u since resumes n v d)),
-      IsBetweenValues-from_same (state_of (drop (consumed + n) buffer) now failed) w now_is,
+    pub value-counted : (c t e : Tally) → Counted m (drop consumed buffer) c failed → t ≡ record c { calls = c.calls + 1 } → DrivePays m new u t e (Ok (n, Some v)) → Counted new (drop (consumed + n) buffer) e failed
+    value-counted c t e k i p = subst (λ x. Counted new x e failed) (dropped n) (Counted-taken m new u c t e failed n (Some v) d.within (omega (arith, d.scanned)) (subst (λ x. Counted m x c failed) (sym u_is) k) w i p)
+
+    pub value-takes : (s : State) → s.failed ≡ failed → s.since ≡ now → s.unparsed ≡ drop (consumed + n) buffer → (b : List ℕ) → b ≡ since → Takes b s (Ok (Some v))
+    value-takes s f k x b e = (
+      subst (λ r. HasGoodPrefix 100 b v r) (sym x) (subst (λ y. HasGoodPrefix 100 y v (drop (consumed + n) buffer)) (sym e) (subst (λ r. HasGoodPrefix 100 since v r) (dropped n) (good-from_reads m new u since resumes n v d))),
+      IsBetweenValues-from_same s (f ∙ w) (k ∙ now_is ∙ sym x),
     )
 
   -- no value can be read
   pub stops-holds : (e : Stop) → Drives m u new (Err e) → Holds new (drop consumed buffer) since true
   stops-holds e d = Holds-failed m new (drop consumed buffer) since failed h (subst (λ (x : List ℕ). 0 < length x) u_is d.1)
 
-  pub stops-fault : (f : FrameFault) → Drives m u new (Err (stop.Fault f)) → (b : List ℕ) → b ≡ since → Takes b (state_of (drop consumed buffer) since true) (Err (form.Parse (parsing.Fault f)))
-  stops-fault f d b e = (CannotTake.faulty f refl (subst (λ x. HasFaultyPrefix 100 x f) (sym e) (faulty-from_drives m new u since resumes f d)), FailedAfter-from_since (state_of (drop consumed buffer) since true) b refl e)
+  pub stops-counted : (x : Stop) (c t e : Tally) → Counted m (drop consumed buffer) c failed → t ≡ record c { calls = c.calls + 1 } → DrivePays m new u t e (Err x) → Counted new (drop consumed buffer) e true
+  stops-counted x c t e k i p = Counted-stopped m new u c t e failed x (subst (λ y. Counted m y c failed) (sym u_is) k) w i p (drop consumed buffer)
 
-  pub stops-memory : (b : List ℕ) → b ≡ since → Takes b (state_of (drop consumed buffer) since true) (Err form.OutOfMemory)
-  stops-memory b e = (CannotTake.out_of_memory refl, FailedAfter-from_since (state_of (drop consumed buffer) since true) b refl e)
+  pub stops-fault : (s : State) → s.failed ≡ true → s.since ≡ since → (f : FrameFault) → Drives m u new (Err (stop.Fault f)) → (b : List ℕ) → b ≡ since → Takes b s (Err (form.Parse (parsing.Fault f)))
+  stops-fault s k y f d b e = (CannotTake.faulty f refl (subst (λ x. HasFaultyPrefix 100 x f) (sym e) (faulty-from_drives m new u since resumes f d)), FailedAfter-from_since s b k (e ∙ sym y))
+
+  pub stops-memory : (s : State) → s.failed ≡ true → s.since ≡ since → (b : List ℕ) → b ≡ since → Takes b s (Err form.OutOfMemory)
+  stops-memory s k y b e = (CannotTake.out_of_memory refl, FailedAfter-from_since s b k (e ∙ sym y))

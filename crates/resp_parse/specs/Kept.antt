@@ -1,17 +1,19 @@
 -- What a parser keeps of itself.
-use Rattle.std.specs.Prelude.{◌≡◌, ◌↔◌, ◌<◌, ◌≤◌, ℕ, Bool, true, false, List, [], ◌++◌, length, drop}
+use Rattle.std.specs.Prelude.{◌≡◌, ◌↔◌, ◌<◌, ◌≤◌, ◌+◌, ◌*◌, ℕ, Bool, true, false, List, [], ◌++◌, length, drop}
 use Rattle.resp_parse.specs.declared.machine.Machine.{Machine}
 use Rattle.resp_parse.specs.declared.parser.Parser.TheInside.{Inside}
+use Rattle.resp_parse.specs.Tally.{Tally}
+use Rattle.resp_parse.specs.Weights.{weight, credit}
 use Rattle.resp_parse.specs.PlainReading.{read}
 use Rattle.resp_parse.specs.Resume.{resume, fresh_of, IsScanned}
 
 -- what reads on in the unparsed bytes reads on in the bytes since the last value
 pub record Resumes (m : Machine) (unparsed since : List ℕ) : Type 0 where
-  pub levels : length m.frames ≤ 100
   pub scanned : IsScanned m.body m.scanned unparsed
   pub reads : (more : List ℕ) → read 100 (since ++ more) ≡ resume m (unparsed ++ more)
   pub fresh : fresh_of m.body m.frames ≡ true → since ≡ unparsed
   pub begun : fresh_of m.body m.frames ≡ false → length unparsed < length since
+  pub weighs : weight m + length unparsed ≤ length since
 
 -- nothing is in progress
 pub record Rests (m : Machine) (unparsed : List ℕ) : Type 0 where
@@ -24,6 +26,19 @@ pub record Holds (m : Machine) (unparsed since : List ℕ) (failed : Bool) : Typ
   pub resumes : failed ≡ false → Resumes m unparsed since
   pub progress : (since ≡ []) ↔ Rests m unparsed
 
+-- the bytes taken and the calls pay for the turns made and for those that the machine has saved;
+-- what came was taken or is unparsed
+pub record Balanced (m : Machine) (unparsed : List ℕ) (counts : Tally) : Type 0 where
+  pub pays : counts.turns + credit m ≤ 3 * counts.taken + counts.calls
+  pub held : counts.taken + length unparsed ≡ counts.came + m.scanned
+
+pub record Counted (m : Machine) (unparsed : List ℕ) (counts : Tally) (failed : Bool) : Type 0 where
+  pub turns : counts.turns ≤ 3 * counts.taken + counts.calls
+  pub taken : counts.taken ≤ counts.came
+  pub works : failed ≡ false → Balanced m unparsed counts
+
 pub record Kept (p : Inside) : Type 0 where
   pub consumed : p.consumed ≤ length p.buffer.items
+  pub levels : length p.machine.frames ≤ 100
   pub holds : Holds p.machine (drop p.consumed p.buffer.items) p.since p.failed
+  pub counted : Counted p.machine (drop p.consumed p.buffer.items) p.counts p.failed

@@ -11,7 +11,11 @@ pub mod Shapes
 pub mod Computes
 pub mod FirstValue
 pub mod Resume
+pub mod Tally
+pub mod Built
+pub mod Weights
 pub mod State
+pub mod Bounds
 pub mod Kept
 pub mod Source
 pub mod Calls

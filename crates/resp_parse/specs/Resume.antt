@@ -41,9 +41,13 @@ fresh_of None [] = true
 fresh_of None (f ∷ fs) = false
 fresh_of (Some b) fs = false
 
--- so many bytes after the type byte of a line hold no CR LF
+-- so many bytes of a line, its type byte among them, were looked at and hold no CR LF
+pub record IsLooked (bytes : List ℕ) (n : ℕ) : Type 0 where
+  pub within : n ≤ length bytes
+  pub rest : Scanned (drop 1 bytes) (n - 1)
+
 abbrev pub IsScanned : Option Body → ℕ → List ℕ → Type 0
-IsScanned None n bytes = Scanned (drop 1 bytes) n
+IsScanned None n bytes = IsLooked bytes n
 IsScanned (Some b) n bytes = n ≡ 0
 
 -- reading is at fault, whatever bytes come; memory aside

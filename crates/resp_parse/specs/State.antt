@@ -1,16 +1,23 @@
 -- What a parser holds.
 use Rattle.std.specs.Prelude.{◌≡◌, ℕ, Bool, true, false, List, codes}
 use Rattle.std.proofs.Props.{props}
+use Rattle.resp_parse.specs.Tally.{Tally}
 use Rattle.resp_errors.specs.declared.parsing_error.ParsingError.TheVariants as parsing
 use Rattle.resp_errors.specs.declared.redis_error.RedisError.{RedisError}
 use Rattle.resp_errors.specs.declared.redis_error.RedisError.TheVariants as form
 
--- the bytes that are buffered and not yet parsed; those since the last value that was handed out;
--- and whether the parser has failed
+-- the bytes that are buffered and not yet parsed, and how many of them were looked at; those since
+-- the last value that was handed out; whether the parser has failed; how many frames are open, of
+-- aggregates whose header was read and whose elements aren't all there; of how many values these
+-- elements are built; and what the parser has done
 pub record State : Type 0 where
   pub unparsed : List ℕ
+  pub looked : ℕ
   pub since : List ℕ
   pub failed : Bool
+  pub frames : ℕ
+  pub built : ℕ
+  pub counts : Tally
 
 -- the parser works, and b are the bytes since the last value that it handed out
 unfoldable pub StandsAfter : State → List ℕ → Type 0

@@ -1,6 +1,6 @@
 //! The aggregates whose headers were read and whose elements aren't all there.
 
-ghost use Rattle.std.specs.Prelude.{◌≡◌, ◌∷◌, [], length, MatchOption, OnOk};
+ghost use Rattle.std.specs.Prelude.{◌≡◌, ◌∷◌, [], length, MatchOption, OnErr, OnOk};
 
 use crate::shape::ElementsKind;
 use resp_value::{Items, Value};
@@ -54,7 +54,8 @@ impl Frames {
 
     /// Opens a frame inside the others.
     pub(crate) fn push(&mut self, frame: Frame) -> Result<(), AllocError>
-        ensures { OnOk result (self.new ≡ frame ∷ self.old) }
+        ensures ok { OnOk result (self.new ≡ frame ∷ self.old) }
+        ensures err { OnErr result (self.new ≡ self.old) }
     {
         self.frames.push(frame)?;
         Ok(())

@@ -1,6 +1,7 @@
 #![tactic(auto)]
 //! Reading replies of a RESP server (RESP2 and RESP3) from bytes.
 
+mod counts;
 mod double;
 mod frames;
 pub mod laws;

@@ -2,15 +2,19 @@
 
 ghost use Rattle.resp_parse.specs.Lines.{Scanned};
 ghost use Rattle.resp_parse.specs.Resume.{FindsLine, EndsBody};
+ghost use Rattle.resp_parse.specs.Weights.{LooksAt};
 
+use crate::counts::Counts;
 use resp_value::FrameFault;
 
 /// The length of the text up to the first CR LF, where so many bytes hold none.
-pub(crate) fn line_end(bytes: &[u8], scanned: usize) -> Option<usize>
+pub(crate) fn line_end(bytes: &[u8], scanned: usize, counts: &mut Counts) -> Option<usize>
     requires scanned { Scanned bytes.now scanned }
     ensures line { FindsLine bytes.now result }
+    ensures looks { LooksAt scanned bytes.now counts.old counts.new result }
 {
     for at in scanned.max(1)..bytes.len() {
+        counts.turn();
         if bytes[at] == b'\n' && bytes[at - 1] == b'\r' {
             return Some(at - 1);
         }

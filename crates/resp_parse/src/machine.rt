@@ -1,6 +1,6 @@
 //! The reading of a value, which stops where the bytes end and goes on from there.
 
-ghost use Rattle.std.specs.Prelude.{◌≡◌, ◌<◌, ◌≤◌, ◌-◌, ◌++◌, [], length, drop, true, OnOk};
+ghost use Rattle.std.specs.Prelude.{◌≡◌, ◌<◌, ◌≤◌, ◌+◌, ◌-◌, ◌*◌, length, true};
 ghost use Rattle.resp_parse.specs.declared.stop.Stop.{Stop};
 ghost use Rattle.std.specs.Prelude.{None};
 ghost use Rattle.resp_parse.specs.Grammar.{announced};
@@ -9,7 +9,11 @@ ghost use Rattle.resp_parse.specs.Shapes.{body_value};
 ghost use Rattle.resp_parse.specs.Computes.{Computes};
 ghost use Rattle.resp_parse.specs.Resume.{place, resume, fresh_of, IsScanned, Goes, Ends, Steps};
 ghost use Rattle.resp_parse.specs.Resume.{Drives, FillsBody};
+ghost use Rattle.resp_parse.specs.Built.{built};
+ghost use Rattle.resp_parse.specs.Weights.{weight, Weighs, StepWeighs, DriveWeighs, Places};
+ghost use Rattle.resp_parse.specs.Weights.{HeaderPays, StepPays, DrivePays};
 
+use crate::counts::Counts;
 use crate::frames::{Frame, Frames};
 use crate::line::{body_ends, line_end};
 use crate::shape::{BodyKind, Shape, shape_of};
@@ -71,7 +75,7 @@ pub(crate) enum Step {
 pub(crate) struct Machine {
     pub(crate) frames: Frames,
     pub(crate) body: Option<Body>,
-    /// So many bytes after the type byte of the line in progress hold no CR LF.
+    /// So many bytes of the line in progress were looked at and hold no CR LF.
     pub(crate) scanned: usize,
 }
 
@@ -96,13 +100,22 @@ impl Machine {
     }
 
     /// Begins what a header announces; Some is a value that is whole with it.
-    fn begin(&mut self, alloc: Global, kind: TypeByte, text: &str) -> Result<Option<Value>, Stop>
+    fn begin(
+        &mut self,
+        alloc: Global,
+        kind: TypeByte,
+        text: &str,
+        counts: &mut Counts,
+    ) -> Result<Option<Value>, Stop>
         requires no_body { self.old.body ≡ None }
         requires level { length self.old.frames < 100 }
         ensures goes { Goes (λ more. then (read_announced (read (99 - length self.old.frames))
             (announced kind text.now) more) (place self.old.frames)) self.new result }
-        ensures levels { OnOk result (length self.new.frames ≤ 100) }
+        ensures levels { length self.new.frames ≤ 100 }
         ensures scanned { self.new.scanned ≡ self.old.scanned }
+        ensures weighs { Weighs self.new (3 + weight self.old) result }
+        ensures places { Places self.old self.new counts.old counts.new result }
+        ensures turns { counts.new ≡ record counts.old { turns = counts.new.turns } }
     {
         match shape_of(alloc, kind, text)? {
             Shape::Whole(value) => Ok(Some(value)),
@@ -114,7 +127,7 @@ impl Machine {
                 });
                 Ok(None)
             }
-            Shape::Elements(kind, 0) => Ok(Some(kind.value(alloc, Items::new(alloc))?)),
+            Shape::Elements(kind, 0) => { Ok(Some(kind.value(alloc, Items::new(alloc), counts)?)) }
             Shape::Elements(kind, count) => {
                 self.frames.push(Frame {
                     kind,
@@ -127,12 +140,14 @@ impl Machine {
     }
 
     /// Reads the header at the start of the bytes.
-    fn header(&mut self, alloc: Global, bytes: &[u8]) -> Result<Step, Stop>
+    fn header(&mut self, alloc: Global, bytes: &[u8], counts: &mut Counts) -> Result<Step, Stop>
         requires no_body { self.old.body ≡ None }
         requires levels { length self.old.frames ≤ 100 }
         requires scanned { IsScanned self.old.body self.old.scanned bytes.now }
         ensures steps { Steps self.old bytes.now self.new result }
-        ensures levels { OnOk result (length self.new.frames ≤ 100) }
+        ensures levels { length self.new.frames ≤ 100 }
+        ensures weighs { StepWeighs self.old self.new result }
+        ensures pays { HeaderPays self.old self.new bytes.now counts.old counts.new result }
     {
         let Some((first, after)) = bytes.split_first() else {
             return Ok(Step::Waits(0));
@@ -143,48 +158,64 @@ impl Machine {
         let Some(kind) = TypeByte::from_byte(*first) else {
             return Err(Stop::Fault(FrameFault::UnknownType));
         };
-        let Some(len) = line_end(after, self.scanned) else {
-            self.scanned = after.len();
+        let Some(len) = line_end(after, self.scanned.saturating_sub(1), counts) else {
+            counts.take(bytes.len() - self.scanned);
+            self.scanned = bytes.len();
             return Ok(Step::Waits(0));
         };
+        counts.take(len + 3 - self.scanned);
         self.scanned = 0;
         let Ok(text) = std::str::from_utf8(&after[..len]) else {
             return Err(Stop::Fault(FrameFault::LineNotUtf8));
         };
-        match self.begin(alloc, kind, text)? {
+        match self.begin(alloc, kind, text, counts)? {
             Some(value) => Ok(Step::Whole(len + 3, value)),
             None => Ok(Step::Goes(len + 3)),
         }
     }
 
     /// Takes a header, or goes on in a body.
-    fn step(&mut self, alloc: Global, bytes: &[u8]) -> Result<Step, Stop>
+    fn step(&mut self, alloc: Global, bytes: &[u8], counts: &mut Counts) -> Result<Step, Stop>
         requires levels { length self.old.frames ≤ 100 }
         requires scanned { IsScanned self.old.body self.old.scanned bytes.now }
         ensures steps { Steps self.old bytes.now self.new result }
-        ensures levels { OnOk result (length self.new.frames ≤ 100) }
+        ensures levels { length self.new.frames ≤ 100 }
+        ensures weighs { StepWeighs self.old self.new result }
+        ensures pays { StepPays self.old self.new bytes.now counts.old counts.new result }
     {
+        counts.turn();
         let Some(mut body) = mem::replace(&mut self.body, None) else {
-            return self.header(alloc, bytes);
+            return self.header(alloc, bytes, counts);
         };
         let taken = body.fill(bytes)?;
+        counts.take(taken);
         if !body_ends(&bytes[taken..])? {
             self.body = Some(body);
             return Ok(Step::Waits(taken));
         }
+        counts.take(2);
         Ok(Step::Whole(taken + 2, body.value(alloc)?))
     }
 
     /// Puts a whole value where it belongs; Some is one that stands in no frame.
-    fn settle(&mut self, alloc: Global, value: Value) -> Result<Option<Value>, Stop>
+    fn settle(
+        &mut self,
+        alloc: Global,
+        value: Value,
+        counts: &mut Counts,
+    ) -> Result<Option<Value>, Stop>
         requires no_body { self.old.body ≡ None }
         requires levels { length self.old.frames ≤ 100 }
         ensures ends { Ends (place self.old.frames value) self.new result }
-        ensures levels { OnOk result (length self.new.frames ≤ 100) }
+        ensures levels { length self.new.frames ≤ 100 }
         ensures scanned { self.new.scanned ≡ self.old.scanned }
+        ensures weighs { Weighs self.new (weight self.old + 3 * built value) result }
+        ensures places { Places self.old self.new counts.old counts.new result }
+        ensures turns { counts.new ≡ record counts.old { turns = counts.new.turns } }
     {
         let mut value = value;
         while let Some(frame) = self.frames.pop() {
+            counts.turn();
             let Frame {
                 kind,
                 after,
@@ -199,7 +230,7 @@ impl Machine {
                 })?;
                 return Ok(None);
             }
-            value = kind.value(alloc, elements)?;
+            value = kind.value(alloc, elements, counts)?;
         }
         Ok(Some(value))
     }
@@ -209,20 +240,23 @@ impl Machine {
         &mut self,
         alloc: Global,
         bytes: &[u8],
+        counts: &mut Counts,
     ) -> Result<(usize, Option<Value>), Stop>
         requires levels { length self.old.frames ≤ 100 }
         requires scanned { IsScanned self.old.body self.old.scanned bytes.now }
         ensures drives { Drives self.old bytes.now self.new result }
-        ensures levels { OnOk result (length self.new.frames ≤ 100) }
+        ensures levels { length self.new.frames ≤ 100 }
+        ensures weighs { DriveWeighs self.old self.new result }
+        ensures pays { DrivePays self.old self.new bytes.now counts.old counts.new result }
     {
         let mut at = 0;
         while at < bytes.len() {
-            match self.step(alloc, &bytes[at..])? {
+            match self.step(alloc, &bytes[at..], counts)? {
                 Step::Waits(taken) => return Ok((at + taken, None)),
                 Step::Goes(taken) => at += taken,
                 Step::Whole(taken, value) => {
                     at += taken;
-                    if let Some(value) = self.settle(alloc, value)? {
+                    if let Some(value) = self.settle(alloc, value, counts)? {
                         return Ok((at, Some(value)));
                     }
                 }

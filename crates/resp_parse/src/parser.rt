@@ -1,9 +1,12 @@
 //! A parser of bytes that come in pieces.
 
-ghost use Rattle.std.specs.Prelude.{◌≡◌, ◌≢◌, ◌↔◌, ◌++◌, ◌⊎◌, [], true, Err, List, ℕ, IsTrue, OnOk};
+ghost use Rattle.std.specs.Prelude.{◌≡◌, ◌≢◌, ◌↔◌, ◌++◌, ◌⊎◌, [], true, false, Err, List, ℕ};
+ghost use Rattle.std.specs.Prelude.{length, IsTrue, OnOk};
 ghost use Rattle.resp_parse.specs.State.{StandsAfter, FailedAfter, IsBetweenValues, has_failed};
 ghost use Rattle.resp_parse.specs.Calls.{Feeds, Takes, Asks, Parses, ParsesReader};
+ghost use Rattle.resp_parse.specs.Bounds.{Bounded, FedBy, OneCall, CallsWithin, AskedFor};
 
+use crate::counts::Counts;
 use crate::machine::Machine;
 use crate::reading::Reading;
 use crate::since::Since;
@@ -31,21 +34,27 @@ pub struct Parser {
     buffer: Vec<u8>,
     consumed: usize,
     machine: Machine,
-    since: Since,
     failed: bool,
+    since: Since,
+    counts: Counts,
 }
 
 impl Model for Parser {
-    ghost use Rattle.std.specs.Prelude.{drop};
+    ghost use Rattle.std.specs.Prelude.{drop, length};
     ghost use Rattle.resp_parse.specs.State.{State};
+    ghost use Rattle.resp_parse.specs.Weights.{built_in};
     ghost use Rattle.resp_parse.specs.Kept.{Kept};
 
     ghost Value = { State };
 
     ghost view = { λ p. record {
       unparsed = drop p.consumed p.buffer.items;
+      looked = p.machine.scanned;
       since = p.since;
       failed = p.failed;
+      frames = length p.machine.frames;
+      built = built_in p.machine.frames;
+      counts = p.counts;
     } };
 
     ghost invariant = { Kept };
@@ -56,13 +65,15 @@ impl Parser {
     pub fn new(alloc: Global) -> Parser
         ensures rest { IsBetweenValues result }
         ensures empty { result.unparsed ≡ [] }
+        ensures bounds { Bounded result }
     {
         Parser {
             buffer: Vec::new(alloc),
             consumed: 0,
             machine: Machine::new(alloc),
-            since: Since::new(),
             failed: false,
+            since: Since::new(),
+            counts: Counts::new(),
         }
     }
 
@@ -74,6 +85,8 @@ impl Parser {
         ensures feeds { (b : List ℕ) → StandsAfter self.old b →
             Feeds b bytes.now self.old self.new result }
         ensures rest { OnOk result (IsBetweenValues self.old → IsBetweenValues self.new) }
+        ensures bounds { Bounded self.new }
+        ensures counts { OnOk result (FedBy (length bytes.now) self.old.counts self.new.counts) }
     {
         if self.failed {
             return Err(failed_before());
@@ -81,6 +94,8 @@ impl Parser {
         self.compact();
         self.buffer.extend_from_slice(bytes)?;
         self.since.append(bytes);
+        self.counts.call();
+        self.counts.come(bytes.len());
         Ok(())
     }
 
@@ -93,12 +108,16 @@ impl Parser {
         ensures failed { self.old.failed ≡ true → (result ≡ Err has_failed)
             × (self.new ≡ self.old) }
         ensures takes { (b : List ℕ) → StandsAfter self.old b → Takes b self.new result }
+        ensures bounds { Bounded self.new }
+        ensures counts { self.old.failed ≡ false → OneCall self.old.counts self.new.counts }
     {
         if self.failed {
             return Err(failed_before());
         }
+        self.counts.call();
         let alloc = *self.buffer.allocator();
-        match self.machine.drive(alloc, &self.buffer[self.consumed..]) {
+        let bytes = &self.buffer[self.consumed..];
+        match self.machine.drive(alloc, bytes, &mut self.counts) {
             Ok((taken, Some(value))) => {
                 self.consumed += taken;
                 self.since.restart(&self.buffer[self.consumed..]);
@@ -132,6 +151,8 @@ impl Parser {
             × (S.source source.new ≡ S.source source.old) }
         ensures parses { (b : List ℕ) → StandsAfter self.old b →
             Parses b self.new (S.source source.old) (S.source source.new) result }
+        ensures bounds { Bounded self.new }
+        ensures calls { CallsWithin self.old.counts self.new.counts }
         ensures observable { (S.source source.old).observable ≡ true →
             (S.source source.new).observable ≡ true }
     {
@@ -157,6 +178,8 @@ impl Parser {
             × (self.new ≡ self.old) }
         ensures parses { (b : List ℕ) → StandsAfter self.old b →
             ParsesReader R.remaining b self.new reader result }
+        ensures bounds { Bounded self.new }
+        ensures calls { CallsWithin self.old.counts self.new.counts }
     {
         let mut source = Reading::new(reader);
         self.parse_from(&mut source)
@@ -182,6 +205,8 @@ impl Parser {
     fn ask<S: ReplySource>(&mut self, source: &mut S) -> RedisResult<()>
         ensures asks { (b : List ℕ) → StandsAfter self.old b →
             Asks b self.new (S.source source.old) (S.source source.new) result }
+        ensures bounds { Bounded self.new }
+        ensures asked { AskedFor self.old.counts self.new.counts result }
         ensures observable { (S.source source.old).observable ≡ true →
             (S.source source.new).observable ≡ true }
     {
@@ -199,6 +224,7 @@ impl Parser {
             Ok(n) => {
                 self.buffer.extend_from_slice(&chunk[..n])?;
                 self.since.append(&chunk[..n]);
+                self.counts.come(n);
                 Ok(())
             }
             Err(kind) => Err(RedisError::Io(kind)),
@@ -208,6 +234,8 @@ impl Parser {
     /// From here on the parser has failed.
     fn fail(&mut self)
         ensures fails { (b : List ℕ) → StandsAfter self.old b → FailedAfter self.new b }
+        ensures bounds { Bounded self.new }
+        ensures counts { self.new.counts ≡ self.old.counts }
     {
         self.failed = true;
     }

@@ -2,6 +2,7 @@
 
 ghost use Rattle.resp_parse.specs.FirstValue.{ParsesFirst};
 
+use crate::counts::Counts;
 use crate::machine::Machine;
 use crate::stop::Stop;
 use resp_value::{IoKind, ParsingError, RedisError, RedisResult, Value};
@@ -16,7 +17,8 @@ pub fn parse_redis_value(alloc: Global, bytes: &[u8]) -> RedisResult<Value>
     ensures answers { ParsesFirst bytes.now result }
 {
     let mut machine = Machine::new(alloc);
-    match machine.drive(alloc, bytes) {
+    let mut counts = Counts::new();
+    match machine.drive(alloc, bytes, &mut counts) {
         Ok((_, Some(value))) => Ok(value),
         Ok((_, None)) => Err(RedisError::Io(IoKind::UnexpectedEof)),
         Err(Stop::Fault(fault)) => Err(RedisError::Parse(ParsingError::Fault(fault))),

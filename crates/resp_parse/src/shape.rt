@@ -1,5 +1,7 @@
 //! What the line of a header announces.
 
+ghost use Rattle.std.specs.Prelude.{length};
+ghost use Rattle.resp_parse.specs.Weights.{Turns};
 ghost use Rattle.resp_parse.specs.Grammar.{announced, boolean_in, with_valid};
 ghost use Rattle.resp_parse.specs.Grammar.{or_nil, or_empty_push, complete, body as a_body};
 ghost use Rattle.resp_parse.specs.Grammar.{elements as some_elements, push};
@@ -7,6 +9,7 @@ ghost use Rattle.resp_parse.specs.Number.{integer_in};
 ghost use Rattle.resp_parse.specs.Shapes.{Announces, body_value, elements_value};
 ghost use Rattle.resp_parse.specs.Computes.{Computes};
 
+use crate::counts::Counts;
 use crate::number::{integer_of, length_of};
 use crate::stop::Stop;
 use crate::type_byte::TypeByte;
@@ -50,14 +53,20 @@ pub(crate) enum ElementsKind {
 
 impl ElementsKind {
     /// The value of the elements.
-    pub(crate) fn value(self, alloc: Global, elements: Items<Value>) -> Result<Value, Stop>
+    pub(crate) fn value(
+        self,
+        alloc: Global,
+        elements: Items<Value>,
+        counts: &mut Counts,
+    ) -> Result<Value, Stop>
         ensures value { Computes result (elements_value self elements) }
+        ensures turns { Turns counts.old counts.new (length elements) }
     {
         match self {
             ElementsKind::Array => Ok(Value::Array(elements)),
             ElementsKind::Set => Ok(Value::Set(elements)),
-            ElementsKind::Map => Ok(Value::Map(pairs_from(alloc, elements.into_vec())?)),
-            ElementsKind::Attribute => Ok(attribute_of(alloc, elements.into_vec())?),
+            ElementsKind::Map => Ok(Value::Map(pairs_from(alloc, elements.into_vec(), counts)?)),
+            ElementsKind::Attribute => Ok(attribute_of(alloc, elements.into_vec(), counts)?),
             ElementsKind::Push => Ok(push_of(elements.into_vec())?),
         }
     }

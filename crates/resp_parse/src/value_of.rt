@@ -1,6 +1,7 @@
 //! Values from the texts, bodies and elements that spell them.
 
-ghost use Rattle.std.specs.Prelude.{◌≡◌, [], IfOk, string_bytes};
+ghost use Rattle.std.specs.Prelude.{◌≡◌, [], IfOk, length, string_bytes};
+ghost use Rattle.resp_parse.specs.Weights.{Turns};
 ghost use Rattle.resp_value.specs.declared.value.Value.TheVariants as value;
 ghost use Rattle.resp_errors.specs.ServerErrors.{server_error};
 ghost use Rattle.resp_value.specs.Views.{pairs as pairs_of};
@@ -9,6 +10,7 @@ ghost use Rattle.resp_parse.specs.Grammar.{push_kind, push, empty_push};
 ghost use Rattle.resp_parse.specs.Double.{double_in};
 ghost use Rattle.resp_parse.specs.Computes.{Computes};
 
+use crate::counts::Counts;
 use crate::double::is_double_text;
 use crate::stop::Stop;
 use bstr::ByteSlice;
@@ -84,23 +86,30 @@ pub(crate) fn verbatim_of(alloc: Global, body: &[u8]) -> Result<Value, Stop>
 pub(crate) fn pairs_from(
     alloc: Global,
     elements: Vec<Value>,
+    counts: &mut Counts,
 ) -> Result<Items<(Value, Value)>, AllocError>
     ensures pairs { IfOk result (λ made. made ≡ pairs_of elements.items) }
+    ensures turns { Turns counts.old counts.new (length elements.items) }
 {
     let mut pairs = Items::new(alloc);
     let mut rest = elements.into_iter();
     while let Some(key) = rest.next() {
-        let Some(value) = rest.next() else {
-            break;
-        };
-        pairs.push((key, value))?;
+        counts.turn();
+        if let Some(value) = rest.next() {
+            pairs.push((key, value))?;
+        }
     }
     Ok(pairs)
 }
 
 /// The attribute of these elements: pairs, and then the data (RESP3, "Attributes").
-pub(crate) fn attribute_of(alloc: Global, mut elements: Vec<Value>) -> Result<Value, AllocError>
+pub(crate) fn attribute_of(
+    alloc: Global,
+    mut elements: Vec<Value>,
+    counts: &mut Counts,
+) -> Result<Value, AllocError>
     ensures value { IfOk result (λ made. made ≡ attribute elements.items) }
+    ensures turns { Turns counts.old counts.new (length elements.items) }
 {
     let payload = match elements.pop() {
         Some(value) => value,
@@ -108,7 +117,7 @@ pub(crate) fn attribute_of(alloc: Global, mut elements: Vec<Value>) -> Result<Va
     };
     Ok(Value::Attribute {
         payload: Boxed::new(alloc, payload)?,
-        attributes: pairs_from(alloc, elements)?,
+        attributes: pairs_from(alloc, elements, counts)?,
     })
 }
 

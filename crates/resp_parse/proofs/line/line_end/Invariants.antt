@@ -1,5 +1,12 @@
+use Rattle.std.proofs.Common.{◌≡◌, ◌≤◌, ◌+◌, length}
 use Rattle.resp_parse.specs.Lines.{NoneBefore}
 use Rattle.resp_parse.proofs.line.line_end.Given as goal
 
+-- each byte that was looked at is one turn
 abbrev pub invariant-loop-at : goal.invariant-loop-at
-invariant-loop-at l = NoneBefore l.bytes l.at
+invariant-loop-at l = record {
+  none : NoneBefore l.bytes l.at;
+  same : l.counts ≡ record l.fn.counts { turns = l.counts.turns };
+  turns : l.counts.turns + l.scanned ≤ l.fn.counts.turns + l.at;
+  most : l.counts.turns + l.scanned ≤ l.fn.counts.turns + length l.bytes;
+}

@@ -1,4 +1,8 @@
-use Rattle.std.proofs.Common.{◌-◌, arith, refl, ◌∙◌, ap, [], sym}
+use Rattle.std.proofs.Common.{◌≡◌, ◌≤◌, ◌-◌, [], Ok, arith, refl, sym, subst}
+use Rattle.resp_parse.specs.declared.shape.Shape.TheVariants as shape
+use Rattle.resp_parse.specs.Shapes.{Announces, announcement_of}
+use Rattle.resp_parse.specs.Built.{built}
+use Rattle.resp_parse.proofs.Sizes.{Small, announced-small}
 use Rattle.resp_parse.specs.Grammar.{announced}
 use Rattle.resp_parse.proofs.Announced.{announced-frame}
 use Rattle.resp_parse.proofs.machine.Machine.begin.Goals as goal
@@ -6,4 +10,17 @@ use Rattle.resp_parse.proofs.machine.Machine.begin.Goals as goal
 pub returns-in_ok-push-in-Elements-clause-goes : goal.returns-in_ok-push-in-Elements-clause-goes
 returns-in_ok-push-in-Elements-clause-goes c =
     announced-frame c.args.self.now.frames (announced c.args.kind c.args.text.now) (record { frames = c.push.new.self; body = c.args.self.now.body; scanned = c.args.self.now.scanned }) c.in-Elements.kind c.in-Elements.count (c.in-Elements.count - 1) _
-    (rw c.in-Elements.is at c.in_ok-value.ensures.announced) (omega arith) (rw c.new-in-Elements.ensures refl) c.in_ok-push-in-Elements.ensures c.requires.no_body
+    (rw c.in-Elements.is at c.in_ok-value.ensures.announced) (omega arith) (rw c.new-in-Elements.ensures refl) c.in_ok-push-in-Elements.ensures.ok c.requires.no_body
+
+pub returns-in-Whole-clause-weighs : goal.returns-in-Whole-clause-weighs
+returns-in-Whole-clause-weighs c =
+    let h : Announces (Ok (shape.Whole c.in-Whole.value)) (announced c.args.kind c.args.text.now) = rw c.in-Whole.is at c.in_ok-value.ensures.announced in
+    let b : built c.in-Whole.value ≡ 1 = subst Small h (announced-small c.args.kind c.args.text.now) in
+    omega (arith, b)
+
+pub returns-in_ok-value-in-Elements-default-eq0-clause-weighs : goal.returns-in_ok-value-in-Elements-default-eq0-clause-weighs
+returns-in_ok-value-in-Elements-default-eq0-clause-weighs c =
+    let h : Announces (Ok (shape.Elements c.in-Elements-default-eq0.kind c.in-Elements-default-eq0.field-1)) (announced c.args.kind c.args.text.now) = rw c.in-Elements-default-eq0.is at c.in_ok-value.ensures.announced in
+    let s : Small (announcement_of (shape.Elements c.in-Elements-default-eq0.kind c.in-Elements-default-eq0.field-1)) = subst Small h (announced-small c.args.kind c.args.text.now) in
+    let b : built c.in_ok-value-in-Elements-default-eq0.field-0 ≤ 1 = s [] c.in_ok-value-in-Elements-default-eq0.field-0 (sym c.in-Elements-default-eq0.field-1-test) (rw c.new-in-Elements-default-eq0.ensures at c.in_ok-value-in-Elements-default-eq0.ensures.value) in
+    omega (arith, b)

@@ -4,6 +4,7 @@ use Rattle.resp_parse.specs.Grammar.{announced}
 use Rattle.resp_parse.specs.PlainReading.{then, read_announced, read}
 use Rattle.resp_parse.specs.Resume.{place, Goes}
 use Rattle.resp_parse.proofs.HeadersInPieces.{line-waits, line-not_utf8, header-stops, header-goes, header-whole}
+use Rattle.resp_parse.proofs.Paying.{header-looks, header-pays, header-stopped, header-stop-pays}
 use Rattle.resp_parse.proofs.machine.Machine.header.Goals as goal
 
 pub returns-in_default-line_end-clause-steps : goal.returns-in_default-line_end-clause-steps
@@ -41,3 +42,21 @@ returns-in-None-clause-steps c =
     rw c.in-Some.ensures.cases.0
     (header-goes c.args.self.now c.in-Some.first.now c.in-Some.after.now c.requires.no_body l c.in-Some-from_byte.kind (sym c.in-Some-from_byte.ensures.kind) c.in-Some-line_end.len c.in-Some-line_end.ensures.line
     c.in-Ok.ensures.cases.1 c.begin.new.self c.in_ok-value.ensures.scanned (rw (← c.in-Ok.ensures.cases.0) (rw c.in-None.is at c.in_ok-value.ensures.goes)))
+
+pub overflow_sub-len : goal.overflow_sub-len
+overflow_sub-len c = omega (arith, c.in-Some-line_end.ensures.looks.2, c.saturating_sub.ensures)
+
+pub returns-in-Some-2-clause-pays : goal.returns-in-Some-2-clause-pays
+returns-in-Some-2-clause-pays c =
+    let p = c.in_ok-value.ensures.places in (
+      header-looks c.args.self.now c.begin.new.self c.args.counts.now c.line_end.new.counts c.take-2.new.self c.begin.new.counts c.in-Some-line_end.len c.saturating_sub.result c.in-Some.after.now c.saturating_sub.ensures c.in-Some-line_end.ensures.looks c.take-2.ensures c.in_ok-value.ensures.turns c.in_ok-value.ensures.scanned,
+      header-pays c.args.self.now c.begin.new.self c.args.counts.now c.line_end.new.counts c.take-2.new.self c.begin.new.counts c.in-Some-line_end.len c.saturating_sub.result c.in-Some.after.now c.saturating_sub.ensures c.in-Some-line_end.ensures.looks c.take-2.ensures c.in_ok-value.ensures.turns (omega (arith, p, c.in_ok-value.ensures.scanned)) c.in_ok-value.ensures.scanned,
+    )
+
+pub returns-in-None-clause-pays : goal.returns-in-None-clause-pays
+returns-in-None-clause-pays c =
+    let p = c.in_ok-value.ensures.places in
+    let q = header-pays c.args.self.now c.begin.new.self c.args.counts.now c.line_end.new.counts c.take-2.new.self c.begin.new.counts c.in-Some-line_end.len c.saturating_sub.result c.in-Some.after.now c.saturating_sub.ensures c.in-Some-line_end.ensures.looks c.take-2.ensures c.in_ok-value.ensures.turns (omega (arith, p, c.in_ok-value.ensures.scanned)) c.in_ok-value.ensures.scanned in (
+      header-looks c.args.self.now c.begin.new.self c.args.counts.now c.line_end.new.counts c.take-2.new.self c.begin.new.counts c.in-Some-line_end.len c.saturating_sub.result c.in-Some.after.now c.saturating_sub.ensures c.in-Some-line_end.ensures.looks c.take-2.ensures c.in_ok-value.ensures.turns c.in_ok-value.ensures.scanned,
+      omega (arith, q),
+    )

@@ -1,5 +1,7 @@
-use Rattle.std.proofs.Common.{◌≡◌, ◌≤◌, length, List, ℕ, None}
+use Rattle.std.proofs.Common.{◌≡◌, ◌≤◌, ◌+◌, ◌*◌, length, List, ℕ, None}
 use Rattle.resp_parse.specs.Resume.{place}
+use Rattle.resp_parse.specs.Built.{built}
+use Rattle.resp_parse.specs.Weights.{frames_weight, frames_credit}
 use Rattle.resp_parse.proofs.machine.Machine.settle.Given as goal
 
 abbrev pub invariant-loop-frame : goal.invariant-loop-frame
@@ -8,6 +10,9 @@ invariant-loop-frame l = record {
   levels : length l.self.frames ≤ 100;
   no_body : l.self.body ≡ None;
   scanned : l.self.scanned ≡ l.fn.self.scanned;
+  weighs : frames_weight l.self.frames + 3 * built l.value ≤ frames_weight l.fn.self.frames + 3 * built l.fn.value;
+  places : l.counts.turns + frames_credit l.self.frames ≤ l.fn.counts.turns + frames_credit l.fn.self.frames;
+  turns : l.counts ≡ record l.fn.counts { turns = l.counts.turns };
 }
 
 abbrev pub decreases-loop-frame : goal.decreases-loop-frame

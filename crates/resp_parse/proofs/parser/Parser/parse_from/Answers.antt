@@ -1,4 +1,5 @@
-use Rattle.std.proofs.Common.{◌++◌, ap, sym, ◌∙◌, refl, Ok, Some, None}
+use Rattle.std.proofs.Common.{◌++◌, ap, sym, ◌∙◌, refl, arith, Ok, Some, None}
+use Rattle.resp_parse.proofs.Counting.{came-same, calls-most}
 use Rattle.std.proofs.lemmas.Result.{err_from_is_err_and}
 use Rattle.resp_parse.specs.State.{State}
 use Rattle.resp_parse.specs.Calls.{Takes}
@@ -9,6 +10,7 @@ use Rattle.resp_parse.proofs.parser.Parser.parse_from.Goals as goal
 pub loop-init : goal.loop-init
 loop-init g c = record {
   observable = λ obs. obs;
+  calls = omega arith;
   filled = λ b h. FilledAsNeeded-none b c.args.self.now (g.S.ReplySource.source c.args.source.now) h;
 }
 
@@ -17,6 +19,7 @@ loop-preserved g c =
     let source = g.S.ReplySource.source in
     record {
       observable = λ obs. c.ask.ensures.observable (c.loop.invariant.observable obs);
+      calls = omega (arith, c.loop.invariant.calls, c.in_ok-ask.ensures.asked.0, c.in_ok-ask.ensures.asked.1, came-same c.loop.self c.take_value.new.self (λ e. (c.take_value.ensures.failed e).1) c.take_value.ensures.counts, calls-most c.loop.self c.take_value.new.self (λ e. (c.take_value.ensures.failed e).1) c.take_value.ensures.counts);
       filled = λ b h.
           let k = c.loop.invariant.filled b h in
           let w : Takes (b ++ k.more.filled) c.take_value.new.self (Ok None) = rw c.in_default.is at (c.in_ok-value.ensures.takes (b ++ k.more.filled) k.more.stands) in
@@ -55,3 +58,18 @@ returns-clause-parses g c = λ b h.
     let source = g.S.ReplySource.source in
     let k = c.loop.invariant.filled b h in
     CannotParse-failed b c.loop.self (source c.args.source.now) (source c.loop.source) k c.fail.new.self _ refl (c.fail.ensures.fails (b ++ k.more.filled) k.more.stands)
+
+pub returns-in_err-value-clause-calls : goal.returns-in_err-value-clause-calls
+returns-in_err-value-clause-calls g c =
+    omega (arith, c.loop.invariant.calls, came-same c.loop.self c.take_value.new.self (λ e. (c.take_value.ensures.failed e).1) c.take_value.ensures.counts, calls-most c.loop.self c.take_value.new.self (λ e. (c.take_value.ensures.failed e).1) c.take_value.ensures.counts)
+
+pub returns-in-Some-clause-calls : goal.returns-in-Some-clause-calls
+returns-in-Some-clause-calls g c =
+    omega (arith, c.loop.invariant.calls, came-same c.loop.self c.take_value.new.self (λ e. (c.take_value.ensures.failed e).1) c.take_value.ensures.counts, calls-most c.loop.self c.take_value.new.self (λ e. (c.take_value.ensures.failed e).1) c.take_value.ensures.counts)
+
+pub returns-in_err-ask-clause-calls : goal.returns-in_err-ask-clause-calls
+returns-in_err-ask-clause-calls g c =
+    omega (arith, c.loop.invariant.calls, c.in_err-ask.ensures.asked.0, c.in_err-ask.ensures.asked.1, came-same c.loop.self c.take_value.new.self (λ e. (c.take_value.ensures.failed e).1) c.take_value.ensures.counts, calls-most c.loop.self c.take_value.new.self (λ e. (c.take_value.ensures.failed e).1) c.take_value.ensures.counts)
+
+pub returns-clause-calls : goal.returns-clause-calls
+returns-clause-calls g c = rw c.fail.ensures.counts (omega (arith, c.loop.invariant.calls))

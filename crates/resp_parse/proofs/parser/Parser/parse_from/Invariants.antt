@@ -1,4 +1,4 @@
-use Rattle.std.proofs.Common.{◌≡◌, true, List, ℕ}
+use Rattle.std.proofs.Common.{◌≡◌, ◌≤◌, ◌+◌, true, List, ℕ}
 use Rattle.resp_parse.specs.State.{StandsAfter}
 use Rattle.resp_parse.proofs.Parsing.{FilledAsNeeded}
 use Rattle.resp_parse.proofs.parser.Parser.parse_from.Given as goal
@@ -9,5 +9,6 @@ invariant-loop g l =
     let source = g.S.ReplySource.source in
     record {
       observable : (source l.fn.source).observable ≡ true → (source l.source).observable ≡ true;
+      calls : l.self.counts.calls + l.fn.self.counts.came ≤ l.fn.self.counts.calls + l.self.counts.came;
       filled : (b : List ℕ) → StandsAfter l.fn.self b → FilledAsNeeded b l.self (source l.fn.source) (source l.source);
     }

@@ -1,0 +1,40 @@
+-- What a parser has done and built, bounded by the bytes that came.
+use Rattle.std.specs.Prelude.{◌≡◌, ◌≤◌, ◌+◌, ◌*◌, ℕ, Bool, false, List, length, drop, Result, Ok, Err}
+use Rattle.resp_parse.specs.Tally.{Tally}
+use Rattle.resp_parse.specs.State.{State}
+
+-- the buffered bytes that were not looked at
+abbrev pub unseen : State → List ℕ
+unseen s = drop s.looked s.unparsed
+
+-- all bytes that came were looked at or are held unseen; and three times the values built for the
+-- value in progress is at most the bytes of it that were looked at, whatever lengths are announced
+pub record WorksWithin (s : State) : Type 0 where
+  pub held : s.counts.taken + length (unseen s) ≡ s.counts.came
+  pub built : 3 * s.built + length (unseen s) ≤ length s.since
+
+-- no byte is looked at twice but one for each call: the turns are at most three for each byte and
+-- two for each call; at most 100 frames are open
+pub record Bounded (s : State) : Type 0 where
+  pub turns : s.counts.turns ≤ 3 * s.counts.taken + 2 * s.counts.calls
+  pub taken : s.counts.taken ≤ s.counts.came
+  pub frames : s.frames ≤ 100
+  pub works : s.failed ≡ false → WorksWithin s
+
+-- n bytes were fed by one call
+abbrev pub FedBy : ℕ → Tally → Tally → Type 0
+FedBy n c d = d ≡ record c { came = c.came + n; calls = c.calls + 1 }
+
+-- one call was made, and no byte came
+pub record OneCall (c d : Tally) : Type 0 where
+  pub calls : d.calls ≡ c.calls + 1
+  pub came : d.came ≡ c.came
+
+-- a call asked a source and counted one call, and one more at most for each byte that came
+abbrev pub CallsWithin : Tally → Tally → Type 0
+CallsWithin c d = d.calls + c.came ≤ c.calls + 1 + d.came
+
+-- asking a source counts no call; some bytes came, unless it is refused
+abbrev pub AskedFor : {X E : Type 0} → Tally → Tally → Result X E → Type 0
+AskedFor c d (Ok x) = (d.calls ≡ c.calls) × (c.came + 1 ≤ d.came)
+AskedFor c d (Err e) = (d.calls ≡ c.calls) × (c.came ≤ d.came)

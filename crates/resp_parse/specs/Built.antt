@@ -1,0 +1,20 @@
+-- How many values a value is built of: itself and the values in it.
+use Rattle.std.specs.Prelude.{ℕ, suc, ◌+◌, List, [], ◌∷◌, sum}
+use Rattle.resp_value.specs.declared.value.Value.{Value, fold-Value}
+use Rattle.resp_value.specs.declared.value.Value.TheOpen.{Value-F}
+
+abbrev pub sum_of_pairs : List (ℕ × ℕ) → ℕ
+sum_of_pairs [] = 0
+sum_of_pairs (p ∷ ps) = p.0 + p.1 + sum_of_pairs ps
+
+-- of a value whose elements are built of so many
+abbrev pub built_step : Value-F ℕ → ℕ
+built_step (Value-F.Array elements) = suc (sum elements)
+built_step (Value-F.Set elements) = suc (sum elements)
+built_step (Value-F.Push kind payload) = suc (sum payload)
+built_step (Value-F.Map pairs) = suc (sum_of_pairs pairs)
+built_step (Value-F.Attribute payload attributes) = suc (payload + sum_of_pairs attributes)
+built_step _ = 1
+
+abbrev pub built : Value → ℕ
+built = fold-Value ℕ built_step
