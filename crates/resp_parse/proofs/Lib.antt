@@ -8,6 +8,7 @@ pub mod ElementReads
 pub mod BodiesInPieces
 pub mod Counting
 pub mod Driving
+pub mod FewDigits
 pub mod HeadersInPieces
 pub mod Holding
 pub mod LineAt

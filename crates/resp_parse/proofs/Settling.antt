@@ -1,12 +1,15 @@
 -- A whole value is put in the innermost of the open frames.
-use Rattle.std.proofs.Common.{◌≡◌, ℕ, suc, ◌+◌, ◌*◌, ◌≤◌, false, List, [], ◌∷◌, ◌++◌, length, refl, ap, ◌∙◌, sym, arith, None, Ok, Err}
+use Rattle.std.proofs.Common.{◌≡◌, ℕ, suc, ◌+◌, ◌*◌, ◌≤◌, false, List, [], ◌∷◌, ◌++◌, length, refl, ap, ◌∙◌, sym, subst, arith, Some, None, Ok, Err}
 use Rattle.std.proofs.lemmas.Grind.{common_steps}
 use Rattle.std.proofs.lemmas.List.Sums.{sum_by-cons, sum_by-append}
 use Rattle.std.specs.List.{sum_by}
 use Rattle.resp_value.specs.declared.value.Value.{Value}
 use Rattle.resp_parse.specs.declared.stop.Stop.{Stop}
 use Rattle.resp_parse.specs.declared.stop.Stop.TheVariants.{Memory, Fault}
+use Rattle.resp_parse.specs.declared.shape.ElementsKind.{ElementsKind}
 use Rattle.resp_parse.specs.declared.frames.Frame.{Frame}
+use Rattle.resp_parse.specs.declared.frames.Added.TheVariants as added
+use Rattle.resp_parse.specs.OpenFrames.{Adds, KeptIn, ClosedBy}
 use Rattle.resp_parse.specs.declared.machine.Machine.{Machine}
 use Rattle.resp_parse.specs.Shapes.{elements_value}
 use Rattle.resp_parse.specs.PlainReading.{then, made}
@@ -66,3 +69,33 @@ module _ (now : List Frame) (f : Frame) (fs : List Frame) (now_is : now ≡ f �
 
   pub closes-credit : frames_credit fs + length vs + 1 ≤ frames_credit now
   closes-credit = omega (arith, elements-more, credit-now)
+
+-- what an open frame that a value was put in has become
+module _ (gs : List Frame) (w : Value) (now : List Frame) (v : Value) (same : (more : List ℕ) → place gs w more ≡ place now v more) where
+  pub added-outermost : (m : Machine) (u : Value) → Adds {E = Unit {0}} now v m.frames (Ok (added.Outermost u)) → m.body ≡ None → Ends (place gs w) m (Ok (Some u))
+  added-outermost m u a b = ((λ more. same more ∙ rw (a.0, a.2) refl), rw (b, a.1) refl)
+
+  pub added-kept : (m : Machine) → KeptIn now v m.frames → m.body ≡ None → Ends (place gs w) m (Ok None)
+  added-kept m a b = settle-keeps gs w now v same a.frame a.outer a.old_is (a.frame.elements ++ (v ∷ [])) refl m a.after a.after_is a.new_is b
+
+  module _ (fs : List Frame) (kind : ElementsKind) (vs : List Value) (a : ClosedBy now v fs kind vs) where
+    pub added-closed : (u : Value) → Computes (Ok u) (elements_value kind vs) → (more : List ℕ) → place gs w more ≡ place fs u more
+    added-closed u c = settle-closes gs w now v same a.frame fs a.old_is vs a.elements_are u a.last (rw (← a.kind_is) c)
+
+    pub added-refused : (m : Machine) (e : Stop) → Computes (Err e) (elements_value kind vs) → Ends (place gs w) m (Err e)
+    added-refused m e c = settle-refused gs w now v same a.frame fs a.old_is vs a.elements_are m e a.last (subst (λ (k : ElementsKind). Computes (Err e) (elements_value k vs)) a.kind_is c)
+
+    pub closed-weight : (u : Value) → Computes (Ok u) (elements_value kind vs) → frames_weight fs + 3 * built u ≤ frames_weight now + 3 * built v
+    closed-weight u c = closes-weight now a.frame fs a.old_is v vs a.elements_are u (rw (← a.kind_is) c)
+
+    pub closed-credit : frames_credit fs + length vs + 1 ≤ frames_credit now
+    closed-credit = closes-credit now a.frame fs a.old_is v vs a.elements_are
+
+    pub closed-shorter : length now ≡ suc (length fs)
+    closed-shorter = ap (λ (x : List Frame). length x) a.old_is
+
+pub kept-weight : (now : List Frame) (v : Value) (new : List Frame) → KeptIn now v new → frames_weight new ≡ frames_weight now + 3 * built v
+kept-weight now v new a = keeps-weight now a.frame a.outer a.old_is v (a.frame.elements ++ (v ∷ [])) refl a.after new a.new_is
+
+pub kept-credit : (now : List Frame) (v : Value) (new : List Frame) → KeptIn now v new → frames_credit new ≡ suc (frames_credit now)
+kept-credit now v new a = keeps-credit now a.frame a.outer a.old_is v (a.frame.elements ++ (v ∷ [])) refl a.after new a.new_is

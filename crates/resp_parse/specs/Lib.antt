@@ -10,6 +10,7 @@ pub mod PlainReading
 pub mod Shapes
 pub mod Computes
 pub mod FirstValue
+pub mod OpenFrames
 pub mod Resume
 pub mod Tally
 pub mod Built

@@ -1,11 +1,13 @@
 //! The aggregates whose headers were read and whose elements aren't all there.
 
-ghost use Rattle.std.specs.Prelude.{◌≡◌, ◌∷◌, [], length, MatchOption, OnErr, OnOk};
+ghost use Rattle.std.specs.Prelude.{◌≡◌, ◌∷◌, ◌<◌, ◌≤◌, [], length, OnOk};
+ghost use Rattle.resp_parse.specs.OpenFrames.{Adds, ClosesInnermost};
 
 use crate::shape::ElementsKind;
 use resp_value::{Items, Value};
 use std::alloc::{AllocError, Global};
 use std::marker::Model;
+use std::mem;
 
 /// An aggregate of which an element is in progress.
 #[derive(Drop)]
@@ -16,23 +18,45 @@ pub(crate) struct Frame {
     pub(crate) elements: Items<Value>,
 }
 
+/// What became of a value that was put in the innermost frame.
+#[derive(Drop)]
+pub(crate) enum Added {
+    /// No frame is open: here it is again.
+    Outermost(Value),
+    /// The frame lacks more elements.
+    Kept,
+    /// The frame was closed: these are its elements.
+    Closed(ElementsKind, Items<Value>),
+}
+
 /// The open frames; contracts see the innermost first.
 #[derive(Drop)]
 pub(crate) struct Frames {
-    frames: Vec<Frame>,
+    /// How many frames are open.
+    len: usize,
+    /// The innermost, where one is open.
+    kind: ElementsKind,
+    after: usize,
+    elements: Items<Value>,
+    /// The others, the outermost first.
+    outer: Vec<Frame>,
 }
 
 impl Model for Frames {
-    ghost use Rattle.std.specs.Prelude.{List, reverse};
+    ghost use Rattle.std.specs.Prelude.{List};
     ghost use Rattle.resp_parse.specs.declared.frames.Frame.{Frame};
     ghost use Rattle.resp_value.specs.contracts.value.Value as value;
     ghost use Rattle.std.specs.Coded.{codes};
+    ghost use Rattle.resp_parse.specs.OpenFrames.{innermost_first, IsLength};
 
     ghost Value = { List Frame };
 
     ghost coded = { Prim.hlevel (codes, value.the_row.coded) };
 
-    ghost view = { λ s. reverse s.frames.items };
+    ghost view = { λ s. innermost_first s.len (record { kind = s.kind; after = s.after;
+        elements = s.elements }) s.outer.items };
+
+    ghost invariant = { λ s. IsLength s.len s.outer.items };
 }
 
 impl Frames {
@@ -41,7 +65,11 @@ impl Frames {
         ensures { result ≡ [] }
     {
         Frames {
-            frames: Vec::new(alloc),
+            len: 0,
+            kind: ElementsKind::Array,
+            after: 0,
+            elements: Items::new(alloc),
+            outer: Vec::new(alloc),
         }
     }
 
@@ -49,23 +77,67 @@ impl Frames {
     pub(crate) fn len(&self) -> usize
         ensures { result ≡ length self.now }
     {
-        self.frames.len()
+        self.len
     }
 
     /// Opens a frame inside the others.
     pub(crate) fn push(&mut self, frame: Frame) -> Result<(), AllocError>
+        requires room { length self.old < 100 }
         ensures ok { OnOk result (self.new ≡ frame ∷ self.old) }
-        ensures err { OnErr result (self.new ≡ self.old) }
+        ensures most { length self.new ≤ 100 }
     {
-        self.frames.push(frame)?;
+        let Frame {
+            kind,
+            after,
+            elements,
+        } = frame;
+        let outer = mem::replace(&mut self.elements, elements);
+        if self.len > 0 {
+            self.outer.push(Frame {
+                kind: self.kind,
+                after: self.after,
+                elements: outer,
+            })?;
+        }
+        self.len += 1;
+        self.kind = kind;
+        self.after = after;
         Ok(())
     }
 
-    /// The innermost frame, taken off.
-    pub(crate) fn pop(&mut self) -> Option<Frame>
-        ensures { MatchOption result ((self.old ≡ []) × (self.new ≡ [])) (λ f. self.old
-            ≡ f ∷ self.new) }
+    /// Puts a value in the innermost frame, which is closed where it then has all its elements.
+    pub(crate) fn add(&mut self, alloc: Global, value: Value) -> Result<Added, AllocError>
+        ensures adds { Adds self.old value self.new result }
+        ensures fewer { length self.new ≤ length self.old }
     {
-        self.frames.pop()
+        if self.len == 0 {
+            return Ok(Added::Outermost(value));
+        }
+        self.elements.push(value)?;
+        if self.after > 0 {
+            self.after -= 1;
+            return Ok(Added::Kept);
+        }
+        let kind = self.kind;
+        let elements = mem::replace(&mut self.elements, Items::new(alloc));
+        self.close();
+        Ok(Added::Closed(kind, elements))
+    }
+
+    /// Closes the innermost frame.
+    fn close(&mut self)
+        ensures { ClosesInnermost self.old self.new }
+    {
+        if let Some(outer) = self.outer.pop() {
+            let Frame {
+                kind,
+                after,
+                elements,
+            } = outer;
+            self.kind = kind;
+            self.after = after;
+            self.elements = elements;
+        }
+        self.len = self.len.saturating_sub(1);
     }
 }

@@ -1,6 +1,6 @@
 //! The reading of a value, which stops where the bytes end and goes on from there.
 
-ghost use Rattle.std.specs.Prelude.{◌≡◌, ◌<◌, ◌≤◌, ◌+◌, ◌-◌, ◌*◌, length, true};
+ghost use Rattle.std.specs.Prelude.{◌≡◌, ◌<◌, ◌≤◌, ◌+◌, ◌-◌, ◌*◌, [], length, true, IfOk};
 ghost use Rattle.resp_parse.specs.declared.stop.Stop.{Stop};
 ghost use Rattle.std.specs.Prelude.{None};
 ghost use Rattle.resp_parse.specs.Grammar.{announced};
@@ -14,7 +14,7 @@ ghost use Rattle.resp_parse.specs.Weights.{weight, Weighs, StepWeighs, DriveWeig
 ghost use Rattle.resp_parse.specs.Weights.{HeaderPays, StepPays, DrivePays};
 
 use crate::counts::Counts;
-use crate::frames::{Frame, Frames};
+use crate::frames::{Added, Frame, Frames};
 use crate::line::{body_ends, line_end};
 use crate::shape::{BodyKind, Shape, shape_of};
 use crate::stop::Stop;
@@ -59,6 +59,14 @@ impl Body {
     }
 }
 
+/// Room for elements: for no more than are announced, than the bytes at hand can spell, and 128.
+fn room_for(alloc: Global, count: usize, at_hand: usize) -> Result<Items<Value>, AllocError>
+    ensures { IfOk result (λ room. room ≡ []) }
+{
+    let room = count.min(at_hand / 3).min(128);
+    Ok(Items::from(Vec::with_capacity(alloc, room)?))
+}
+
 /// How many bytes one step took, and what came of it.
 #[derive(Drop)]
 pub(crate) enum Step {
@@ -99,12 +107,14 @@ impl Machine {
         self.body.is_none() && self.frames.len() == 0
     }
 
-    /// Begins what a header announces; Some is a value that is whole with it.
+    /// Begins what a header announces; Some is a value that is whole with it. So many bytes are at
+    /// hand after it.
     fn begin(
         &mut self,
         alloc: Global,
         kind: TypeByte,
         text: &str,
+        at_hand: usize,
         counts: &mut Counts,
     ) -> Result<Option<Value>, Stop>
         requires no_body { self.old.body ≡ None }
@@ -132,7 +142,7 @@ impl Machine {
                 self.frames.push(Frame {
                     kind,
                     after: count - 1,
-                    elements: Items::new(alloc),
+                    elements: room_for(alloc, count, at_hand)?,
                 })?;
                 Ok(None)
             }
@@ -168,7 +178,8 @@ impl Machine {
         let Ok(text) = std::str::from_utf8(&after[..len]) else {
             return Err(Stop::Fault(FrameFault::LineNotUtf8));
         };
-        match self.begin(alloc, kind, text, counts)? {
+        let at_hand = after.len() - (len + 2);
+        match self.begin(alloc, kind, text, at_hand, counts)? {
             Some(value) => Ok(Step::Whole(len + 3, value)),
             None => Ok(Step::Goes(len + 3)),
         }
@@ -214,25 +225,14 @@ impl Machine {
         ensures turns { counts.new ≡ record counts.old { turns = counts.new.turns } }
     {
         let mut value = value;
-        while let Some(frame) = self.frames.pop() {
+        loop {
             counts.turn();
-            let Frame {
-                kind,
-                after,
-                mut elements,
-            } = frame;
-            elements.push(value)?;
-            if after > 0 {
-                self.frames.push(Frame {
-                    kind,
-                    after: after - 1,
-                    elements,
-                })?;
-                return Ok(None);
+            match self.frames.add(alloc, value)? {
+                Added::Outermost(value) => return Ok(Some(value)),
+                Added::Kept => return Ok(None),
+                Added::Closed(kind, elements) => value = kind.value(alloc, elements, counts)?,
             }
-            value = kind.value(alloc, elements, counts)?;
         }
-        Ok(Some(value))
     }
 
     /// Goes on until a value is whole or more bytes are needed; tells how many it took.

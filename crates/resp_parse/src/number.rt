@@ -1,15 +1,37 @@
 //! Integer lines (RESP, "Integers").
 
-ghost use Rattle.std.specs.Prelude.{◌≡◌, ◌<◌, ◌^◌, IfOk};
+ghost use Rattle.std.specs.Prelude.{◌≡◌, ◌<◌, ◌^◌, pos, Some, IfOk, IfSome};
 ghost use Rattle.resp_parse.specs.Number.{number, integer_in, length_in};
 
 use resp_value::FrameFault;
+
+/// The least number that has one digit too many to be read quickly.
+const LARGE: u64 = 100_000_000_000_000_000;
+
+/// The number that a text of digits alone writes, where they are few; None of any other text.
+fn few_digits(text: &str) -> Option<u64>
+    ensures value { IfSome result (λ n. (number text.now ≡ Some (pos n)) × (n < 2 ^ 63)) }
+{
+    let digits = text.as_bytes();
+    let mut value: u64 = 0;
+    for at in 0..digits.len() {
+        let byte = digits[at];
+        if !byte.is_ascii_digit() || value >= LARGE {
+            return None;
+        }
+        value = value * 10 + (byte - b'0') as u64;
+    }
+    if digits.is_empty() { None } else { Some(value) }
+}
 
 /// The number that a text writes, white space around it aside, if it writes one of 64 bits.
 fn read_number(text: &str) -> Option<i64>
     ensures value { result ≡ number text.now }
 {
-    text.trim().parse::<i64>().ok()
+    match few_digits(text) {
+        Some(value) => Some(value as i64),
+        None => text.trim().parse::<i64>().ok(),
+    }
 }
 
 /// The number of a line that must be one.

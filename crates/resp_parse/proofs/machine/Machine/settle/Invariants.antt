@@ -4,8 +4,8 @@ use Rattle.resp_parse.specs.Built.{built}
 use Rattle.resp_parse.specs.Weights.{frames_weight, frames_credit}
 use Rattle.resp_parse.proofs.machine.Machine.settle.Given as goal
 
-abbrev pub invariant-loop-frame : goal.invariant-loop-frame
-invariant-loop-frame l = record {
+abbrev pub invariant-loop-value : goal.invariant-loop-value
+invariant-loop-value l = record {
   same : (more : List ℕ) → place l.fn.self.frames l.fn.value more ≡ place l.self.frames l.value more;
   levels : length l.self.frames ≤ 100;
   no_body : l.self.body ≡ None;
@@ -15,5 +15,5 @@ invariant-loop-frame l = record {
   turns : l.counts ≡ record l.fn.counts { turns = l.counts.turns };
 }
 
-abbrev pub decreases-loop-frame : goal.decreases-loop-frame
-decreases-loop-frame l = length l.self.frames
+abbrev pub decreases-loop-value : goal.decreases-loop-value
+decreases-loop-value l = length l.self.frames

@@ -1,0 +1,27 @@
+use Rattle.std.proofs.Common.{◌≡◌, ◌+◌, ◌-◌, ◌*◌, ◌<◌, ◌≤◌, ◌^◌, ◌⊎◌, inl, inr, ℕ, true, false, length, take, get_or, ap, sym, ◌∙◌, subst, arith}
+use Rattle.std.proofs.lemmas.Bool.Decides.{nat_tests}
+use Rattle.std.proofs.lemmas.Grind.{common_steps}
+use Rattle.std.proofs.lemmas.Int.Digits.{digits_value_more}
+use Rattle.std.specs.Char.{is_ascii_digit, digit_value}
+use Rattle.std.specs.Str.Parse.{digits_value}
+use Rattle.resp_parse.proofs.FewDigits.{digit-range, digit-value, digit-next, number-of}
+use Rattle.resp_parse.proofs.number.few_digits.Goals as goal
+
+pub loop-at-preserved : goal.loop-at-preserved
+loop-at-preserved c =
+    let bytes = c.as_bytes-digits.result.now in
+    let byte = get_or bytes c.loop-at.at 0 in
+    let d : is_ascii_digit byte ≡ true = sym c.is_ascii_digit.ensures.value ∙ c.if-not-is_ascii_digit.false in
+    let v : digit_value byte ≡ byte - 48 = digit-value byte d in
+    let more = digits_value_more 10 bytes c.loop-at.at c.loop-at-test.true in
+    record {
+      digits = λ k l. digit-next bytes c.loop-at.at d c.loop-at.invariant.digits k l;
+      value = omega (arith, more, v, c.loop-at.invariant.value);
+      small = omega (arith, digit-range byte d, c.if-value-ge-LARGE.false);
+    }
+
+pub returns-else-is_empty : goal.returns-else-is_empty
+returns-else-is_empty c =
+    let bytes = c.as_bytes-digits.result.now in
+    let some : 0 < length bytes = grind (arith, nat_tests, c.if-is_empty.false, c.if-is_empty.ensures) in
+    record { value = (number-of c.args.text.now bytes c.loop-at.at c.loop-at.value c.as_bytes-digits.ensures.value (omega arith) some c.loop-at.invariant.digits c.loop-at.invariant.value c.loop-at.invariant.small, c.loop-at.invariant.small) }
