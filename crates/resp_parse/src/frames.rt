@@ -53,8 +53,11 @@ impl Model for Frames {
 
     ghost coded = { Prim.hlevel (codes, value.the_row.coded) };
 
-    ghost view = { λ s. innermost_first s.len (record { kind = s.kind; after = s.after;
-        elements = s.elements }) s.outer.items };
+    ghost view = { λ s. innermost_first s.len (record {
+      kind = s.kind;
+      after = s.after;
+      elements = s.elements;
+    }) s.outer.items };
 
     ghost invariant = { λ s. IsLength s.len s.outer.items };
 }
