@@ -26,6 +26,7 @@ pub mod ReadingMeetsGrammar
 pub mod ReadingsInSequence
 pub mod Settling
 pub mod Sizes
+pub mod SizesOfValues
 pub mod Taking
 pub mod Tallies
 pub mod TypeBytes

@@ -71,7 +71,7 @@ body-small body_kind.Verbatim bytes v e = verbatim-small (lossy bytes) v e
 -- a value that is complete with its header is built of itself; elements make one value more
 abbrev pub Small : Announcement → Type 0
 Small (complete v) = built v ≡ 1
-Small (body n make) = Unit {0}
+Small (body n make) = (bytes : List ℕ) (v : Value) → make bytes ≡ Ok v → built v ≡ 1
 Small (elements n make) = (vs : List Value) (v : Value) → length vs ≡ n → make vs ≡ Ok v → built v ≤ suc (built_of vs)
 Small (invalid f) = Unit {0}
 
@@ -115,14 +115,14 @@ pub announced-small : (kind : TypeByte) (text : List ℕ) → Small (announced k
 announced-small type_byte.SimpleString text = simple-small text
 announced-small type_byte.SimpleError text = built-ServerError (server_error text)
 announced-small type_byte.Integer text = valid-small (integer_in text) (λ n. complete (Int n)) (λ n _. built-Int n)
-announced-small type_byte.BulkString text = valid-small (integer_in text) (or_nil (λ n. body n (λ bytes. Ok (BulkString bytes)))) (λ n _. nil-small (λ n. body n (λ bytes. Ok (BulkString bytes))) n (λ k. tt))
+announced-small type_byte.BulkString text = valid-small (integer_in text) (or_nil (λ n. body n (λ bytes. Ok (BulkString bytes)))) (λ n _. nil-small (λ n. body n (λ bytes. Ok (BulkString bytes))) n (λ k bytes v e. body-small body_kind.Bulk bytes v e))
 announced-small type_byte.Array text = valid-small (integer_in text) (or_nil (λ n. elements n (λ values. Ok (Array values)))) (λ n _. nil-small (λ n. elements n (λ values. Ok (Array values))) n (λ k vs v l e. let z : Array vs ≡ v = cc in rw (← z) (omega (arith, built-Array vs, sum-map built vs))))
 announced-small type_byte.Null text = built-Nil
 announced-small type_byte.Boolean text = valid-small (boolean_in text) complete (boolean-small text)
 announced-small type_byte.Double text = valid-small (double_in text) complete (double-small text)
 announced-small type_byte.BigNumber text = built-BigNumber text
-announced-small type_byte.BulkError text = valid-small (length_in text) (λ n. body n (λ bytes. Ok (bulk_error bytes))) (λ n _. tt)
-announced-small type_byte.VerbatimString text = valid-small (length_in text) (λ n. body n verbatim) (λ n _. tt)
+announced-small type_byte.BulkError text = valid-small (length_in text) (λ n. body n (λ bytes. Ok (bulk_error bytes))) (λ n _ bytes v e. body-small body_kind.Error bytes v e)
+announced-small type_byte.VerbatimString text = valid-small (length_in text) (λ n. body n verbatim) (λ n _ bytes v e. body-small body_kind.Verbatim bytes v e)
 announced-small type_byte.Map text = valid-small (length_in text) (λ n. elements (2 * n) (λ values. Ok (Map (pairs values)))) (λ n _ vs v l e. let z : Map (pairs vs) ≡ v = cc in rw (← z) (omega (arith, pairs-small vs, built-Map (pairs vs))))
 announced-small type_byte.Attribute text = valid-small (length_in text) (λ n. elements (2 * n + 1) (λ values. Ok (attribute values))) (λ n _ vs v l e. elements-small elements_kind.Attribute vs v (omega arith) e)
 announced-small type_byte.Set text = valid-small (integer_in text) (or_nil (λ n. elements n (λ values. Ok (Set values)))) (λ n _. nil-small (λ n. elements n (λ values. Ok (Set values))) n (λ k vs v l e. let z : Set vs ≡ v = cc in rw (← z) (omega (arith, built-Set vs, sum-map built vs))))

@@ -1,6 +1,9 @@
-//! The law of the grammar: a function that does nothing, and whose clause is proved.
+//! The laws of the grammar: functions that do nothing, and whose clauses are proved.
 
-ghost use Rattle.std.specs.Prelude.{ℕ, List};
+ghost use Rattle.std.specs.Prelude.{ℕ, List, length, ◌*◌, ◌≤◌};
+ghost use Rattle.resp_value.specs.declared.value.Value.{Value};
+ghost use Rattle.resp_parse.specs.Built.{built};
+ghost use Rattle.resp_parse.specs.Grammar.{Good};
 ghost use Rattle.resp_parse.specs.Laws.{LawOfPrefixes};
 
 /// Bytes have at most one reading, however they go on.
@@ -9,4 +12,10 @@ ghost use Rattle.resp_parse.specs.Laws.{LawOfPrefixes};
 /// fault, both are one prefix, and have the same value or the same fault.
 pub fn law_of_prefixes()
     ensures law { (d : ℕ) (a x b y : List ℕ) → LawOfPrefixes d a x b y }
+{}
+
+/// A value is built of at most one third as many values as it has bytes, itself among them, whatever
+/// lengths its headers announce.
+pub fn law_of_sizes()
+    ensures law { (d : ℕ) (b : List ℕ) (v : Value) → Good d b v → 3 * built v ≤ length b }
 {}
