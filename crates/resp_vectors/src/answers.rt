@@ -4,6 +4,9 @@ use resp_core::{Parser, RedisError, RedisResult, Value};
 use std::fmt::Debug;
 use std::process::Abort;
 
+/// Bytes, and what [`shown_in_pieces`] has to show of them.
+pub type Example = (&'static [u8], &'static str);
+
 /// What a parser or a link answered: the Debug form of the value, or what the refusal shows.
 pub fn shown_reply(rt: &(impl Abort + AllocGlobal), reply: RedisResult<Value>) -> String {
     match reply {
@@ -30,6 +33,45 @@ pub fn next_shown(rt: &(impl Abort + AllocGlobal), parser: &mut Parser) -> Strin
         Ok(None) => String::from_str(rt.alloc(), "none").expect(rt, "no refusal"),
         Err(error) => shown_refusal(rt, error),
     }
+}
+
+/// Adds what the next values show, so many at most, and a refusal; says whether there was none.
+fn take_all(
+    rt: &(impl Abort + AllocGlobal),
+    parser: &mut Parser,
+    most: usize,
+    text: &mut String,
+) -> bool {
+    for _ in 0..most {
+        match parser.take_value() {
+            Ok(Some(value)) => write!(text, "{value:?} ").expect(rt, "no refusal"),
+            Ok(None) => return true,
+            Err(error) => {
+                assert!(rt; parser.is_failed() && parser.in_progress());
+                text.push_str(shown_refusal(rt, error).as_str())
+                    .expect(rt, "no refusal");
+                return false;
+            }
+        }
+    }
+    true
+}
+
+/// What the values of the pieces show, taken as they come, and then the refusal, or `..` where a
+/// value is in progress.
+pub fn shown_in_pieces(rt: &(impl Abort + AllocGlobal), pieces: &[&[u8]]) -> String {
+    let mut parser = Parser::new(rt.alloc());
+    let mut text = String::new(rt.alloc());
+    for piece in pieces {
+        parser.feed(piece).expect(rt, "no refusal");
+        if !take_all(rt, &mut parser, piece.len() + 1, &mut text) {
+            return text;
+        }
+    }
+    if parser.in_progress() {
+        text.push_str("..").expect(rt, "no refusal");
+    }
+    text
 }
 
 /// The Debug form of a value.

@@ -1,5 +1,5 @@
-//! Worked examples of replies, commands and links as tests, over the public names of `resp_core`,
-//! and fakes of its devices.
+//! Worked examples of replies, whole and in pieces, of commands and of links as tests, over the
+//! public names of `resp_core`, and fakes of its devices.
 #![tactic(auto)]
 
 #[cfg(test)]
@@ -14,6 +14,8 @@ mod devices;
 mod links;
 #[cfg(test)]
 mod parsers;
+#[cfg(test)]
+mod pieces;
 #[cfg(test)]
 mod pipelines;
 #[cfg(test)]

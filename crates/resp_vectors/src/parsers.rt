@@ -1,45 +1,15 @@
 //! Worked replies, fed whole and in pieces, and readers that end or fail in the middle.
 
-use crate::answers::{next_shown, shown_refusal, shown_reply};
+use crate::answers::{Example, next_shown, shown_in_pieces, shown_reply};
 use resp_core::laws::law_of_prefixes;
 use resp_core::{Parser, Reading, Value, parse_redis_value};
 use std::io;
 use std::io::{Cursor, Read};
 use std::process::Abort;
 
-/// Adds what the parser answers next, and says whether that was a value: else it was a refusal, or
-/// `..` where bytes are awaited.
-fn show_next(rt: &(impl Abort + AllocGlobal), parser: &mut Parser, text: &mut String) -> bool {
-    match parser.take_value() {
-        Ok(Some(value)) => {
-            write!(text, "{value:?} ").expect(rt, "no refusal");
-            true
-        }
-        Ok(None) => {
-            if parser.in_progress() {
-                text.push_str("..").expect(rt, "no refusal");
-            }
-            false
-        }
-        Err(error) => {
-            text.push_str(shown_refusal(rt, error).as_str())
-                .expect(rt, "no refusal");
-            false
-        }
-    }
-}
-
 /// What the values of the bytes and then the refusal show.
 fn shown(rt: &(impl Abort + AllocGlobal), bytes: &[u8]) -> String {
-    let mut parser = Parser::new(rt.alloc());
-    parser.feed(bytes).expect(rt, "no refusal");
-    let mut text = String::new(rt.alloc());
-    for _ in 0..bytes.len() + 1 {
-        if !show_next(rt, &mut parser, &mut text) {
-            break;
-        }
-    }
-    text
+    shown_in_pieces(rt, &[bytes])
 }
 
 /// Whether the value of the bytes equals its copy.
@@ -77,82 +47,76 @@ fn values_equal_their_copies(rt: HostRuntime) {
     assert!(rt; equals_its_copy(&rt, b"$2\r\n\xFF\0\r\n"));
 }
 
+/// Values that end with their line.
+pub const SCALARS: &[Example] = &[
+    (b":+007\r\n: 7 \r\n:-0\r\n", "int(7) int(7) int(0) "),
+    (b":-9223372036854775808\r\n", "int(-9223372036854775808) "),
+    (b":9223372036854775808\r\n", "NotInteger"),
+    (b":\r\n", "NotInteger"),
+    (b":\xFF\r\n", "LineNotUtf8"),
+    (b"_x\r\n_\xFF\r\n", "nil LineNotUtf8"),
+    (b"+OK\r\n+a\r\r\n", "ok simple-string(\"a\\r\") "),
+    (
+        b"#t\r\n#f\r\n#x\r\n",
+        "boolean(true) boolean(false) NotBoolean",
+    ),
+    (b"#\r\n", "NotBoolean"),
+    (
+        b",1.23\r\n, -nan \r\n,2.1E-2\r\n,1.\r\n",
+        "double(1.23) double(-nan) double(2.1E-2) double(1.) ",
+    ),
+    (
+        b",.5\r\n,inf\r\n,+InFinity\r\n,2.67923e+8\r\n",
+        "double(.5) double(inf) double(+InFinity) double(2.67923e+8) ",
+    ),
+    (
+        b",nan\r\n,2.67923E+8\r\n,-2.67923E+8\r\n,-inf\r\n",
+        "double(nan) double(2.67923E+8) double(-2.67923E+8) double(-inf) ",
+    ),
+    (b",.\r\n", "NotDouble"),
+    (b",1e\r\n", "NotDouble"),
+    (b",1.2.3\r\n", "NotDouble"),
+    (b",1e2e3\r\n", "NotDouble"),
+    (b"(349\r\n(\r\n", "big-number([51, 52, 57]) big-number([]) "),
+    (b"-\r\n- x\r\n", "Server error: `` Server error: `: x` "),
+    (b"@", "UnknownType"),
+    (b"", ""),
+];
+
 #[test]
 fn scalars(rt: HostRuntime) {
-    for (bytes, want) in [
-        (&b":+007\r\n: 7 \r\n:-0\r\n"[..], "int(7) int(7) int(0) "),
-        (
-            &b":-9223372036854775808\r\n"[..],
-            "int(-9223372036854775808) ",
-        ),
-        (&b":9223372036854775808\r\n"[..], "NotInteger"),
-        (&b":\r\n"[..], "NotInteger"),
-        (&b":\xFF\r\n"[..], "LineNotUtf8"),
-        (&b"_x\r\n_\xFF\r\n"[..], "nil LineNotUtf8"),
-        (&b"+OK\r\n+a\r\r\n"[..], "ok simple-string(\"a\\r\") "),
-        (
-            &b"#t\r\n#f\r\n#x\r\n"[..],
-            "boolean(true) boolean(false) NotBoolean",
-        ),
-        (&b"#\r\n"[..], "NotBoolean"),
-        (
-            &b",1.23\r\n, -nan \r\n,2.1E-2\r\n,1.\r\n"[..],
-            "double(1.23) double(-nan) double(2.1E-2) double(1.) ",
-        ),
-        (
-            &b",.5\r\n,inf\r\n,+InFinity\r\n,2.67923e+8\r\n"[..],
-            "double(.5) double(inf) double(+InFinity) double(2.67923e+8) ",
-        ),
-        (
-            &b",nan\r\n,2.67923E+8\r\n,-2.67923E+8\r\n,-inf\r\n"[..],
-            "double(nan) double(2.67923E+8) double(-2.67923E+8) double(-inf) ",
-        ),
-        (&b",.\r\n"[..], "NotDouble"),
-        (&b",1e\r\n"[..], "NotDouble"),
-        (&b",1.2.3\r\n"[..], "NotDouble"),
-        (&b",1e2e3\r\n"[..], "NotDouble"),
-        (
-            &b"(349\r\n(\r\n"[..],
-            "big-number([51, 52, 57]) big-number([]) ",
-        ),
-        (
-            &b"-\r\n- x\r\n"[..],
-            "Server error: `` Server error: `: x` ",
-        ),
-        (&b"@"[..], "UnknownType"),
-        (&b""[..], ""),
-    ] {
-        assert_eq!(rt; shown(&rt, bytes).as_str(), want);
+    for (bytes, want) in SCALARS {
+        assert_eq!(rt; shown(&rt, bytes).as_str(), *want);
     }
 }
 
+/// Values with a body.
+pub const BODIES: &[Example] = &[
+    (
+        b"$2\r\nab\r\n$-7\r\n$2\r\nOK\r\n",
+        "bulk-string('\"ab\"') nil bulk-string('\"OK\"') ",
+    ),
+    (b"$2\r\n\xFF\0\r\n", "binary-data([255, 0]) "),
+    (b"$2\r\nab", ".."),
+    (
+        b"!21\r\nSYNTAX invalid syntax\r\n",
+        "Server error: `SYNTAX: invalid syntax` ",
+    ),
+    (b"!0\r\n\r\n!-1\r\n", "Server error: `` NegativeLength"),
+    (b"=4\r\nmkd:\r\n", "verbatim-string(Markdown,\"\") "),
+    (
+        b"=7\r\nabc:d:e\r\n",
+        "verbatim-string(Unknown(\"abc\"),\"d:e\") ",
+    ),
+    (b"=5\r\ntxt:\xFF\r\n", "verbatim-string(Text,\"\u{FFFD}\") "),
+    (b"=3\r\ntxt\r\n", "NoVerbatimFormat"),
+    (b"=-1\r\n", "NegativeLength"),
+];
+
 #[test]
 fn bodies(rt: HostRuntime) {
-    for (bytes, want) in [
-        (
-            &b"$2\r\nab\r\n$-7\r\n$2\r\nOK\r\n"[..],
-            "bulk-string('\"ab\"') nil bulk-string('\"OK\"') ",
-        ),
-        (&b"$2\r\n\xFF\0\r\n"[..], "binary-data([255, 0]) "),
-        (&b"$2\r\nab"[..], ".."),
-        (
-            &b"!21\r\nSYNTAX invalid syntax\r\n"[..],
-            "Server error: `SYNTAX: invalid syntax` ",
-        ),
-        (&b"!0\r\n\r\n!-1\r\n"[..], "Server error: `` NegativeLength"),
-        (&b"=4\r\nmkd:\r\n"[..], "verbatim-string(Markdown,\"\") "),
-        (
-            &b"=7\r\nabc:d:e\r\n"[..],
-            "verbatim-string(Unknown(\"abc\"),\"d:e\") ",
-        ),
-        (
-            &b"=5\r\ntxt:\xFF\r\n"[..],
-            "verbatim-string(Text,\"\u{FFFD}\") ",
-        ),
-        (&b"=3\r\ntxt\r\n"[..], "NoVerbatimFormat"),
-        (&b"=-1\r\n"[..], "NegativeLength"),
-    ] {
-        assert_eq!(rt; shown(&rt, bytes).as_str(), want);
+    for (bytes, want) in BODIES {
+        assert_eq!(rt; shown(&rt, bytes).as_str(), *want);
     }
 }
 
@@ -179,47 +143,47 @@ fn big_numbers(rt: HostRuntime) {
     }
 }
 
+/// Values with elements.
+pub const AGGREGATES: &[Example] = &[
+    (b"*-1\r\n~-1\r\n*0\r\n", "nil nil array([]) "),
+    (
+        b"*3\r\n+OK\r\n-LOADING x\r\n:1\r\n",
+        "array([ok, Server error: `LOADING: x`, int(1)]) ",
+    ),
+    (
+        b"~5\r\n+orange\r\n+apple\r\n#t\r\n:100\r\n:999\r\n",
+        "set([simple-string(\"orange\"), simple-string(\"apple\"), boolean(true), \
+             int(100), int(999)]) ",
+    ),
+    (
+        b"%2\r\n+first\r\n:1\r\n+second\r\n:2\r\n",
+        "map([(simple-string(\"first\"), int(1)), (simple-string(\"second\"), int(2))]) ",
+    ),
+    (b"%0\r\n%-1\r\n", "map([]) NegativeLength"),
+    (
+        b"|1\r\n+k\r\n:1\r\n:2\r\n|0\r\n_\r\n|-1\r\n",
+        "attribute(int(2)) attribute(nil) NegativeLength",
+    ),
+    (b">2\r\n$7\r\nmessage\r\n:1\r\n", "push(Message, [int(1)]) "),
+    (
+        b">3\r\n+message\r\n+somechannel\r\n+this is the message\r\n",
+        "push(Message, [simple-string(\"somechannel\"), \
+             simple-string(\"this is the message\")]) ",
+    ),
+    (
+        b">0\r\n>-3\r\n",
+        "push(Other(\"\"), []) push(Other(\"\"), []) ",
+    ),
+    (b">1\r\n+OK\r\n", "BadPushKind"),
+    (b">1\r\n$1\r\n\xFF\r\n", "BadPushKind"),
+    (b"*2\r\n:1\r\n:x\r\n", "NotInteger"),
+    (b"*9223372036854775807\r\n:1\r\n", ".."),
+];
+
 #[test]
 fn aggregates(rt: HostRuntime) {
-    for (bytes, want) in [
-        (&b"*-1\r\n~-1\r\n*0\r\n"[..], "nil nil array([]) "),
-        (
-            &b"*3\r\n+OK\r\n-LOADING x\r\n:1\r\n"[..],
-            "array([ok, Server error: `LOADING: x`, int(1)]) ",
-        ),
-        (
-            &b"~5\r\n+orange\r\n+apple\r\n#t\r\n:100\r\n:999\r\n"[..],
-            "set([simple-string(\"orange\"), simple-string(\"apple\"), boolean(true), \
-             int(100), int(999)]) ",
-        ),
-        (
-            &b"%2\r\n+first\r\n:1\r\n+second\r\n:2\r\n"[..],
-            "map([(simple-string(\"first\"), int(1)), (simple-string(\"second\"), int(2))]) ",
-        ),
-        (&b"%0\r\n%-1\r\n"[..], "map([]) NegativeLength"),
-        (
-            &b"|1\r\n+k\r\n:1\r\n:2\r\n|0\r\n_\r\n|-1\r\n"[..],
-            "attribute(int(2)) attribute(nil) NegativeLength",
-        ),
-        (
-            &b">2\r\n$7\r\nmessage\r\n:1\r\n"[..],
-            "push(Message, [int(1)]) ",
-        ),
-        (
-            &b">3\r\n+message\r\n+somechannel\r\n+this is the message\r\n"[..],
-            "push(Message, [simple-string(\"somechannel\"), \
-             simple-string(\"this is the message\")]) ",
-        ),
-        (
-            &b">0\r\n>-3\r\n"[..],
-            "push(Other(\"\"), []) push(Other(\"\"), []) ",
-        ),
-        (&b">1\r\n+OK\r\n"[..], "BadPushKind"),
-        (&b">1\r\n$1\r\n\xFF\r\n"[..], "BadPushKind"),
-        (&b"*2\r\n:1\r\n:x\r\n"[..], "NotInteger"),
-        (&b"*9223372036854775807\r\n:1\r\n"[..], ".."),
-    ] {
-        assert_eq!(rt; shown(&rt, bytes).as_str(), want);
+    for (bytes, want) in AGGREGATES {
+        assert_eq!(rt; shown(&rt, bytes).as_str(), *want);
     }
     let attribute = parse_redis_value(rt.alloc(), b"|1\r\n+k\r\n:1\r\n:2\r\n").expect(
         &rt,

@@ -1,6 +1,6 @@
 //! Replies as bytes, over a parser.
 
-use crate::answers::{debug_text, next_shown, shown_reply};
+use crate::answers::{Example, debug_text, next_shown, shown_reply};
 use resp_core::{ErrorKind, Parser, Reading, ServerErrorKind, Value, parse_redis_value};
 use std::io::Cursor;
 use std::process::Abort;
@@ -18,21 +18,24 @@ fn faults(rt: &(impl Abort + AllocGlobal), bytes: &[u8], wanted: &str) {
     assert!(rt; parser.is_failed());
 }
 
+/// Bytes that end exactly where a fault shows.
+pub const FAULTS: &[Example] = &[
+    (b":9223372036854775808\r\n", "NotInteger"),
+    (b":\r\n", "NotInteger"),
+    (b"%-1\r\n", "NegativeLength"),
+    (b"$2\r\nabX", "BodyEnd"),
+    (b"$2\r\nab\rX", "BodyEnd"),
+    (b"#x\r\n", "NotBoolean"),
+    (b",1e\r\n", "NotDouble"),
+    (b"=3\r\ntxt\r\n", "NoVerbatimFormat"),
+    (b">2\r\n+OK\r\n:1\r\n", "BadPushKind"),
+    (b"@", "UnknownType"),
+];
+
 #[test]
 fn faults_show_at_their_byte(rt: HostRuntime) {
-    for (bytes, fault) in [
-        (":9223372036854775808\r\n", "NotInteger"),
-        (":\r\n", "NotInteger"),
-        ("%-1\r\n", "NegativeLength"),
-        ("$2\r\nabX", "BodyEnd"),
-        ("$2\r\nab\rX", "BodyEnd"),
-        ("#x\r\n", "NotBoolean"),
-        (",1e\r\n", "NotDouble"),
-        ("=3\r\ntxt\r\n", "NoVerbatimFormat"),
-        (">2\r\n+OK\r\n:1\r\n", "BadPushKind"),
-        ("@", "UnknownType"),
-    ] {
-        faults(&rt, bytes.as_bytes(), fault);
+    for (bytes, fault) in FAULTS {
+        faults(&rt, bytes, fault);
     }
 }
 
