@@ -7,3 +7,6 @@ pub use Rattle.resp_parse.specs.Grammar.{Good, Faulty}
 pub use Rattle.resp_parse.specs.Prefixes.{HasGoodPrefix, HasFaultyPrefix, IsUnfinished}
 pub use Rattle.resp_parse.specs.Reads.{Reads}
 pub use Rattle.resp_parse.specs.State.{State, StandsAfter, IsBetweenValues}
+pub use Rattle.resp_parse.specs.Tally.{Tally}
+pub use Rattle.resp_parse.specs.Built.{built}
+pub use Rattle.resp_parse.specs.Bounds.{unseen, WorksWithin, Bounded, FedBy, OneCall, CallsWithin}

@@ -1,5 +1,5 @@
 -- What a header announces, as a machine begins it.
-use Rattle.std.proofs.Common.{◌≡◌, ℕ, suc, ◌-◌, false, List, [], ◌∷◌, ◌++◌, length, refl, ap, ◌∙◌, arith, Some, None, Result, Ok, Err}
+use Rattle.std.proofs.Common.{◌≡◌, ℕ, suc, ◌-◌, List, [], ◌∷◌, length, refl, ap, ◌∙◌, arith, Some, None, Ok, Err}
 use Rattle.resp_value.specs.declared.value.Value.{Value}
 use Rattle.resp_parse.specs.declared.stop.Stop.{Stop}
 use Rattle.resp_parse.specs.declared.stop.Stop.TheVariants.{Memory, Fault}
@@ -8,11 +8,11 @@ use Rattle.resp_parse.specs.declared.shape.ElementsKind.{ElementsKind}
 use Rattle.resp_parse.specs.declared.shape.Shape.TheVariants as shape
 use Rattle.resp_parse.specs.declared.frames.Frame.{Frame}
 use Rattle.resp_parse.specs.declared.machine.Machine.{Machine}
-use Rattle.resp_parse.specs.Grammar.{Announcement, elements}
+use Rattle.resp_parse.specs.Grammar.{Announcement}
 use Rattle.resp_parse.specs.Shapes.{Announces, elements_value}
-use Rattle.resp_parse.specs.PlainReading.{ReadOutcome, got, then, read_announced, made, read}
+use Rattle.resp_parse.specs.PlainReading.{ReadOutcome, then, read_announced, read}
 use Rattle.resp_parse.specs.Computes.{Computes}
-use Rattle.resp_parse.specs.Resume.{levels_left, place, resume, fresh_of, Goes}
+use Rattle.resp_parse.specs.Resume.{place, Goes}
 use Rattle.resp_parse.proofs.OpenFrames.{opens}
 
 -- a header of a value inside these frames

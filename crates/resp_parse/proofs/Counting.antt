@@ -1,5 +1,5 @@
 -- What a parser has counted, from call to call.
-use Rattle.std.proofs.Common.{◌≡◌, ℕ, ◌+◌, ◌-◌, ◌*◌, ◌<◌, ◌≤◌, Bool, true, false, List, [], ◌∷◌, ◌++◌, length, drop, refl, ap, sym, ◌∙◌, arith, Option, Some, None, Ok, Err}
+use Rattle.std.proofs.Common.{◌≡◌, ℕ, ◌+◌, ◌-◌, ◌*◌, ◌≤◌, Bool, true, false, List, [], ◌∷◌, length, drop, refl, ap, arith, Option, Some, None, Ok, Err}
 use Rattle.std.proofs.lemmas.Grind.{common_steps}
 use Rattle.resp_value.specs.declared.value.Value.{Value}
 use Rattle.resp_parse.specs.declared.stop.Stop.{Stop}
@@ -10,8 +10,8 @@ use Rattle.resp_parse.specs.Tally.{Tally}
 use Rattle.resp_parse.specs.State.{State}
 use Rattle.resp_parse.specs.Bounds.{Bounded, OneCall}
 use Rattle.resp_parse.specs.Resume.{fresh_of, IsScanned}
-use Rattle.resp_parse.specs.Weights.{built_in, frames_weight, weight, credit, DrivePays}
-use Rattle.resp_parse.specs.Kept.{Balanced, Counted, Holds}
+use Rattle.resp_parse.specs.Weights.{built_in, frames_weight, credit, DrivePays}
+use Rattle.resp_parse.specs.Kept.{Counted, Holds}
 use Rattle.resp_parse.proofs.Holding.{nothing_open}
 
 -- a call was counted, and the machine went on

@@ -1,14 +1,14 @@
 -- Steps, one after another.
-use Rattle.std.proofs.Common.{◌≡◌, ℕ, ◌+◌, ◌<◌, ◌≤◌, Bool, true, false, List, [], ◌++◌, length, drop, refl, ap, sym, ◌∙◌, subst, arith, Option, Some, None, Result, Ok, Err}
+use Rattle.std.proofs.Common.{◌≡◌, ℕ, ◌+◌, ◌<◌, ◌≤◌, true, false, List, ◌++◌, length, drop, refl, ap, sym, ◌∙◌, subst, arith, Some, None, Ok, Err}
 use Rattle.std.proofs.lemmas.Grind.{common_steps}
 use Rattle.resp_value.specs.declared.value.Value.{Value}
 use Rattle.resp_parse.specs.declared.stop.Stop.{Stop}
 use Rattle.resp_parse.specs.declared.stop.Stop.TheVariants.{Memory, Fault}
 use Rattle.resp_parse.specs.declared.machine.Machine.{Machine}
 use Rattle.resp_parse.specs.declared.machine.Step.TheVariants as step
-use Rattle.resp_parse.specs.PlainReading.{ReadOutcome, got}
+use Rattle.resp_parse.specs.PlainReading.{got}
 use Rattle.resp_parse.specs.Computes.{fault_read}
-use Rattle.resp_parse.specs.Resume.{place, resume, fresh_of, IsScanned, FaultsAlways, Ends, Steps, Waits, Reads, Drives}
+use Rattle.resp_parse.specs.Resume.{place, resume, fresh_of, IsScanned, Ends, Steps, Drives}
 use Rattle.resp_parse.proofs.BodiesInPieces.{drop-all, drop-drop}
 use Rattle.resp_parse.proofs.HeadersInPieces.{resume-nothing, IsScanned-zero}
 

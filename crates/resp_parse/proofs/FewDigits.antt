@@ -1,5 +1,5 @@
 -- A text of digits alone writes the number of its digits.
-use Rattle.std.proofs.Common.{◌≡◌, ℕ, zero, suc, ◌+◌, ◌-◌, ◌*◌, ◌<◌, ◌≤◌, ◌^◌, ◌&&◌, ◌==◌, Bool, true, false, cond, nat_lt, nat_le, List, [], ◌∷◌, length, take, drop, get_or, All, refl, ap, sym, ◌∙◌, arith, Some, None, ℤ, pos}
+use Rattle.std.proofs.Common.{◌≡◌, ℕ, zero, suc, ◌+◌, ◌-◌, ◌<◌, ◌≤◌, ◌^◌, ◌==◌, Bool, true, false, nat_lt, List, [], ◌∷◌, length, take, get_or, All, refl, ap, sym, ◌∙◌, arith, Some, pos}
 use Rattle.std.proofs.lemmas.Bool.{and_parts, and_from, ltb-true, lt-ltb}
 use Rattle.std.proofs.lemmas.Bool.Decides.{nat_tests}
 use Rattle.std.proofs.lemmas.Grind.{common_steps}
@@ -7,10 +7,10 @@ use Rattle.std.proofs.lemmas.Str.{chars-IsAscii, encodes-IsAscii}
 use Rattle.std.proofs.lemmas.Str.Ascii.{IsAscii-from_all}
 use Rattle.std.specs.Char.{is_ascii_digit, is_whitespace, digit_value}
 use Rattle.std.specs.List.{list_all}
-use Rattle.std.specs.Str.{IsAscii, chars, encode_utf8_all, skip_leading_whitespace, drop_trailing_whitespace, trim_start, trim_end, trim}
+use Rattle.std.specs.Str.{IsAscii, encode_utf8_all, skip_leading_whitespace, drop_trailing_whitespace, trim_start, trim_end, trim}
 use Rattle.std.specs.Str.Parse.{without_leading_plus, without_leading_sign, signed_digits_value, digits_value, starts_with_minus}
 use Rattle.resp_parse.specs.Number.{is_digits, is_decimal, fits_i64, plain_number, number}
-use Rattle.resp_parse.proofs.ByteTests.{not_true, eq_false}
+use Rattle.resp_parse.proofs.ByteTests.{eq_false}
 
 abbrev pub Digits : List ℕ → Type 0
 Digits text = list_all is_ascii_digit text ≡ true

@@ -1,5 +1,5 @@
 -- What a parser keeps of itself, from call to call.
-use Rattle.std.proofs.Common.{◌≡◌, ◌≢◌, ℕ, zero, suc, ◌+◌, ◌-◌, ◌<◌, ◌≤◌, ◌↔◌, IsTrue, not, Bool, true, false, List, [], ◌∷◌, ◌++◌, length, drop, refl, ap, sym, ◌∙◌, subst, append_assoc, arith, Option, Some, None, Result, Ok, Err}
+use Rattle.std.proofs.Common.{◌≡◌, ◌≢◌, ℕ, zero, suc, ◌+◌, ◌-◌, ◌<◌, ◌≤◌, ◌↔◌, IsTrue, not, Bool, true, false, List, [], ◌∷◌, ◌++◌, length, drop, refl, ap, sym, ◌∙◌, append_assoc, arith, Option, Some, None, Err}
 use Rattle.std.proofs.lemmas.List.{append-nil}
 use Rattle.std.proofs.lemmas.Grind.{common_steps}
 use Rattle.resp_value.specs.declared.value.Value.{Value}
@@ -11,7 +11,7 @@ use Rattle.resp_parse.specs.declared.machine.Machine.{Machine}
 use Rattle.resp_parse.specs.PlainReading.{ReadOutcome, got, fault, unfinished, then, read}
 use Rattle.resp_parse.specs.Prefixes.{HasGoodPrefix, HasFaultyPrefix, IsUnfinished}
 use Rattle.resp_parse.specs.Computes.{fault_read}
-use Rattle.resp_parse.specs.Resume.{value_of, place, resume, levels_left, fresh_of, IsScanned, FaultsAlways, Waits, Reads, Drives}
+use Rattle.resp_parse.specs.Resume.{place, resume, fresh_of, IsScanned, Waits, Reads, Drives}
 use Rattle.resp_parse.specs.Weights.{weight}
 use Rattle.resp_parse.specs.Kept.{Resumes, Rests, Holds}
 use Rattle.resp_parse.proofs.LineAt.{Scanned-longer}

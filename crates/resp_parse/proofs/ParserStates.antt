@@ -1,5 +1,5 @@
 -- What the states of a parser say of the bytes since the last value.
-use Rattle.std.proofs.Common.{◌≡◌, ℕ, Bool, true, false, List, ◌++◌, ◌⊎◌, inl, inr, sym, ap, ◌∙◌}
+use Rattle.std.proofs.Common.{◌≡◌, ℕ, true, false, List, ◌++◌, ◌⊎◌, inl, inr, sym, ap, ◌∙◌}
 use Rattle.resp_parse.specs.State.{State, StandsAfter, FailedAfter, IsBetweenValues}
 
 pub StandsAfter-from_since : (s : State) (b : List ℕ) → s.failed ≡ false → b ≡ s.since → StandsAfter s b

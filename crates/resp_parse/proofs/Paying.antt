@@ -1,8 +1,7 @@
 -- The bytes taken pay for the turns.
-use Rattle.std.proofs.Common.{◌≡◌, ℕ, ◌+◌, ◌-◌, ◌*◌, ◌≤◌, List, length, ap, ◌∙◌, sym, subst, arith, refl, Option, Some, None, Result, Ok, Err}
+use Rattle.std.proofs.Common.{◌≡◌, ℕ, ◌+◌, ◌-◌, ◌*◌, ◌≤◌, List, length, ap, arith, refl, Some, None, Ok, Err}
 use Rattle.resp_value.specs.declared.value.Value.{Value}
 use Rattle.resp_parse.specs.declared.stop.Stop.{Stop}
-use Rattle.resp_parse.specs.declared.machine.Body.{Body}
 use Rattle.resp_parse.specs.declared.machine.Machine.{Machine}
 use Rattle.resp_parse.specs.Tally.{Tally}
 use Rattle.resp_parse.specs.declared.machine.Step.TheVariants as step

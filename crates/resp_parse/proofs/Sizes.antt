@@ -1,11 +1,11 @@
 -- How many values a value is built of, by what its header announces.
-use Rattle.std.proofs.Common.{◌≡◌, ℕ, zero, suc, ◌+◌, ◌-◌, ◌*◌, ◌<◌, ◌≤◌, Bool, true, false, cond, List, [], ◌∷◌, length, take, sum, map, refl, ap, sym, ◌∙◌, subst, arith, Option, None, Some, Result, Ok, Err, ◌==◌, ℤ, pos, negsuc, codes}
+use Rattle.std.proofs.Common.{◌≡◌, ℕ, zero, suc, ◌+◌, ◌-◌, ◌*◌, ◌<◌, ◌≤◌, Bool, true, false, cond, List, [], ◌∷◌, length, take, map, refl, arith, Option, None, Some, Result, Ok, Err, ◌==◌, ℤ, pos, negsuc, codes}
 use Rattle.std.specs.Str.{bytes_eq, trim}
 use Rattle.std.specs.List.{position_or_len, before_first, after_first}
 use Rattle.resp_value.specs.Names.{format_named, kind_named}
 use Rattle.resp_errors.specs.ServerErrors.{server_error}
 use Rattle.resp_errors.specs.declared.kinds.FrameFault.TheVariants.{NotDouble, NotBoolean, NoVerbatimFormat, BadPushKind}
-use Rattle.resp_value.specs.declared.value.Value.{Value, Nil, Okay, Int, SimpleString, BulkString, Array, Map, Attribute, ServerError, Boolean, BigNumber, Set, VerbatimString, Push, Double}
+use Rattle.resp_value.specs.declared.value.Value.{Value, Okay, Int, SimpleString, BulkString, Array, Map, Boolean, Set, VerbatimString, Push, Double}
 use Rattle.resp_value.specs.declared.names.PushKind.{PushKind}
 use Rattle.resp_errors.specs.declared.kinds.FrameFault.{FrameFault}
 use Rattle.resp_value.specs.Views.{pairs}

@@ -9,7 +9,7 @@ use Rattle.resp_parse.specs.declared.stop.Stop.{Stop}
 use Rattle.resp_parse.specs.declared.stop.Stop.TheVariants as stop
 use Rattle.resp_parse.specs.declared.machine.Machine.{Machine}
 use Rattle.resp_parse.specs.Prefixes.{HasGoodPrefix, HasFaultyPrefix, IsUnfinished}
-use Rattle.resp_parse.specs.State.{State, StandsAfter}
+use Rattle.resp_parse.specs.State.{State}
 use Rattle.resp_parse.specs.Calls.{Takes, CannotTake}
 use Rattle.resp_parse.specs.Resume.{Drives}
 use Rattle.resp_parse.specs.Tally.{Tally}
@@ -18,7 +18,7 @@ use Rattle.resp_parse.specs.Kept.{Resumes, Holds, Counted}
 use Rattle.resp_parse.proofs.Counting.{Counted-taken, Counted-stopped, scanned-within}
 use Rattle.resp_parse.proofs.BodiesInPieces.{drop-drop}
 use Rattle.resp_parse.proofs.Holding.{Resumes-fresh, Resumes-waits, Holds-working, Holds-failed, good-from_reads, faulty-from_drives, unfinished-from_waits}
-use Rattle.resp_parse.proofs.ParserStates.{IsBetweenValues-from_same, StandsAfter-since, StandsAfter-from_since, FailedAfter-from_since}
+use Rattle.resp_parse.proofs.ParserStates.{IsBetweenValues-from_same, StandsAfter-from_since, FailedAfter-from_since}
 
 -- the machine was in these unparsed bytes, and is now `new`
 module _ (buffer since : List ℕ) (consumed : ℕ) (failed : Bool) (m new : Machine) (within : consumed ≤ length buffer) (h : Holds m (drop consumed buffer) since failed) (w : failed ≡ false)

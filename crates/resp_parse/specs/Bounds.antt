@@ -1,5 +1,5 @@
 -- What a parser has done and built, bounded by the bytes that came.
-use Rattle.std.specs.Prelude.{◌≡◌, ◌≤◌, ◌+◌, ◌*◌, ℕ, Bool, false, List, length, drop, Result, Ok, Err}
+use Rattle.std.specs.Prelude.{◌≡◌, ◌≤◌, ◌+◌, ◌*◌, ℕ, false, List, length, drop, Result, Ok, Err}
 use Rattle.resp_parse.specs.Tally.{Tally}
 use Rattle.resp_parse.specs.State.{State}
 

@@ -26,6 +26,11 @@ const CHUNK: usize = 4096;
 /// [`Parser::parse_from`] asks a source for the bytes that the next value needs. It does not matter
 /// how the bytes are cut: the values are those of the pieces joined.
 ///
+/// Nor does it matter for the work: the parser goes on where it stopped. Its loops make at most three
+/// turns for each byte that it has looked at and two for each call, at most 100 aggregates are open,
+/// and of the value in progress it has built at most one value for each three bytes looked at,
+/// whatever lengths are announced. Contracts see these numbers in its state.
+///
 /// After bytes that can't begin a value, after an early end of a source, and after `OutOfMemory` in
 /// any call but `feed`, the parser has failed permanently: each later call that feeds or takes
 /// answers `parser has failed`, a [`ParsingError`].

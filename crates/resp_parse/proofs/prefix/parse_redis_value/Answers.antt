@@ -1,4 +1,4 @@
-use Rattle.std.proofs.Common.{◌+◌, drop, [], refl, Ok, Err, Some, None}
+use Rattle.std.proofs.Common.{drop, refl, Ok, Err, Some, None}
 use Rattle.resp_parse.specs.declared.stop.Stop.TheVariants as stop
 use Rattle.resp_parse.specs.FirstValue.{faulty, unfinished}
 use Rattle.resp_parse.specs.Resume.{Drives}

@@ -1,11 +1,10 @@
-use Rattle.std.proofs.Common.{◌≡◌, ◌≤◌, ◌+◌, ◌-◌, List, ℕ, length, take, drop, arith, subst, Ok, Err, Some, None}
+use Rattle.std.proofs.Common.{◌≡◌, ◌+◌, ◌-◌, length, take, drop, arith, Ok}
 use Rattle.std.proofs.lemmas.Result.{err_from_is_err_and}
 use Rattle.std.proofs.lemmas.Grind.{common_steps}
 use Rattle.resp_parse.specs.declared.machine.Step.TheVariants as step
-use Rattle.resp_parse.specs.Resume.{Steps}
-use Rattle.resp_parse.specs.Weights.{StepPays, StepWeighs}
-use Rattle.resp_parse.proofs.Driving.{Driven-start, Driven-end, Driven-stops, Driven-waits, Driven-goes, Driven-settles, Driven-reads, Driven-refused}
-use Rattle.resp_parse.proofs.Paying.{Spent-start, Spent-end, Spent-waits, Spent-goes, Spent-stops, Spent-settles, Spent-reads, Spent-weighs, Spent-refused}
+use Rattle.resp_parse.specs.Weights.{StepWeighs}
+use Rattle.resp_parse.proofs.Driving.{Driven-start, Driven-end}
+use Rattle.resp_parse.proofs.Paying.{Spent-start, Spent-end, Spent-waits, Spent-stops, Spent-reads, Spent-weighs}
 use Rattle.resp_parse.proofs.machine.Machine.drive.Goals as goal
 
 pub loop-at-init : goal.loop-at-init

@@ -4,7 +4,7 @@ use Rattle.resp_parse.specs.Grammar.{announced}
 use Rattle.resp_parse.specs.PlainReading.{then, read_announced, read}
 use Rattle.resp_parse.specs.Resume.{place, Goes}
 use Rattle.resp_parse.proofs.HeadersInPieces.{line-waits, line-not_utf8, header-stops, header-goes, header-whole}
-use Rattle.resp_parse.proofs.Paying.{header-looks, header-pays, header-stopped, header-stop-pays}
+use Rattle.resp_parse.proofs.Paying.{header-looks, header-pays}
 use Rattle.resp_parse.proofs.machine.Machine.header.Goals as goal
 
 pub returns-in_default-line_end-clause-steps : goal.returns-in_default-line_end-clause-steps

@@ -1,7 +1,7 @@
 use Rattle.std.proofs.Common.{◌≡◌, ◌≤◌, ◌+◌, ◌++◌, drop, length, false, ap, sym, ◌∙◌, arith}
 use Rattle.std.proofs.lemmas.Grind.{common_steps}
 use Rattle.resp_parse.specs.State.{State}
-use Rattle.resp_parse.proofs.ParserStates.{StandsAfter-works, StandsAfter-not_failed, StandsAfter-fed, IsBetweenValues-fed}
+use Rattle.resp_parse.proofs.ParserStates.{StandsAfter-not_failed, StandsAfter-fed, IsBetweenValues-fed}
 use Rattle.resp_parse.proofs.Holding.{Holds-fed, fed-fits, fed-length}
 use Rattle.resp_parse.specs.Tally.{Tally}
 use Rattle.resp_parse.proofs.Counting.{Counted-fed, Bounded-from_kept}

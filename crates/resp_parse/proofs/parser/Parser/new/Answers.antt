@@ -1,4 +1,4 @@
-use Rattle.std.proofs.Common.{[], false, arith, refl, sym, ◌∙◌}
+use Rattle.std.proofs.Common.{false, arith, refl, sym, ◌∙◌}
 use Rattle.resp_parse.proofs.ParserStates.{IsBetweenValues-from_same}
 use Rattle.resp_parse.proofs.Holding.{Holds-new}
 use Rattle.resp_parse.proofs.Counting.{Counted-new, levels-fresh, Bounded-from_kept}

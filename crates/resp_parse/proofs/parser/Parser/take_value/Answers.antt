@@ -1,4 +1,4 @@
-use Rattle.std.proofs.Common.{◌≡◌, ◌+◌, ◌-◌, List, ℕ, length, take, drop, refl, ap, sym, ◌∙◌, arith, Ok, Err, Some, None}
+use Rattle.std.proofs.Common.{◌≡◌, ◌+◌, ◌-◌, ℕ, length, take, drop, refl, ap, sym, ◌∙◌, arith, Ok, Err, Some, None}
 use Rattle.std.proofs.lemmas.Grind.{common_steps}
 use Rattle.resp_parse.specs.declared.stop.Stop.TheVariants as stop
 use Rattle.resp_parse.specs.State.{State}
