@@ -97,7 +97,7 @@ module _ (old new : Body) (bytes : List ℕ) (n : ℕ) (n_is : n ≡ min (length
 
 -- a machine in a body that took n bytes
 module _ (m : Machine) (old new : Body) (bytes : List ℕ) (n : ℕ) (body_is : m.body ≡ Some old) (h : FillsBody {E = Unit {0}} old bytes new (Ok n)) where
-  resumes : (more : List ℕ) → resume m (bytes ++ more) ≡ then (value_of (levels_left m.frames) (Some new) (drop n bytes ++ more)) (place m.frames)
+  pub resumes : (more : List ℕ) → resume m (bytes ++ more) ≡ then (value_of (levels_left m.frames) (Some new) (drop n bytes ++ more)) (place m.frames)
   resumes more =
       ap (λ o. then (value_of (levels_left m.frames) o (bytes ++ more)) (place m.frames)) body_is
       ∙ ap (λ o. then o (place m.frames)) (fills old new bytes n h.0 h.1 (levels_left m.frames) more)

@@ -9,6 +9,7 @@ pub mod BodiesInPieces
 pub mod Counting
 pub mod Driving
 pub mod FewDigits
+pub mod FilledBodies
 pub mod HeadersInPieces
 pub mod Holding
 pub mod LineAt

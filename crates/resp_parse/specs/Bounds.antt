@@ -22,8 +22,9 @@ pub record Bounded (s : State) : Type 0 where
   pub works : s.failed ≡ false → WorksWithin s
 
 -- n bytes were fed by one call
-abbrev pub FedBy : ℕ → Tally → Tally → Type 0
-FedBy n c d = d ≡ record c { came = c.came + n; calls = c.calls + 1 }
+pub record FedBy (n : ℕ) (c d : Tally) : Type 0 where
+  pub calls : d.calls ≡ c.calls + 1
+  pub came : d.came ≡ c.came + n
 
 -- one call was made, and no byte came
 pub record OneCall (c d : Tally) : Type 0 where

@@ -15,6 +15,7 @@ pub mod Resume
 pub mod Tally
 pub mod Built
 pub mod Weights
+pub mod Filling
 pub mod State
 pub mod Bounds
 pub mod Kept

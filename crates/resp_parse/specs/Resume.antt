@@ -89,7 +89,7 @@ EndsBody bs (Err f) = (more : List ℕ) → fault_read (end_of_body (bs ++ more)
 abbrev pub FillsBody : {E : Type 0} → Body → List ℕ → Body → Result ℕ E → Type 0
 FillsBody old bytes new (Ok n) = (n ≡ min (length bytes) old.missing)
     × (new ≡ record old { missing = old.missing - n; bytes = old.bytes ++ take n bytes })
-FillsBody old bytes new (Err e) = Unit {0}
+FillsBody old bytes new (Err e) = new ≡ old
 
 -- n bytes were taken, and no more can be before more bytes come
 pub record Waits (old : Machine) (bytes : List ℕ) (new : Machine) (n : ℕ) : Type 0 where

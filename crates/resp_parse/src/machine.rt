@@ -9,6 +9,7 @@ ghost use Rattle.resp_parse.specs.Shapes.{body_value};
 ghost use Rattle.resp_parse.specs.Computes.{Computes};
 ghost use Rattle.resp_parse.specs.Resume.{place, resume, fresh_of, IsScanned, Goes, Ends, Steps};
 ghost use Rattle.resp_parse.specs.Resume.{Drives, FillsBody};
+ghost use Rattle.resp_parse.specs.Filling.{lacks_of, Fills};
 ghost use Rattle.resp_parse.specs.Built.{built};
 ghost use Rattle.resp_parse.specs.Weights.{weight, Weighs, StepWeighs, DriveWeighs, Places};
 ghost use Rattle.resp_parse.specs.Weights.{HeaderPays, StepPays, DrivePays};
@@ -206,6 +207,32 @@ impl Machine {
         }
         counts.take(2);
         Ok(Step::Whole(taken + 2, body.value(alloc)?))
+    }
+
+    /// How many bytes the open body lacks, its CR LF aside; 0 if none is open.
+    pub(crate) fn lacks(&self) -> usize
+        ensures { result ≡ lacks_of self.now.body }
+    {
+        match &self.body {
+            Some(body) => body.missing,
+            None => 0,
+        }
+    }
+
+    /// Takes bytes that the open body lacks.
+    pub(crate) fn fill(&mut self, bytes: &[u8], counts: &mut Counts) -> Result<(), AllocError>
+        requires lacks { length bytes.now ≤ lacks_of self.old.body }
+        ensures fills { Fills self.old bytes.now self.new counts.old counts.new result }
+    {
+        let Some(mut body) = mem::replace(&mut self.body, None) else {
+            return Ok(());
+        };
+        let filled = body.fill(bytes);
+        self.body = Some(body);
+        let taken = filled?;
+        counts.turn();
+        counts.take(taken);
+        Ok(())
     }
 
     /// Puts a whole value where it belongs; Some is one that stands in no frame.

@@ -97,7 +97,12 @@ impl Parser {
             return Err(failed_before());
         }
         self.compact();
-        self.buffer.extend_from_slice(bytes)?;
+        let taken_all = self.consumed == self.buffer.len();
+        let lacking = if taken_all { self.machine.lacks() } else { 0 };
+        let (direct, rest) = bytes.split_at(lacking.min(bytes.len()));
+        self.buffer.reserve(rest.len())?;
+        self.machine.fill(direct, &mut self.counts)?;
+        self.buffer.extend_from_slice(rest)?;
         self.since.append(bytes);
         self.counts.call();
         self.counts.come(bytes.len());
