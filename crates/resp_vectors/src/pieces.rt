@@ -149,6 +149,21 @@ const ELEMENTS: usize = 100_000;
 /// What each of them holds.
 const BODY: &str = "32 bytes, of which two are\r\nCRLF";
 
+/// The value is an array of that many such bodies.
+fn holds_bodies(rt: &(impl Abort + AllocGlobal), value: &Value) {
+    let Value::Array(elements) = value else {
+        assert!(rt; false);
+        return;
+    };
+    assert_eq!(rt; elements.len(), ELEMENTS);
+    for element in elements.iter() {
+        match element {
+            Value::BulkString(bytes) => assert_eq!(rt; bytes.as_slice(), BODY.as_bytes()),
+            _ => assert!(rt; false),
+        }
+    }
+}
+
 /// The value that is there after the last byte; before it, fed one by one, there may be none.
 fn last_value(rt: &(impl Abort + AllocGlobal), parser: &mut Parser, bytes: &[u8]) -> Option<Value> {
     let mut value = None;
@@ -165,20 +180,10 @@ fn a_large_array_in_single_bytes(rt: HostRuntime) {
     let header = format!(in rt.alloc(); "*{ELEMENTS}\r\n").expect(&rt, "no refusal");
     let element = format!(in rt.alloc(); "$32\r\n{BODY}\r\n").expect(&rt, "no refusal");
     let mut parser = Parser::new(rt.alloc());
-    let mut value = last_value(&rt, &mut parser, header.as_bytes());
-    for _ in 0..ELEMENTS {
-        assert!(rt; value.is_none());
-        value = last_value(&rt, &mut parser, element.as_bytes());
+    assert!(rt; last_value(&rt, &mut parser, header.as_bytes()).is_none());
+    for _ in 1..ELEMENTS {
+        assert!(rt; last_value(&rt, &mut parser, element.as_bytes()).is_none());
     }
-    let Some(Value::Array(elements)) = value else {
-        assert!(rt; false);
-        return;
-    };
-    assert_eq!(rt; elements.len(), ELEMENTS);
-    for element in elements.iter() {
-        match element {
-            Value::BulkString(bytes) => assert_eq!(rt; bytes.as_slice(), BODY.as_bytes()),
-            _ => assert!(rt; false),
-        }
-    }
+    let array = last_value(&rt, &mut parser, element.as_bytes()).expect(&rt, "a value");
+    holds_bodies(&rt, &array);
 }
