@@ -1,14 +1,15 @@
 //! `resp_bench`: how fast replies are parsed and commands are packed.
 //!
-//! `resp_bench parse FILE PIECE ROUNDS` feeds the bytes of a file to a parser, PIECE bytes at a time
-//! (0: 16,384), takes each value and drops it. `resp_bench pack WHAT COUNT ROUNDS` packs COUNT times:
-//! `set`, a command of three short arguments, built and packed; `big`, one of an argument of 1 MiB,
-//! built and packed; `big-only`, the same, packed alone; `pipe`, a pipeline of 1,000 of the first.
+//! `resp_bench parse FILE PIECE ROUNDS` feeds the bytes of a file to a parser, PIECE bytes at a
+//! time (0: 16,384), takes each value and drops it. `resp_bench pack WHAT COUNT ROUNDS` packs
+//! COUNT times: `set`, a command of three short arguments, built and packed; `big`, one of an
+//! argument of 1 MiB, built and packed; `big-only`, the same, packed alone; `pipe`, a pipeline
+//! of 1,000 of the first.
 //!
-//! Each does one round untimed and then ROUNDS timed ones, and prints how many replies or commands a
-//! round reads or packs, how many bytes those are, and the nanoseconds of CPU time of the best timed
-//! round, 0 if there is none. The exit status is 1 for wrong words, and 2 where the file can't be
-//! read or a call is refused.
+//! Each does one round untimed and then ROUNDS timed ones, and prints how many replies or
+//! commands a round reads or packs, how many bytes those are, and the nanoseconds of CPU time
+//! of the best timed round, 0 if there is none. The exit status is 1 for wrong words, and 2
+//! where the file can't be read or a call is refused.
 #![tactic(auto)]
 
 mod packing;

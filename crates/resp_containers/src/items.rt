@@ -96,8 +96,8 @@ impl<T: Drop> Items<T> {
 }
 
 impl<T: Copy + Drop> Items<T> {
-    /// Adds copies of the elements of a slice at the end; on `OutOfMemory` the elements stay as they
-    /// were.
+    /// Adds copies of the elements of a slice at the end; on `OutOfMemory` the elements stay as
+    /// they were.
     pub fn extend_from_slice(&mut self, items: &[T]) -> Result<(), AllocError>
         ensures ok { OnOk result (self.new ≡ self.old ++ items.now) }
         ensures err { OnErr result (self.new ≡ self.old) }

@@ -7,9 +7,9 @@ use std::marker::Model;
 use std::mem;
 use std::mem::size_of;
 
-/// What a parser has done since it was made: the turns of its loops, the bytes that came to it, those
-/// of them that it has looked at, and the calls. It takes no memory and no time: contracts alone see
-/// it.
+/// What a parser has done since it was made: the turns of its loops, the bytes that came to it,
+/// those of them that it has looked at, and the calls. It takes no memory and no time:
+/// contracts alone see it.
 #[derive(Drop)]
 pub(crate) struct Counts {
     turns: Tag,
