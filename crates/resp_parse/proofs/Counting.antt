@@ -14,36 +14,46 @@ use Rattle.resp_parse.specs.Weights.{built_in, frames_weight, credit, DrivePays}
 use Rattle.resp_parse.specs.Kept.{Counted, Holds}
 use Rattle.resp_parse.proofs.Holding.{nothing_open}
 
+-- what a call began with, t, of what was counted before it, c, and what it came to, e
+record Begun (c t e : Tally) : Type 0 where
+  turns : t.turns ≡ c.turns
+  taken : t.taken ≡ c.taken
+  came : e.came ≡ c.came
+  calls : e.calls ≡ c.calls + 1
+
+begun : (c t e : Tally) → t ≡ record c { calls = c.calls + 1 } → e ≡ record t { turns = e.turns; taken = e.taken } → Begun c t e
+begun c t e i s =
+    let came : t.came ≡ c.came = ap (λ (x : Tally). x.came) i in
+    let calls : t.calls ≡ c.calls + 1 = ap (λ (x : Tally). x.calls) i in
+    let came' : e.came ≡ t.came = ap (λ (x : Tally). x.came) s in
+    let calls' : e.calls ≡ t.calls = ap (λ (x : Tally). x.calls) s in
+    record {
+      turns = ap (λ (x : Tally). x.turns) i;
+      taken = ap (λ (x : Tally). x.taken) i;
+      came = omega (arith, came, came');
+      calls = omega (arith, calls, calls');
+    }
+
 -- a call was counted, and the machine went on
 module _ (m new : Machine) (u : List ℕ) (c t e : Tally) (failed : Bool) where
   pub Counted-taken : (n : ℕ) (o : Option Value) → n ≤ length u → new.scanned ≤ length (drop n u) → Counted m u c failed → failed ≡ false → t ≡ record c { calls = c.calls + 1 } → DrivePays m new u t e (Ok (n, o)) → Counted new (drop n u) e failed
   Counted-taken n o l s k w i p =
       let b = k.works w in
-      let turns : t.turns ≡ c.turns = ap (λ (x : Tally). x.turns) i in
-      let taken : t.taken ≡ c.taken = ap (λ (x : Tally). x.taken) i in
-      let came : t.came ≡ c.came = ap (λ (x : Tally). x.came) i in
-      let calls : t.calls ≡ c.calls + 1 = ap (λ (x : Tally). x.calls) i in
-      let came' : e.came ≡ t.came = ap (λ (x : Tally). x.came) p.0.same in
-      let calls' : e.calls ≡ t.calls = ap (λ (x : Tally). x.calls) p.0.same in
+      let g = begun c t e i p.0.same in
       let r : length (drop n u) ≡ length u - n = grind (arith, common_steps) in
       record {
-        turns = omega (arith, b.pays, p.1, turns, taken, calls, calls');
-        taken = omega (arith, b.held, p.0.taken, taken, came, came', l, r, s);
-        works = λ _. record { pays = omega (arith, b.pays, p.1, turns, taken, calls, calls'); held = omega (arith, b.held, p.0.taken, taken, came, came', l, r) };
+        turns = omega (arith, b.pays, p.1, g.turns, g.taken, g.calls);
+        taken = omega (arith, b.held, p.0.taken, g.taken, g.came, l, r, s);
+        works = λ _. record { pays = omega (arith, b.pays, p.1, g.turns, g.taken, g.calls); held = omega (arith, b.held, p.0.taken, g.taken, g.came, l, r) };
       }
 
   pub Counted-stopped : (x : Stop) → Counted m u c failed → failed ≡ false → t ≡ record c { calls = c.calls + 1 } → DrivePays m new u t e (Err x) → (v : List ℕ) → Counted new v e true
   Counted-stopped x k w i p v =
       let b = k.works w in
-      let turns : t.turns ≡ c.turns = ap (λ (y : Tally). y.turns) i in
-      let taken : t.taken ≡ c.taken = ap (λ (y : Tally). y.taken) i in
-      let came : t.came ≡ c.came = ap (λ (y : Tally). y.came) i in
-      let calls : t.calls ≡ c.calls + 1 = ap (λ (y : Tally). y.calls) i in
-      let came' : e.came ≡ t.came = ap (λ (y : Tally). y.came) p.0.same in
-      let calls' : e.calls ≡ t.calls = ap (λ (y : Tally). y.calls) p.0.same in
+      let g = begun c t e i p.0.same in
       record {
-        turns = omega (arith, b.pays, p.1, turns, taken, calls, calls');
-        taken = omega (arith, b.held, p.0.most, taken, came, came');
+        turns = omega (arith, b.pays, p.1, g.turns, g.taken, g.calls);
+        taken = omega (arith, b.held, p.0.most, g.taken, g.came);
         works = λ z. absurd (let y : true ≡ false = z in cc);
       }
 
