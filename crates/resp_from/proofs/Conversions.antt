@@ -26,9 +26,9 @@ ConvertsList-err Fits (Ok x) e h f = absurd (cc (h.0))
 ConvertsList-err {X} Fits (Err d) e h f = subst (λ b. RefusesIf b ((xs : List X) → Fits xs → ⊥)) (sym h.1) f
 
 -- a list as a vector
-pub Converts-list : {X : Type 0} (Fits : List X → Type 0) (r : Result (Vec X Global) ParsingError) → ConvertsList Fits r → Converts (λ v. Fits v.items) r
-Converts-list Fits (Ok v) h = h
-Converts-list Fits (Err e) h = RefusesIf-along e (λ none v. none v.items) h
+pub as_vector : {X : Type 0} (Fits : List X → Type 0) (r : Result (Vec X Global) ParsingError) → ConvertsList Fits r → Converts (λ v. Fits v.items) r
+as_vector Fits (Ok v) h = h
+as_vector Fits (Err e) h = RefusesIf-along e (λ none v. none v.items) h
 
 -- what a conversion says that takes no memory
 pub Converts_decided : {X : Type 0} (Fits : X → Type 0) (r : Result X ParsingError) → Decides Fits r → Converts Fits r

@@ -1,5 +1,7 @@
 pub mod Conversions
+pub mod Filling
 pub mod Groups
 pub mod InTurn
 pub mod OneValueAtMost
+pub mod Sizes
 pub mod TopLayer

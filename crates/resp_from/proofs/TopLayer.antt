@@ -3,9 +3,8 @@ use Rattle.std.proofs.Common.{◌≡◌, ℕ, Bool, List, Vec, Global, rules, sy
 use Rattle.resp_value.specs.declared.value.Value.{Value, Array, BulkString, Set, out-Value, the_lemmas}
 use Rattle.resp_value.specs.declared.value.Value.TheOpen.{Value-F}
 use Rattle.resp_errors.specs.declared.parsing_error.ParsingError.{ParsingError}
-use Rattle.resp_from.specs.Conversion.{Converts, ConvertsList}
+use Rattle.resp_from.specs.Conversion.{ConvertsList}
 use Rattle.resp_from.specs.Lists.{IsVec, OfVec}
-use Rattle.resp_from.proofs.Conversions.{Converts-list}
 
 pub out-Array : (items : List Value) → out-Value (Array items) ≡ Value-F.Array items
 out-Array items = search (rules, the_lemmas)
@@ -17,5 +16,5 @@ pub out-BulkString : (bytes : List ℕ) → out-Value (BulkString bytes) ≡ Val
 out-BulkString bytes = search (rules, the_lemmas)
 
 -- a conversion to a list of what a reply's top shows is one of the reply
-pub OfVec-layer : {X : Type 0} (n : ℕ) (each : Bool) (Of : Value → X → Type 0) (reply : Value) (layer : Value-F Value) (r : Result (Vec X Global) ParsingError) → out-Value reply ≡ layer → ConvertsList (IsVec n each Of layer) r → Converts (λ v. OfVec n each Of reply v.items) r
-OfVec-layer n each Of reply layer r e h = Converts-list (OfVec n each Of reply) r (subst (λ w. ConvertsList (IsVec n each Of w) r) (sym e) h)
+pub OfVec-layer : {X : Type 0} (n : ℕ) (each : Bool) (Of : Value → X → Type 0) (reply : Value) (layer : Value-F Value) (r : Result (Vec X Global) ParsingError) → out-Value reply ≡ layer → ConvertsList (IsVec n each Of layer) r → ConvertsList (OfVec n each Of reply) r
+OfVec-layer n each Of reply layer r e h = subst (λ w. ConvertsList (IsVec n each Of w) r) (sym e) h

@@ -4,6 +4,7 @@ pub mod Conversion
 pub mod Integers
 pub mod Laws
 pub mod Lists
+pub mod Maps
 pub mod Results
 pub mod Rules
 pub mod Texts

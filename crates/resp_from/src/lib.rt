@@ -1,12 +1,14 @@
 //! Conversions of replies to Rust values.
 #![tactic(auto)]
 
+mod arrays;
 mod attributes;
 mod booleans;
 mod conversion;
 mod integers;
 pub mod laws;
 mod lists;
+mod maps;
 mod results;
 mod rules;
 mod texts;

@@ -1,7 +1,8 @@
 //! Replies as lists.
 
 ghost use Rattle.std.specs.Prelude.{◌≡◌, IfOk};
-ghost use Rattle.resp_from.specs.Lists.{single_maps};
+ghost use Rattle.resp_from.specs.Conversion.{ConvertsList};
+ghost use Rattle.resp_from.specs.Lists.{OfVec, single_maps};
 
 use crate::conversion::FromRedisValue;
 use crate::rules::convert_each;
@@ -20,26 +21,32 @@ fn maps_of_one(alloc: Global, pairs: Items<(Value, Value)>) -> Result<Vec<Value>
     Ok(maps)
 }
 
+/// The values of a reply that is a list of them.
+pub fn list_of<T: FromRedisValue>(alloc: Global, value: Value) -> Result<Vec<T>, ParsingError>
+    ensures converts { ConvertsList (OfVec T.WIDTH T.BYTES T.of_value value) result }
+{
+    match value {
+        Value::Array(items) => T::from_redis_values(alloc, items.into_vec()),
+        Value::Set(items) => T::from_redis_values(alloc, items.into_vec()),
+        Value::Map(pairs) => convert_each(alloc, maps_of_one(alloc, pairs)?),
+        Value::BulkString(bytes) => T::from_byte_vec(alloc, bytes.into_vec()),
+        Value::Nil => Ok(Vec::new(alloc)),
+        _ => Err(ParsingError::from("Response type not vector compatible.")),
+    }
+}
+
 /// A list is an array or a set, value by value as `from_redis_values` says; a map, pair by pair,
 /// each as a map of one pair; a bulk string, as `from_byte_vec` says; or nothing, which is empty.
 /// No attribute is removed.
 impl<T: FromRedisValue> FromRedisValue for Vec<T> {
-    ghost use Rattle.resp_from.specs.Lists.{OfVec};
-
     const WIDTH: usize = 0;
 
     const BYTES: bool = false;
 
     ghost of_value = { λ reply v. OfVec T.WIDTH T.BYTES T.of_value reply v.items };
 
+    #[tactic(auto, using(crate::proofs::Conversions::as_vector))]
     fn from_redis_value(alloc: Global, value: Value) -> Result<Vec<T>, ParsingError> {
-        match value {
-            Value::Array(items) => T::from_redis_values(alloc, items.into_vec()),
-            Value::Set(items) => T::from_redis_values(alloc, items.into_vec()),
-            Value::Map(pairs) => convert_each(alloc, maps_of_one(alloc, pairs)?),
-            Value::BulkString(bytes) => T::from_byte_vec(alloc, bytes.into_vec()),
-            Value::Nil => Ok(Vec::new(alloc)),
-            _ => Err(ParsingError::from("Response type not vector compatible.")),
-        }
+        list_of(alloc, value)
     }
 }

@@ -5,6 +5,8 @@
 #[cfg(test)]
 mod arguments;
 #[cfg(test)]
+mod collections;
+#[cfg(test)]
 mod conversions;
 #[cfg(test)]
 mod errors;

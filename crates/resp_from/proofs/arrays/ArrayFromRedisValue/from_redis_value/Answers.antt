@@ -1,0 +1,16 @@
+use Rattle.std.proofs.Common.{arith}
+use Rattle.resp_from.specs.Lists.{OfVec}
+use Rattle.resp_from.proofs.Conversions.{Converts-shape}
+use Rattle.resp_from.proofs.Sizes.{one_size}
+use Rattle.resp_from.proofs.arrays.ArrayFromRedisValue.from_redis_value.Goals as goal
+
+pub returns-in_err-list_of-clause-converts : goal.returns-in_err-list_of-clause-converts
+returns-in_err-list_of-clause-converts g c =
+    let Items = OfVec g.T.FromRedisValue.WIDTH g.T.FromRedisValue.BYTES g.T.FromRedisValue.of_value c.args.value in
+    Converts-shape Items _ _ _ c.from_residual.ensures c.in_err-list_of.ensures.converts (λ items array. (items, array.listed))
+
+pub returns-clause-converts : goal.returns-clause-converts
+returns-clause-converts g c =
+    let size = one_size g.T.FromRedisValue.WIDTH g.T.FromRedisValue.BYTES g.T.FromRedisValue.of_value c.args.value in
+    let v = c.in_ok-list_of.field-0 in
+    rw c.from-in-Err.ensures (λ items array. c.in-Err.ensures.1 (omega (arith, v.ok.0, size v.items items c.in_ok-list_of.ensures.converts array.listed, array.sized)))

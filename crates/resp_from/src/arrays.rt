@@ -1,0 +1,58 @@
+//! Replies as lists of a size of their own: boxed slices and arrays.
+
+ghost use Rattle.std.specs.Prelude.{◌≡◌};
+ghost use Rattle.resp_value.specs.declared.value.Value.{out-Value};
+ghost use Rattle.resp_from.specs.Lists.{is_array_like};
+
+use crate::conversion::FromRedisValue;
+use crate::lists::list_of;
+use resp_value::{ParsingError, Value};
+use std::alloc::Global;
+use std::boxed::BoxedSlice;
+
+/// A boxed slice is what a [`Vec`] is.
+impl<T: FromRedisValue> FromRedisValue for BoxedSlice<T> {
+    ghost use Rattle.std.specs.Box.{boxed_slice_items};
+    ghost use Rattle.resp_from.specs.Lists.{OfVec};
+
+    const WIDTH: usize = 0;
+
+    const BYTES: bool = false;
+
+    ghost of_value = { λ reply slice. OfVec T.WIDTH T.BYTES T.of_value reply
+        (boxed_slice_items slice) };
+
+    fn from_redis_value(alloc: Global, value: Value) -> Result<BoxedSlice<T>, ParsingError> {
+        let items: Vec<T> = Vec::from_redis_value(alloc, value)?;
+        Ok(items.into_boxed_slice())
+    }
+}
+
+/// Whether the reply is an array, a bulk string or nothing.
+fn is_like_array(reply: &Value) -> bool
+    ensures { result ≡ is_array_like (out-Value reply.now) }
+{
+    matches!(reply, Value::Array(_) | Value::BulkString(_) | Value::Nil)
+}
+
+/// An array is what a [`Vec`] of exactly as many items is, of an array, a bulk string or nothing; a
+/// set and a map are refused. No attribute is removed.
+impl<T: FromRedisValue, const N: usize> FromRedisValue for [T; N] {
+    ghost use Rattle.resp_from.specs.Lists.{OfArray};
+
+    const WIDTH: usize = 0;
+
+    const BYTES: bool = false;
+
+    ghost of_value = { λ reply items. OfArray N T.WIDTH T.BYTES T.of_value reply items };
+
+    fn from_redis_value(alloc: Global, value: Value) -> Result<[T; N], ParsingError> {
+        if !is_like_array(&value) {
+            return Err(ParsingError::from("Response type not array compatible"));
+        }
+        match <[T; N]>::try_from(list_of(alloc, value)?) {
+            Ok(items) => Ok(items),
+            Err(_) => Err(ParsingError::from("Response has wrong dimension")),
+        }
+    }
+}
