@@ -1,5 +1,5 @@
 -- A reply is one value of a type at most.
-use Rattle.std.proofs.Common.{◌≡◌, ◌≢◌, ℕ, ℤ, pos, Bool, true, false, List, [], ◌∷◌, codes, None, Some, refl, sym, ap, ◌∙◌, subst, get_or, arith, ◌<◌, lit<}
+use Rattle.std.proofs.Common.{◌≡◌, ◌≢◌, ℕ, ℤ, pos, Bool, true, false, List, [], ◌∷◌, codes, None, Some, Result, Ok, Err, refl, sym, ap, ◌∙◌, subst, get_or, arith, ◌<◌, lit<}
 use Rattle.std.specs.Bool.{MatchBool}
 use Rattle.std.specs.Int.{Width}
 use Rattle.std.specs.List.{AllZip}
@@ -8,7 +8,10 @@ use Rattle.resp_value.specs.declared.value.Value.TheOpen.{Value-F}
 use Rattle.resp_from.specs.Booleans.{IsTruth, TruthText, OfBool}
 use Rattle.resp_from.specs.Integers.{IsInteger, OfInteger, SignedNumber, SignedText, UnsignedNumber, UnsignedText}
 use Rattle.resp_from.specs.Lists.{IsVec, OfVec, single_maps}
-use Rattle.resp_from.specs.Laws.{IsFunction}
+use Rattle.resp_errors.specs.declared.parsing_error.ParsingError.{ParsingError}
+use Rattle.resp_errors.specs.declared.parsing_error.ParsingError.TheVariants as parsing
+use Rattle.resp_from.specs.Conversion.{Converts}
+use Rattle.resp_from.specs.Laws.{Agree, IsFunction}
 use Rattle.resp_from.specs.Rules.{OfList, byte_replies}
 use Rattle.resp_from.specs.Attributes.{stripped}
 use Rattle.resp_from.specs.Texts.{IsText, OfText}
@@ -74,7 +77,7 @@ option_function Of f reply None (Some y) h k = let e : true ≡ false = sym h �
 option_function Of f reply (Some x) None h k = let e : true ≡ false = sym k ∙ h.0 in cc
 option_function Of f reply (Some x) (Some y) h k = ap Some (f (stripped reply) x y h.1 k.1)
 
-AllZip-function : {X : Type 0} (Of : Value → X → Type 0) → IsFunction Of → (replies : List Value) (xs ys : List X) → AllZip Of replies xs → AllZip Of replies ys → xs ≡ ys
+pub AllZip-function : {A X : Type 0} (Of : A → X → Type 0) → ((a : A) (x y : X) → Of a x → Of a y → x ≡ y) → (ls : List A) (xs ys : List X) → AllZip Of ls xs → AllZip Of ls ys → xs ≡ ys
 AllZip-function Of f [] [] [] h k = refl
 AllZip-function Of f [] [] (y ∷ ys) h k = absurd k
 AllZip-function Of f [] (x ∷ xs) ys h k = absurd h
@@ -98,5 +101,16 @@ vec_layer_function n each Of f _ xs ys h k = absurd h
 
 pub vec_function : {X : Type 0} (n : ℕ) (each : Bool) (Of : Value → X → Type 0) → IsFunction Of → IsFunction (OfVec n each Of)
 vec_function n each Of f reply xs ys h k = vec_layer_function n each Of f (out-Value reply) xs ys h k
+
+
+pub agreeing : {X : Type 0} (Fits : X → Type 0) (r s : Result X ParsingError) → Converts Fits r → Converts Fits s → Agree Fits r s
+agreeing Fits (Ok x) (Ok y) h k = (h, k)
+agreeing Fits (Ok x) (Err parsing.OutOfMemory) h k = refl
+agreeing Fits (Ok x) (Err (parsing.Described text)) h k = absurd (k x h)
+agreeing Fits (Ok x) (Err (parsing.Fault fault)) h k = absurd k
+agreeing Fits (Err parsing.OutOfMemory) (Ok y) h k = refl
+agreeing Fits (Err (parsing.Described text)) (Ok y) h k = absurd (h y k)
+agreeing Fits (Err (parsing.Fault fault)) (Ok y) h k = absurd h
+agreeing Fits (Err d) (Err e) h k = tt
 
 pub ruleset functions = (signed_function, unsigned_function, bool_function, text_function)

@@ -5,7 +5,11 @@ ghost use Rattle.std.specs.Int.{Width};
 ghost use Rattle.resp_from.specs.Booleans.{OfBool};
 ghost use Rattle.resp_from.specs.Integers.{OfInteger, SignedNumber, SignedText, UnsignedNumber};
 ghost use Rattle.resp_from.specs.Integers.{UnsignedText};
-ghost use Rattle.resp_from.specs.Laws.{IsFunction};
+ghost use Rattle.resp_from.specs.Conversion.{Converts};
+ghost use Rattle.resp_from.specs.Laws.{Agree, HasOneMap, IsFunction};
+ghost use Rattle.resp_errors.specs.declared.parsing_error.ParsingError.{ParsingError};
+ghost use Rattle.resp_value.specs.declared.value.Value.{Value};
+ghost use Rattle.std.specs.Prelude.{Result};
 ghost use Rattle.resp_from.specs.Lists.{OfVec};
 ghost use Rattle.resp_from.specs.Texts.{OfText};
 ghost use Rattle.resp_from.specs.Wrappers.{OfOption};
@@ -34,4 +38,20 @@ pub fn law_of_one_option<T: FromRedisValue>()
 pub fn law_of_one_list<T: FromRedisValue>()
     requires inside { IsFunction T.of_value }
     ensures items { IsFunction (OfVec T.WIDTH T.BYTES T.of_value) }
+{}
+
+/// The same of the entries of a `BTreeMap`, where it holds of each key and of each value.
+pub fn law_of_one_sorted_map<K: FromRedisValue + Ord, V: FromRedisValue>()
+    requires keys { IsFunction K.of_value }
+    requires values { IsFunction V.of_value }
+    ensures map { HasOneMap K.cmp K.of_value V.of_value }
+{}
+
+/// Two conversions of one reply agree, such as an owned and a borrowed one: both give values of the
+/// reply, which are the same where it is one at most, or both refuse; unless memory ran out.
+#[tactic(auto, using(crate::proofs::OneValueAtMost::agreeing))]
+pub fn law_of_owned_and_borrowed<T: FromRedisValue>()
+    ensures agree { (reply : Value) (owned borrowed : Result T ParsingError)
+        → Converts (T.of_value reply) owned → Converts (T.of_value reply) borrowed
+        → Agree (T.of_value reply) owned borrowed }
 {}
