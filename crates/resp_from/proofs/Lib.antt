@@ -4,5 +4,6 @@ pub mod Groups
 pub mod InTurn
 pub mod OneMap
 pub mod OneValueAtMost
+pub mod ReadBack
 pub mod Sizes
 pub mod TopLayer
