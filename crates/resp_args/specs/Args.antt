@@ -1,6 +1,6 @@
 -- Arguments of a command (RESP, "Sending commands to a Redis server"): a client sends a command as
 -- an array of bulk strings, so every argument is a list of bytes.
-use Rattle.std.specs.Prelude.{◌<◌, ◌≡◌, ℕ, Bool, true, false, List, [], ◌∷◌, ◌++◌, map, Result, Ok, Err, IfErr, Vec, nat_le, ◌⊎◌, Option, None, Some, ◌+◌, if◌then◌else◌, codes, length}
+use Rattle.std.specs.Prelude.{◌<◌, ◌≡◌, ℕ, Bool, true, false, List, [], ◌∷◌, ◌++◌, map, Result, Ok, Err, IfErr, Vec, nat_le, ◌⊎◌, Option, None, Some, ◌+◌, if◌then◌else◌, codes, length, IfSome}
 use Rattle.std.specs.Global.{Global}
 use Rattle.std.specs.List.{Any, AllZip, flat_map}
 use Rattle.std.specs.List.Sorted.{IsPermutation}
@@ -32,6 +32,15 @@ IsPrefix old new = (more : Args) × (new ≡ old ++ more)
 -- new is old and then some arguments that a value gives
 abbrev pub Appends : (Args → Type 0) → Args → Args → Type 0
 Appends Gives old new = (more : Args) × (new ≡ old ++ more) × Gives more
+
+-- a list and then one argument: what `{}` writes of a value, where that is known
+abbrev pub AppendsShown : Option (List ℕ) → Args → Args → Type 0
+AppendsShown output old new =
+    (shown : List ℕ) × (new ≡ old ++ shown ∷ []) × IfSome output (λ text. shown ≡ text)
+
+-- why a value isn't formatted: memory ran out, or it failed to format itself
+abbrev pub IsUnformatted : RedisError → Type 0
+IsUnformatted e = (e ≡ OutOfMemory) ⊎ (e ≡ General Client (codes "formatting failed") None)
 
 -- why a value is refused: memory ran out, or it can't be written, which is the client's fault
 abbrev pub IsRefusal : Type 0 → RedisError → Type 0

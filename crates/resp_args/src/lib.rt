@@ -5,6 +5,7 @@ mod arg_list;
 mod args;
 mod impls;
 mod options;
+mod shown;
 mod single_arg;
 mod write;
 

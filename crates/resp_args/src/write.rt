@@ -1,10 +1,13 @@
 //! What arguments are written to.
 
-ghost use Rattle.std.specs.Prelude.{◌≡◌, ◌<◌, [], ◌∷◌, ◌++◌, length, OnOk, OnErr};
-ghost use Rattle.resp_args.specs.Args.{Args, args_of, extended};
+ghost use Rattle.std.specs.Prelude.{◌≡◌, ◌<◌, [], ◌∷◌, ◌++◌, length, OnOk, OnErr, IfErr};
+ghost use Rattle.resp_args.specs.Args.{Args, AppendsShown, IsUnformatted, args_of, extended};
 ghost use Rattle.resp_errors.specs.Memory.{OnlyMemory};
 
+use crate::shown::shown_bytes;
 use resp_errors::RedisResult;
+use std::alloc::Global;
+use std::fmt::Display;
 
 /// A list of arguments that grows at its end.
 ///
@@ -35,6 +38,18 @@ pub trait RedisWrite {
         ensures ok { OnOk result (args self.new ≡ extended (args self.old) more.now) }
         ensures err { OnErr result (args self.new ≡ args self.old) }
         ensures memory { OnlyMemory result };
+
+    /// Appends one argument: what `{}` writes of the value. Fails with kind `Client` where the value
+    /// fails to format itself, and else only with `OutOfMemory`, and then leaves the arguments as
+    /// they were.
+    final fn write_arg_fmt<D: Display + Drop>(&mut self, alloc: Global, arg: D) -> RedisResult<()>
+        ensures ok { OnOk result (AppendsShown (D.output arg) (args self.old) (args self.new)) }
+        ensures err { OnErr result (args self.new ≡ args self.old) }
+        ensures refused { IfErr result IsUnformatted }
+    {
+        let shown = shown_bytes(alloc, arg)?;
+        self.write_arg(shown.as_slice())
+    }
 }
 
 impl RedisWrite for Vec<Vec<u8>> {
