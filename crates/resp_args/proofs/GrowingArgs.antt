@@ -64,6 +64,15 @@ pub record Progress {X : Type 0} (Gives : X → Args → Type 0) (Refuses : X �
 pub progress_start : {X : Type 0} (Gives : X → Args → Type 0) (Refuses : X → Type 0) (all : List X) (old : Args) → Progress Gives Refuses all all old old
 progress_start Gives Refuses all old = record { done = []; split = refl; appended = ([], sym (append-nil old), record { lists = []; each = tt; joined = refl }); taken = λ any. absurd (omega (arith, any.2)) }
 
+-- one item more that isn't written yet
+pub progress_more : {X : Type 0} (Gives : X → Args → Type 0) (Refuses : X → Type 0) (done : List X) (x : X) (old new : Args) → Progress Gives Refuses done [] old new → Progress Gives Refuses (done ++ x ∷ []) (x ∷ []) old new
+progress_more Gives Refuses done x old new p = record {
+  done = p.done;
+  split = ap (λ items. items ++ x ∷ []) (p.split ∙ append-nil p.done);
+  appended = p.appended;
+  taken = p.taken;
+}
+
 pub progress_step : {X : Type 0} (Gives : X → Args → Type 0) (Refuses : X → Type 0) (all : List X) (x : X) (rest : List X) (old mid new : Args) → Progress Gives Refuses all (x ∷ rest) old mid → Appends (Gives x) mid new → (Refuses x → ⊥) → Progress Gives Refuses all rest old new
 progress_step Gives Refuses all x rest old mid new p appends taken = record {
   done = p.done ++ x ∷ [];

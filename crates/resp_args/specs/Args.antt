@@ -1,6 +1,8 @@
 -- Arguments of a command (RESP, "Sending commands to a Redis server"): a client sends a command as
 -- an array of bulk strings, so every argument is a list of bytes.
-use Rattle.std.specs.Prelude.{◌<◌, ◌≡◌, ℕ, Bool, true, false, List, [], ◌∷◌, ◌++◌, map, Result, Ok, Err, IfErr, Vec, nat_le, ◌⊎◌, Option, None, Some, ◌+◌, if◌then◌else◌, codes, length, IfSome}
+use Rattle.std.specs.Prelude.{◌<◌, ◌≡◌, ℕ, Bool, true, false, List, [], ◌∷◌, ◌++◌, map, Result, Ok, Err, IfErr, Vec, nat_le, ◌⊎◌, Option, None, Some, ◌+◌, if◌then◌else◌, codes, length, IfSome, OnOk}
+use Rattle.std.specs.Borrow.{Bor}
+use Rattle.std.specs.Iterator.{Yields}
 use Rattle.std.specs.Global.{Global}
 use Rattle.std.specs.List.{Any, AllZip, flat_map}
 use Rattle.std.specs.List.Sorted.{IsPermutation}
@@ -51,6 +53,18 @@ IsRefusal Refused e = (e ≡ OutOfMemory) ⊎ ((kind_of e ≡ Client) × Refused
 abbrev pub Writes : (Args → Type 0) → Type 0 → Args → Args → Result (Unit {0}) RedisError → Type 0
 Writes Gives Refused old new (Ok _) = Appends Gives old new × (Refused → ⊥)
 Writes Gives Refused old new (Err e) = IsPrefix old new × IsRefusal Refused e
+
+-- what writing values leaves and answers that an iterator gives, one after another: it was asked for
+-- these, which were written as far as one is refused, and at Ok it has no more
+pub record WritesItems {S X : Type 0} (steps : S → Option (Bor X) → S → Type 0) (start : S)
+    (Gives : List X → Args → Type 0) (Refuses : List X → Type 0) (old new : Args)
+    (result : Result (Unit {0}) RedisError) : Type 0 where
+  pub items : List (Bor X)
+  pub rest : S
+  pub yielded : Yields steps start items rest
+  pub whole : OnOk result ((end : S) × steps rest None end)
+  pub written : Writes (Gives (map (λ item. item.now) items))
+      (Refuses (map (λ item. item.now) items)) old new result
 
 -- just this argument
 abbrev pub IsOnly : List ℕ → Args → Type 0

@@ -102,4 +102,11 @@ impl RedisWrite for ArgList {
     fn extend_arg(&mut self, more: &[u8]) -> RedisResult<()> {
         self.args.extend_arg(more)
     }
+
+    fn reserve_space_for_args<I: IntoIterator<Item = usize> + Drop>(
+        &mut self,
+        additional: I,
+    ) -> RedisResult<()> {
+        self.args.reserve_space_for_args(additional)
+    }
 }

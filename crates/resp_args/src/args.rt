@@ -3,6 +3,8 @@
 ghost use Rattle.std.specs.Prelude.{◌≡◌, ℕ, Bool, List, IfOk, IfErr};
 ghost use Rattle.std.specs.List.{Any};
 ghost use Rattle.resp_args.specs.Args.{Args, args_of, Writes, IsRefusal, Never, GivesEach};
+ghost use Rattle.std.specs.Iterator.{IsFinite};
+ghost use Rattle.resp_args.specs.Args.{WritesItems};
 ghost use Rattle.resp_args.specs.Args.{GivesSlice, RefusesSlice, is_single_slice, Slices};
 ghost use Rattle.resp_args.specs.Args.Slices.{by_item};
 ghost use Rattle.resp_args.specs.declared.args.NumericBehavior.{NumericBehavior};
@@ -115,6 +117,24 @@ pub trait ToRedisArgs: Sized {
     {
         for item in items {
             item.write_redis_args(out)?;
+        }
+        Ok(())
+    }
+
+    /// Appends the arguments of each value that an iterator gives, in order. Fails as
+    /// `write_redis_args` does, at the first value that fails, and asks for no more then.
+    final fn make_arg_iter_ref<'a, I: Iterator<Item = &'a Self> + Drop, W: RedisWrite>(
+        values: I,
+        out: &mut W,
+    ) -> RedisResult<()>
+    where
+        Self: 'a,
+        requires { I.can_next values × IsFinite (I.remaining values) }
+        ensures written { WritesItems I.next_gives values (GivesEach gives) (Any refuses)
+            (W.args out.old) (W.args out.new) result }
+    {
+        for value in values {
+            value.write_redis_args(out)?;
         }
         Ok(())
     }

@@ -1,11 +1,12 @@
 //! What arguments are written to.
 
 ghost use Rattle.std.specs.Prelude.{◌≡◌, ◌<◌, [], ◌∷◌, ◌++◌, length, OnOk, OnErr, IfErr};
+ghost use Rattle.std.specs.Iterator.{IsFiniteIterable};
 ghost use Rattle.resp_args.specs.Args.{Args, AppendsShown, IsUnformatted, args_of, extended};
 ghost use Rattle.resp_errors.specs.Memory.{OnlyMemory};
 
 use crate::shown::shown_bytes;
-use resp_errors::RedisResult;
+use resp_errors::{RedisError, RedisResult};
 use std::alloc::Global;
 use std::fmt::Display;
 
@@ -50,6 +51,41 @@ pub trait RedisWrite {
         let shown = shown_bytes(alloc, arg)?;
         self.write_arg(shown.as_slice())
     }
+
+    /// Makes room for arguments of these lengths, as far as the list can; by default none. Nothing is
+    /// promised of the room, and the arguments stay. Fails only with `OutOfMemory`, as where the
+    /// lengths add up to more than the greatest `usize`.
+    fn reserve_space_for_args<I: IntoIterator<Item = usize> + Drop>(
+        &mut self,
+        additional: I,
+    ) -> RedisResult<()>
+        requires { IsFiniteIterable I.into_iter_gives I.IntoIter.can_next I.IntoIter.remaining
+            additional }
+        ensures same { args self.new ≡ args self.old }
+        ensures memory { OnlyMemory result }
+    {
+        drop(additional);
+        Ok(())
+    }
+}
+
+/// How many lengths there are. Fails with `OutOfMemory` where they add up to more than the greatest
+/// `usize`.
+fn count_of_lengths<I: IntoIterator<Item = usize>>(lengths: I) -> RedisResult<usize>
+    requires { IsFiniteIterable I.into_iter_gives I.IntoIter.can_next I.IntoIter.remaining lengths }
+    ensures memory { OnlyMemory result }
+{
+    let mut count = 0usize;
+    let mut bytes = 0usize;
+    for length in lengths {
+        let (Some(one_more), Some(longer)) = (count.checked_add(1), bytes.checked_add(length))
+        else {
+            return Err(RedisError::OutOfMemory);
+        };
+        count = one_more;
+        bytes = longer;
+    }
+    Ok(count)
 }
 
 impl RedisWrite for Vec<Vec<u8>> {
@@ -70,6 +106,14 @@ impl RedisWrite for Vec<Vec<u8>> {
     fn extend_arg(&mut self, more: &[u8]) -> RedisResult<()> {
         let last = self.len() - 1;
         self[last].extend_from_slice(more)?;
+        Ok(())
+    }
+
+    fn reserve_space_for_args<I: IntoIterator<Item = usize> + Drop>(
+        &mut self,
+        additional: I,
+    ) -> RedisResult<()> {
+        self.reserve(count_of_lengths(additional)?)?;
         Ok(())
     }
 }

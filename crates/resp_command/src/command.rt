@@ -2,6 +2,7 @@
 
 ghost use Rattle.std.specs.Prelude.{◌≡◌, ◌∷◌, [], ◌++◌, ◌↔◌, is_ok, if◌then◌else◌, IfOk, IfErr};
 ghost use Rattle.std.specs.Prelude.{OnOk, OnErr, IsTrue, true, false, length, take, ◌<◌};
+ghost use Rattle.std.specs.Iterator.{IsFiniteIterable};
 ghost use Rattle.resp_errors.specs.Memory.{OnlyMemory};
 ghost use Rattle.resp_args.specs.Args.{Appends, IsRefusal, extended};
 ghost use Rattle.resp_command.specs.Command.{new_command};
@@ -214,5 +215,18 @@ impl RedisWrite for Cmd {
         ensures rest { self.new ≡ record self.old { args = self.new.args } }
     {
         self.args.extend_arg(more)
+    }
+
+    fn reserve_space_for_args<I: IntoIterator<Item = usize> + Drop>(
+        &mut self,
+        additional: I,
+    ) -> RedisResult<()>
+        requires { IsFiniteIterable I.into_iter_gives I.IntoIter.can_next I.IntoIter.remaining
+            additional }
+        ensures same { self.new.args ≡ self.old.args }
+        ensures memory { OnlyMemory result }
+        ensures rest { self.new ≡ self.old }
+    {
+        self.args.reserve_space_for_args(additional)
     }
 }

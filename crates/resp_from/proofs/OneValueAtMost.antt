@@ -102,7 +102,6 @@ vec_layer_function n each Of f _ xs ys h k = absurd h
 pub vec_function : {X : Type 0} (n : ℕ) (each : Bool) (Of : Value → X → Type 0) → IsFunction Of → IsFunction (OfVec n each Of)
 vec_function n each Of f reply xs ys h k = vec_layer_function n each Of f (out-Value reply) xs ys h k
 
-
 pub agreeing : {X : Type 0} (Fits : X → Type 0) (r s : Result X ParsingError) → Converts Fits r → Converts Fits s → Agree Fits r s
 agreeing Fits (Ok x) (Ok y) h k = (h, k)
 agreeing Fits (Ok x) (Err parsing.OutOfMemory) h k = refl

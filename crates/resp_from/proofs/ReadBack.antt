@@ -1,5 +1,5 @@
 -- The bulk string of what a scalar is written as converts back to it.
-use Rattle.std.proofs.Common.{◌≡◌, ◌<◌, ◌≤◌, ◌^◌, ◌+◌, ℕ, ℤ, pos, negsuc, zero, suc, Bool, true, false, cond, drop, List, [], ◌∷◌, map, length, refl, sym, ap, ◌∙◌, subst, arith, rules}
+use Rattle.std.proofs.Common.{◌≡◌, ◌<◌, ◌^◌, ◌+◌, ℕ, ℤ, pos, negsuc, zero, suc, Bool, true, false, cond, drop, List, [], ◌∷◌, map, refl, sym, ap, ◌∙◌, subst, arith, rules}
 use borrow.Author.Tests.{ne_eqb}
 use lib.IntN.{neg_ℤ}
 use lib.Signed.{mag}
@@ -12,7 +12,7 @@ use Rattle.std.specs.Str.{IsUtf8, IsAscii}
 use Rattle.std.specs.Str.Parse.{IsNumeral, digits_value, signed_digits_value, starts_with_minus, without_leading_plus, without_leading_sign}
 use Rattle.std.proofs.lemmas.Fmt.{decimal_is_IsNumeral_wide, IsAscii-from_digits}
 use Rattle.std.proofs.lemmas.Str.{IsUtf8-from_ascii}
-use Rattle.resp_value.specs.declared.value.Value.{Value, BulkString, Int, out-Value, the_lemmas}
+use Rattle.resp_value.specs.declared.value.Value.{BulkString, Int, out-Value, the_lemmas}
 use Rattle.resp_value.specs.declared.value.Value.TheOpen.{Value-F}
 use Rattle.resp_from.specs.Attributes.{stripped}
 use Rattle.resp_from.specs.Booleans.{OfBool, IsTruth}

@@ -85,7 +85,10 @@ fn is_set(rt: &(impl Abort + AllocGlobal), reply: &str, members: &[i64]) {
     assert_eq!(rt; sorted.len(), members.len());
     assert_eq!(rt; hashed.len(), members.len());
     for member in members {
-        assert!(rt; sorted.contains(member) && hashed.contains(member), "{reply}");
+        assert!(rt;
+            sorted.contains(member) && hashed.contains(member),
+            "{reply}"
+        );
     }
 }
 

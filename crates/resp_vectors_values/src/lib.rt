@@ -10,3 +10,5 @@ mod collections;
 mod conversions;
 #[cfg(test)]
 mod errors;
+#[cfg(test)]
+mod writing;
