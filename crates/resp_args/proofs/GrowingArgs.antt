@@ -1,5 +1,5 @@
 -- Lists of arguments that grow at their end.
-use Rattle.std.proofs.Common.{◌≡◌, ℕ, ◌+◌, List, [], ◌∷◌, ◌++◌, length, get_or, set, ◌<◌, suc, zero, ap, ◌∙◌, append_assoc, refl, arith, Vec, Global, sym, subst, ⊎_elim, ◌⊎◌, inl, inr, append-nil, length-append, Result, Ok, Err}
+use Rattle.std.proofs.Common.{◌≡◌, ℕ, ◌+◌, List, [], ◌∷◌, ◌++◌, length, get_or, set, ◌<◌, suc, zero, ap, ◌∙◌, append_assoc, refl, arith, Vec, Global, sym, subst, ⊎_elim, ◌⊎◌, inl, inr, append-nil, length-append, Result, Ok, Err, OnOk, OnErr}
 use Rattle.std.specs.Result.{IsErr, IsErrAnd}
 use Rattle.std.proofs.lemmas.Bool.{cases_lt}
 use Rattle.std.proofs.lemmas.List.Sorted.{IsPermutation-refl}
@@ -125,3 +125,13 @@ refused_in_some_order Gives Wide Refuses items old new (Err e) refused =
     ⊎_elim (λ memory. inl memory) (λ at. inr (standing items (λ order. RefusedAt Gives Wide Refuses order old new e) at)) refused
 
 pub ruleset some_order = (in_some_order, refused_in_some_order)
+
+length-extended : (args : Args) (more : List ℕ) → length (extended args more) ≡ length args
+length-extended [] more = refl
+length-extended (arg ∷ []) more = refl
+length-extended (arg ∷ next ∷ args) more = ap suc (length-extended (next ∷ args) more)
+
+-- an argument that is open stays so
+pub still_there : (old new : Args) (more : List ℕ) (r : Result (Unit {0}) RedisError) → OnOk r (new ≡ extended old more) → OnErr r (new ≡ old) → 0 < length old → 0 < length new
+still_there old new more (Ok x) ok err there = subst (λ args. 0 < length args) (sym ok) (subst (λ n. 0 < n) (sym (length-extended old more)) there)
+still_there old new more (Err e) ok err there = subst (λ args. 0 < length args) (sym err) there

@@ -8,6 +8,7 @@ mod options;
 mod shown;
 mod single_arg;
 mod write;
+mod writer;
 
 pub use arg_list::ArgList;
 pub use args::{NumericBehavior, ToRedisArgs, write_each_arg};
@@ -17,3 +18,4 @@ pub use options::{
 };
 pub use single_arg::ToSingleRedisArg;
 pub use write::RedisWrite;
+pub use writer::ArgWriter;

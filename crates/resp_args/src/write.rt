@@ -1,11 +1,12 @@
 //! What arguments are written to.
 
-ghost use Rattle.std.specs.Prelude.{◌≡◌, ◌<◌, [], ◌∷◌, ◌++◌, length, OnOk, OnErr, IfErr};
+ghost use Rattle.std.specs.Prelude.{◌≡◌, ◌<◌, [], ◌∷◌, ◌++◌, length, OnOk, OnErr, IfOk, IfErr};
 ghost use Rattle.std.specs.Iterator.{IsFiniteIterable};
 ghost use Rattle.resp_args.specs.Args.{Args, AppendsShown, IsUnformatted, args_of, extended};
 ghost use Rattle.resp_errors.specs.Memory.{OnlyMemory};
 
 use crate::shown::shown_bytes;
+use crate::writer::ArgWriter;
 use resp_errors::{RedisError, RedisResult};
 use std::alloc::Global;
 use std::fmt::Display;
@@ -39,6 +40,19 @@ pub trait RedisWrite {
         ensures ok { OnOk result (args self.new ≡ extended (args self.old) more.now) }
         ensures err { OnErr result (args self.new ≡ args self.old) }
         ensures memory { OnlyMemory result };
+
+    /// Appends an empty argument, and hands out a writer that appends to it. Fails only with
+    /// `OutOfMemory`, and then leaves the arguments as they were.
+    final fn writer_for_next_arg(&mut self) -> RedisResult<ArgWriter<'_, Self>>
+    where
+        Self: Sized,
+        ensures same_reference { IfOk result (λ w. w.out.ghost_name ≡ self.entry.ghost_name) }
+        ensures opened { IfOk result (λ w. args w.out.now ≡ args self.old ++ [] ∷ []) }
+        ensures memory { OnlyMemory result }
+    {
+        self.open_arg()?;
+        Ok(ArgWriter { out: self })
+    }
 
     /// Appends one argument: what `{}` writes of the value. Fails with kind `Client` where the value
     /// fails to format itself, and else only with `OutOfMemory`, and then leaves the arguments as

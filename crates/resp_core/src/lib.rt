@@ -17,7 +17,7 @@ mod pipeline;
 
 pub use pipeline::{Pipeline, pipe};
 pub use resp_args::{
-    ArgList, ExistenceCheck, ExpireOption, Expiry, FieldExistenceCheck, NumericBehavior,
+    ArgList, ArgWriter, ExistenceCheck, ExpireOption, Expiry, FieldExistenceCheck, NumericBehavior,
     ProtocolVersion, RedisWrite, SetExpiry, ToRedisArgs, ToSingleRedisArg,
     is_valid_16_bytes_hex_digest, write_each_arg,
 };

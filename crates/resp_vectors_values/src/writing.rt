@@ -73,3 +73,27 @@ fn an_iterators_values_are_written(rt: HostRuntime) {
     assert_eq!(rt; list.len(), 2);
     assert_eq!(rt; list.get(1), Some(b"2".as_slice()));
 }
+
+#[test]
+fn an_argument_is_written_in_pieces(rt: HostRuntime) {
+    let mut command = Cmd::new(rt.alloc());
+    let mut writer = command.writer_for_next_arg().expect(&rt, "no refusal");
+    writer.write_all(b"foo").expect(&rt, "no refusal");
+    writer.write_all(b"bar").expect(&rt, "no refusal");
+    drop(writer);
+    packs(&rt, &command, "*1\r\n$6\r\nfoobar\r\n");
+    let mut writer = command.writer_for_next_arg().expect(&rt, "no refusal");
+    writer.write_all(b"baz").expect(&rt, "no refusal");
+    writer.write_all(b"qux").expect(&rt, "no refusal");
+    drop(writer);
+    packs(&rt, &command, "*2\r\n$6\r\nfoobar\r\n$6\r\nbazqux\r\n");
+}
+
+#[test]
+fn an_argument_that_isnt_written_is_empty(rt: HostRuntime) {
+    let mut command = Cmd::new(rt.alloc());
+    let mut writer = command.writer_for_next_arg().expect(&rt, "no refusal");
+    writer.flush().expect(&rt, "no refusal");
+    drop(writer);
+    packs(&rt, &command, "*1\r\n$0\r\n\r\n");
+}
