@@ -54,9 +54,10 @@ pub trait RedisWrite {
         Ok(ArgWriter { out: self })
     }
 
-    /// Appends one argument: what `{}` writes of the value. Fails with kind `Client` where the value
-    /// fails to format itself, and else only with `OutOfMemory`, and then leaves the arguments as
-    /// they were.
+    /// Appends one argument: what `{}` writes of the value.
+    ///
+    /// Fails with kind `Client` where the value fails to format itself, and else only with
+    /// `OutOfMemory`, and then leaves the arguments as they were.
     final fn write_arg_fmt<D: Display + Drop>(&mut self, alloc: Global, arg: D) -> RedisResult<()>
         ensures ok { OnOk result (AppendsShown (D.output arg) (args self.old) (args self.new)) }
         ensures err { OnErr result (args self.new ≡ args self.old) }
@@ -66,9 +67,11 @@ pub trait RedisWrite {
         self.write_arg(shown.as_slice())
     }
 
-    /// Makes room for arguments of these lengths, as far as the list can; by default none. Nothing is
-    /// promised of the room, and the arguments stay. Fails only with `OutOfMemory`, as where the
-    /// lengths add up to more than the greatest `usize`.
+    /// Makes room for arguments of these lengths, as far as the list can; by default none. Nothing
+    /// is promised of the room, and the arguments stay.
+    ///
+    /// Fails only with `OutOfMemory`, as where the lengths add up to more than the greatest
+    /// `usize`.
     fn reserve_space_for_args<I: IntoIterator<Item = usize> + Drop>(
         &mut self,
         additional: I,

@@ -10,8 +10,8 @@ use resp_errors::RedisResult;
 /// Writes one argument in pieces; made by
 /// [`writer_for_next_arg`](RedisWrite::writer_for_next_arg).
 ///
-/// The argument is there from then on, also where nothing is written to it. Dropping the writer takes
-/// no memory.
+/// The argument is there from then on, also where nothing is written to it. Dropping the writer
+/// takes no memory.
 #[derive(Drop)]
 pub struct ArgWriter<'a, W> {
     /// The list whose last argument is written.

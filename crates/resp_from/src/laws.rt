@@ -60,8 +60,9 @@ pub fn law_of_owned_and_borrowed<T: FromRedisValue>()
         → Agree (T.of_value reply) owned borrowed }
 {}
 
-/// What a scalar is written as, as one argument, converts back to it as a bulk string: an integer of
-/// a type of up to 128 bits in plain decimal, a truth value as a digit, a text and bytes as they are.
+/// What a scalar is written as, as one argument, converts back to it as a bulk string: an integer
+/// of a type of up to 128 bits in plain decimal, a truth value as a digit, a text and bytes as they
+/// are.
 #[tactic(auto, using(crate::proofs::ReadBack::back))]
 pub fn law_of_written_scalars()
     ensures signed { (w : Width) (n : ℤ) → FitsSigned w n

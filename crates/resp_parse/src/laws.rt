@@ -14,8 +14,8 @@ pub fn law_of_prefixes()
     ensures law { (d : ℕ) (a x b y : List ℕ) → LawOfPrefixes d a x b y }
 {}
 
-/// A value is built of at most one third as many values as it has bytes, itself among them, whatever
-/// lengths its headers announce.
+/// A value is built of at most one third as many values as it has bytes, itself among them,
+/// whatever lengths its headers announce.
 pub fn law_of_sizes()
     ensures law { (d : ℕ) (b : List ℕ) (v : Value) → Good d b v → 3 * built v ≤ length b }
 {}
