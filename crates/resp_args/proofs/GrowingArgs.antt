@@ -1,9 +1,10 @@
 -- Lists of arguments that grow at their end.
-use Rattle.std.proofs.Common.{◌≡◌, ℕ, ◌+◌, List, [], ◌∷◌, ◌++◌, length, get_or, set, ◌<◌, suc, zero, ap, ◌∙◌, append_assoc, refl, arith, Vec, Global, sym, subst, ⊎_elim, ◌⊎◌, inl, inr, append-nil, length-append, Result, Ok, Err, OnOk, OnErr}
+use Rattle.std.proofs.Common.{◌≡◌, ℕ, ◌+◌, List, [], ◌∷◌, ◌++◌, length, get_or, set, ◌<◌, suc, zero, ap, ◌∙◌, append_assoc, refl, arith, Vec, Global, sym, subst, ⊎_elim, ◌⊎◌, inl, inr, append-nil, length-append, map, Result, Ok, Err, OnOk, OnErr}
+use Rattle.std.specs.Borrow.{Bor}
 use Rattle.std.specs.Result.{IsErr, IsErrAnd}
 use Rattle.std.proofs.lemmas.Bool.{cases_lt}
 use Rattle.std.proofs.lemmas.List.Sorted.{IsPermutation-refl}
-use Rattle.std.proofs.lemmas.List.{flat_map_more, get_or_append_left}
+use Rattle.std.proofs.lemmas.List.{flat_map_more, get_or_append_left, map_push}
 use Rattle.std.proofs.Math.Seq.{get_or-append_seam}
 use Rattle.std.specs.List.{AllZip, Any}
 use Rattle.resp_errors.specs.declared.redis_error.RedisError.{RedisError}
@@ -64,11 +65,11 @@ pub record Progress {X : Type 0} (Gives : X → Args → Type 0) (Refuses : X �
 pub progress_start : {X : Type 0} (Gives : X → Args → Type 0) (Refuses : X → Type 0) (all : List X) (old : Args) → Progress Gives Refuses all all old old
 progress_start Gives Refuses all old = record { done = []; split = refl; appended = ([], sym (append-nil old), record { lists = []; each = tt; joined = refl }); taken = λ any. absurd (omega (arith, any.2)) }
 
--- one item more that isn't written yet
-pub progress_more : {X : Type 0} (Gives : X → Args → Type 0) (Refuses : X → Type 0) (done : List X) (x : X) (old new : Args) → Progress Gives Refuses done [] old new → Progress Gives Refuses (done ++ x ∷ []) (x ∷ []) old new
-progress_more Gives Refuses done x old new p = record {
+-- one item more that an iterator gave and that isn't written yet
+pub progress_more : {X : Type 0} (Gives : X → Args → Type 0) (Refuses : X → Type 0) (given : List (Bor X)) (item : Bor X) (old new : Args) → Progress Gives Refuses (map (λ x. x.now) given) [] old new → Progress Gives Refuses (map (λ x. x.now) (given ++ item ∷ [])) (item.now ∷ []) old new
+progress_more Gives Refuses given item old new p = record {
   done = p.done;
-  split = ap (λ items. items ++ x ∷ []) (p.split ∙ append-nil p.done);
+  split = map_push (λ x. x.now) given item ∙ ap (λ items. items ++ item.now ∷ []) (p.split ∙ append-nil p.done);
   appended = p.appended;
   taken = p.taken;
 }
