@@ -2,6 +2,7 @@
 
 ghost use Rattle.resp_core.specs.Replies.{OfMade};
 
+use crate::conversions::is_no;
 use resp_core::{
     FromRedisValue, ParsingError, Value, from_redis_value, from_redis_value_by,
     from_redis_value_ref, parse_redis_value,
@@ -52,16 +53,6 @@ fn both<T: FromRedisValue>(rt: &(impl Abort + AllocGlobal), reply: &str) -> (T, 
     let borrowed: T = from_redis_value_ref(rt.alloc(), &value).expect(rt, "no refusal");
     let moved: T = from_redis_value(rt.alloc(), value).expect(rt, "no refusal");
     (moved, borrowed)
-}
-
-/// The reply is no value of the type.
-fn is_no<T: FromRedisValue>(rt: &(impl Abort + AllocGlobal), reply: &str) {
-    let value = parse_redis_value(rt.alloc(), reply.as_bytes()).expect(rt, "no refusal");
-    assert!(rt;
-        T::from_redis_value_ref(rt.alloc(), &value).is_err(),
-        "{reply}"
-    );
-    assert!(rt; T::from_redis_value(rt.alloc(), value).is_err(), "{reply}");
 }
 
 /// The reply is a sorted map of these entries, and a hashed one.

@@ -18,7 +18,7 @@ fn is<T: FromRedisValue + PartialEq>(rt: &(impl Abort + AllocGlobal), reply: &st
 }
 
 /// The reply is no value of the type.
-fn is_no<T: FromRedisValue>(rt: &(impl Abort + AllocGlobal), reply: &str) {
+pub(crate) fn is_no<T: FromRedisValue>(rt: &(impl Abort + AllocGlobal), reply: &str) {
     let value = parse_redis_value(rt.alloc(), reply.as_bytes()).expect(rt, "no refusal");
     assert!(rt;
         T::from_redis_value_ref(rt.alloc(), &value).is_err(),
