@@ -1,3 +1,4 @@
 pub mod Args
+pub mod Comparisons
 pub mod Options
 pub mod SingleArg

@@ -1,9 +1,13 @@
 //! The types of the standard library as arguments.
 
 mod booleans;
-mod collections;
 mod forwards;
+mod hashed_maps;
+mod hashed_sets;
 mod integers;
+mod pairs;
 mod slices;
+mod sorted_maps;
+mod sorted_sets;
 mod texts;
 mod tuples;

@@ -3,6 +3,7 @@
 
 mod arg_list;
 mod args;
+mod comparison;
 mod impls;
 mod options;
 mod shown;
@@ -12,6 +13,7 @@ mod writer;
 
 pub use arg_list::ArgList;
 pub use args::{NumericBehavior, ToRedisArgs, write_each_arg};
+pub use comparison::ValueComparison;
 pub use options::{
     ExistenceCheck, ExpireOption, Expiry, FieldExistenceCheck, ProtocolVersion, SetExpiry,
     is_valid_16_bytes_hex_digest,

@@ -1,5 +1,7 @@
 ghost use Rattle.std.specs.Prelude.{◌≡◌, ◌↔◌, List, [], ℕ, length, IfOk, IsTrue, string_bytes};
+ghost use Rattle.resp_containers.specs.Lossy.{lossy};
 
+use bstr::ByteSlice;
 use std::alloc::{AllocError, Global};
 use std::fmt;
 use std::marker::Model;
@@ -64,6 +66,15 @@ impl Text {
         Ok(Text {
             text: String::from_str(alloc, text)?,
         })
+    }
+
+    /// Bytes as text, with U+FFFD for each longest part that is no UTF-8.
+    pub fn from_utf8_lossy(alloc: Global, bytes: &[u8]) -> Result<Text, AllocError>
+        ensures { IfOk result (λ t. t ≡ lossy bytes.now) }
+    {
+        let mut text = String::new(alloc);
+        bytes.to_str_lossy_into(&mut text)?;
+        Ok(Text { text })
     }
 
     /// An equal text.

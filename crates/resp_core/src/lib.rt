@@ -18,7 +18,7 @@ mod pipeline;
 pub use pipeline::{Pipeline, pipe};
 pub use resp_args::{
     ArgList, ArgWriter, ExistenceCheck, ExpireOption, Expiry, FieldExistenceCheck, NumericBehavior,
-    ProtocolVersion, RedisWrite, SetExpiry, ToRedisArgs, ToSingleRedisArg,
+    ProtocolVersion, RedisWrite, SetExpiry, ToRedisArgs, ToSingleRedisArg, ValueComparison,
     is_valid_16_bytes_hex_digest, write_each_arg,
 };
 pub use resp_command::{Cmd, ConnectionLike, cmd, pack_command};

@@ -17,7 +17,8 @@ use Rattle.resp_parse.specs.declared.shape.ElementsKind.{ElementsKind}
 use Rattle.resp_parse.specs.declared.shape.ElementsKind.TheVariants as elements_kind
 use Rattle.resp_parse.specs.Number.{integer_in, length_in}
 use Rattle.resp_parse.specs.Double.{double_in, is_double}
-use Rattle.resp_parse.specs.Grammar.{Announcement, complete, body, elements, invalid, with_valid, or_nil, or_empty_push, simple, boolean_in, bulk_error, verbatim_text, verbatim, lossy, is_colon, last_element, attribute, push_kind, push, announced}
+use Rattle.resp_containers.specs.Lossy.{lossy}
+use Rattle.resp_parse.specs.Grammar.{Announcement, complete, body, elements, invalid, with_valid, or_nil, or_empty_push, simple, boolean_in, bulk_error, verbatim_text, verbatim, is_colon, last_element, attribute, push_kind, push, announced}
 use Rattle.resp_parse.specs.Shapes.{body_value, elements_value}
 use Rattle.resp_parse.specs.Built.{sum_of_pairs, built}
 use Rattle.std.proofs.lemmas.List.Sums.{sum_by-cons, sum-map}

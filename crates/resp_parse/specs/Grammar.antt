@@ -2,8 +2,8 @@
 -- line announces.
 use Rattle.std.specs.Prelude.{◌≡◌, ◌≢◌, ℕ, zero, suc, ◌+◌, ◌-◌, ◌*◌, ◌<◌, Bool, true, false, cond, ◌==◌, List, [], ◌∷◌, ◌++◌, length, take, codes, ℤ, pos, negsuc, Option, None, Some, Result, Ok, Err}
 use Rattle.std.specs.List.{position_or_len, before_first, after_first}
-use Rattle.std.specs.Str.{IsUtf8, is_utf8, bytes_eq, encode_utf8_all}
-use Rattle.bstr.specs.Utf8.{lossy_chars}
+use Rattle.std.specs.Str.{IsUtf8, is_utf8, bytes_eq}
+use Rattle.resp_containers.specs.Lossy.{lossy}
 use Rattle.resp_value.specs.declared.value.Value.{Value, Nil, Okay, Int, SimpleString, BulkString, Array, Map, Attribute, ServerError, Boolean, BigNumber, Set, VerbatimString, Push}
 use Rattle.resp_value.specs.declared.names.PushKind.{PushKind}
 use Rattle.resp_errors.specs.declared.kinds.FrameFault.{FrameFault}
@@ -45,10 +45,6 @@ abbrev pub or_empty_push : (ℕ → Announcement) → ℤ → Announcement
 or_empty_push follows (pos zero) = complete empty_push
 or_empty_push follows (pos (suc n)) = follows (suc n)
 or_empty_push follows (negsuc n) = complete empty_push
-
--- bytes as text, with U+FFFD for what is no UTF-8
-abbrev pub lossy : List ℕ → List ℕ
-lossy bytes = encode_utf8_all (lossy_chars bytes)
 
 -- + a simple string
 abbrev pub simple : List ℕ → Value

@@ -5,7 +5,7 @@ ghost use Rattle.resp_parse.specs.Weights.{Turns};
 ghost use Rattle.resp_value.specs.declared.value.Value.TheVariants as value;
 ghost use Rattle.resp_errors.specs.ServerErrors.{server_error};
 ghost use Rattle.resp_value.specs.Views.{pairs as pairs_of};
-ghost use Rattle.resp_parse.specs.Grammar.{simple, bulk_error, lossy, verbatim, attribute};
+ghost use Rattle.resp_parse.specs.Grammar.{simple, bulk_error, verbatim, attribute};
 ghost use Rattle.resp_parse.specs.Grammar.{push_kind, push, empty_push};
 ghost use Rattle.resp_parse.specs.Double.{double_in};
 ghost use Rattle.resp_parse.specs.Computes.{Computes};
@@ -13,7 +13,6 @@ ghost use Rattle.resp_parse.specs.Computes.{Computes};
 use crate::counts::Counts;
 use crate::double::is_double_text;
 use crate::stop::Stop;
-use bstr::ByteSlice;
 use resp_value::{
     Boxed, FrameFault, Items, PushKind, ServerError, Text, Value, get_push_kind, verbatim_format,
 };
@@ -51,20 +50,11 @@ pub(crate) fn double_of(alloc: Global, text: &str) -> Result<Value, Stop>
     Ok(Value::Double(Text::from_str(alloc, text)?))
 }
 
-/// Bytes as text, with U+FFFD for what is no UTF-8.
-fn lossy_text(alloc: Global, bytes: &[u8]) -> Result<Text, AllocError>
-    ensures text { IfOk result (λ made. made ≡ lossy bytes.now) }
-{
-    let mut text = String::new(alloc);
-    bytes.to_str_lossy_into(&mut text)?;
-    Ok(Text::from(text))
-}
-
 /// The value of a bulk error's body (RESP3, "Bulk errors").
 pub(crate) fn bulk_error_of(alloc: Global, body: &[u8]) -> Result<Value, AllocError>
     ensures value { IfOk result (λ made. made ≡ bulk_error body.now) }
 {
-    let text = lossy_text(alloc, body)?;
+    let text = Text::from_utf8_lossy(alloc, body)?;
     error_of(alloc, text.as_str())
 }
 
@@ -72,7 +62,7 @@ pub(crate) fn bulk_error_of(alloc: Global, body: &[u8]) -> Result<Value, AllocEr
 pub(crate) fn verbatim_of(alloc: Global, body: &[u8]) -> Result<Value, Stop>
     ensures value { Computes result (verbatim body.now) }
 {
-    let text = lossy_text(alloc, body)?;
+    let text = Text::from_utf8_lossy(alloc, body)?;
     match text.as_str().split_once(':') {
         Some((format, text)) => Ok(Value::VerbatimString {
             format: verbatim_format(String::from_str(alloc, format)?),

@@ -2,8 +2,8 @@
 
 use resp_core::{
     ArgList, ErrorKind, ExistenceCheck, ExpireOption, Expiry, FieldExistenceCheck, NumericBehavior,
-    ProtocolVersion, RedisResult, RedisWrite, SetExpiry, ToRedisArgs, is_valid_16_bytes_hex_digest,
-    write_each_arg,
+    ProtocolVersion, RedisResult, RedisWrite, SetExpiry, ToRedisArgs, ValueComparison, cmd,
+    is_valid_16_bytes_hex_digest, write_each_arg,
 };
 use std::borrow::{CowSlice, CowStr};
 use std::boxed::BoxedSlice;
@@ -256,8 +256,13 @@ fn sorted_maps_are_their_pairs(rt: HostRuntime) -> Result<(), Fail> {
 #[test]
 fn hashed_sets_are_their_members(rt: HostRuntime) {
     let mut members = HashSet::new(rt.alloc());
-    members.insert("a").expect(&rt, "no refusal");
-    gives(&rt, &members, "1:a ", 1);
+    members.insert(1i64).expect(&rt, "no refusal");
+    members.insert(2).expect(&rt, "no refusal");
+    let args = members.to_redis_args(rt.alloc()).expect(&rt, "no refusal");
+    assert_eq!(rt; args.len(), 2);
+    let in_order = args[0].as_slice() == b"1".as_slice();
+    let wanted = if in_order { "1:1 1:2 " } else { "1:2 1:1 " };
+    gives(&rt, &members, wanted, 2);
 }
 
 #[test]
@@ -296,12 +301,70 @@ fn refused_as_wide(rt: &(impl Abort + AllocGlobal), written: RedisResult<()>) {
 #[test]
 fn a_refused_pair_isnt_written(rt: HostRuntime) -> Result<(), Fail> {
     let mut pairs = BTreeMap::new(rt.alloc());
-    pairs.insert(1i64, [5i64].as_slice())?;
-    pairs.insert(2, [6, 7].as_slice())?;
-    let mut list = ArgList::new(rt.alloc());
+    pairs.insert(1i64, vec![in rt.alloc(); 5i64]?)?;
+    pairs.insert(2, vec![in rt.alloc(); 6i64, 7]?)?;
+    let mut list: Vec<Vec<u8>> = Vec::new(rt.alloc());
     list.write_arg(b"x")?;
     refused_as_wide(&rt, pairs.write_redis_args(&mut list));
     assert_eq!(rt; list.len(), 3);
-    assert_eq!(rt; list.get(2), Some(b"5".as_slice()));
+    assert_eq!(rt; list[0].as_slice(), b"x".as_slice());
+    assert_eq!(rt; list[1].as_slice(), b"1".as_slice());
+    assert_eq!(rt; list[2].as_slice(), b"5".as_slice());
+    let mut command = cmd(rt.alloc(), "HSET")?;
+    refused_as_wide(&rt, command.push_arg(&pairs));
+    match command.arg(pairs) {
+        Ok(_) => assert!(rt; false, "no refusal"),
+        Err(error) => refused_as_wide(&rt, Err(error)),
+    }
+    let packed = command.get_packed_command()?;
+    assert_eq!(rt; packed.as_slice(), b"*1\r\n$4\r\nHSET\r\n".as_slice());
+    Ok(())
+}
+
+#[test]
+fn a_map_is_packed_as_its_pairs(rt: HostRuntime) -> Result<(), Fail> {
+    let mut pairs = BTreeMap::new(rt.alloc());
+    pairs.insert("a", 1i64)?;
+    pairs.insert("b", 2)?;
+    assert_eq!(rt; pairs.num_of_args(), 2);
+    let mut command = cmd(rt.alloc(), "HSET")?;
+    command.push_arg("h")?;
+    command.push_arg(pairs)?;
+    let wanted = b"*6\r\n$4\r\nHSET\r\n$1\r\nh\r\n$1\r\na\r\n$1\r\n1\r\n$1\r\nb\r\n$1\r\n2\r\n";
+    let packed = command.get_packed_command()?;
+    assert_eq!(rt; packed.as_slice(), wanted.as_slice());
+    Ok(())
+}
+
+#[test]
+fn comparisons_are_a_name_and_a_text(rt: HostRuntime) -> Result<(), Fail> {
+    let equal = ValueComparison::ifeq(rt.alloc(), 5i64)?;
+    gives(&rt, &equal, "4:IFEQ 1:5 ", 1);
+    gives(&rt, &equal.try_clone(rt.alloc())?, "4:IFEQ 1:5 ", 1);
+    let shown = format!(in rt.alloc(); "{equal:?}")?;
+    assert_eq!(rt; shown.as_str(), "IFEQ(\"5\")");
+    gives(
+        &rt,
+        &ValueComparison::ifne(rt.alloc(), "x")?,
+        "4:IFNE 1:x ",
+        1,
+    );
+    gives(
+        &rt,
+        &ValueComparison::ifdeq(rt.alloc(), "d")?,
+        "5:IFDEQ 1:d ",
+        1,
+    );
+    gives(
+        &rt,
+        &ValueComparison::ifdne(rt.alloc(), "")?,
+        "5:IFDNE 0: ",
+        1,
+    );
+    let lossy = ValueComparison::ifeq(rt.alloc(), [0xFFu8].as_slice())?;
+    let args = lossy.to_redis_args(rt.alloc())?;
+    assert_eq!(rt; args.len(), 2);
+    assert_eq!(rt; args[0].as_slice(), b"IFEQ".as_slice());
+    assert_eq!(rt; args[1].as_slice(), b"\xEF\xBF\xBD".as_slice());
     Ok(())
 }

@@ -1,5 +1,5 @@
 use Rattle.resp_args.proofs.GrowingArgs.{progress_start, progress_step, progress_end, progress_fails, progress_refused}
-use Rattle.resp_args.proofs.impls.collections.write_hashed_pairs.Goals as goal
+use Rattle.resp_args.proofs.impls.hashed_maps.write_pairs.Goals as goal
 
 pub loop-key-init : goal.loop-key-init
 loop-key-init g c = rw c.into_iter-key-iterator.ensures.into_iter_gives.0 (progress_start _ _ _ _)

@@ -1,5 +1,5 @@
 use Rattle.resp_args.proofs.GrowingArgs.{progress_start, progress_step, progress_end, progress_fails}
-use Rattle.resp_args.proofs.impls.collections.write_sorted_members.Goals as goal
+use Rattle.resp_args.proofs.impls.hashed_sets.write_members.Goals as goal
 
 pub loop-member-init : goal.loop-member-init
 loop-member-init g c = rw c.into_iter-member-iterator.ensures.into_iter_gives.0 (progress_start _ _ _ _)
