@@ -3,9 +3,9 @@ pub use Rattle.resp_errors.specs.Errors.{kind_of, detail_of, code_of, fault_of, 
 pub use Rattle.resp_errors.specs.Errors.{server_errors_of}
 pub use Rattle.resp_errors.specs.Memory.{OnlyMemory}
 pub use Rattle.resp_from.specs.Conversion.{Converts, ConvertsCall, OfMade}
-pub use Rattle.resp_from.specs.Laws.{Agree, HasOneMap, IsFunction}
 pub use Rattle.resp_from.specs.Lists.{OfArray, OfVec}
 pub use Rattle.resp_from.specs.Maps.{HoldsMap, HoldsSet, OfMap, OfSet}
+pub use Rattle.resp_laws.specs.Laws.{Agree, HasOneMap, IsFunction}
 pub use Rattle.resp_keyed.specs.Keyed.{Keying, IsDeduplicated, IsMerged, hashed, sorted}
 pub use Rattle.resp_parse.specs.Grammar.{Good, Faulty}
 pub use Rattle.resp_parse.specs.Prefixes.{HasGoodPrefix, HasFaultyPrefix, IsUnfinished}

@@ -2,8 +2,5 @@ pub mod Conversions
 pub mod Filling
 pub mod Groups
 pub mod InTurn
-pub mod OneMap
-pub mod OneValueAtMost
-pub mod ReadBack
 pub mod Sizes
 pub mod TopLayer

@@ -2,7 +2,6 @@ pub mod Attributes
 pub mod Booleans
 pub mod Conversion
 pub mod Integers
-pub mod Laws
 pub mod Lists
 pub mod Maps
 pub mod Results

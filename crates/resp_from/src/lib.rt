@@ -6,7 +6,6 @@ mod attributes;
 mod booleans;
 mod conversion;
 mod integers;
-pub mod laws;
 mod lists;
 mod maps;
 mod results;

@@ -8,9 +8,9 @@ use Rattle.std.proofs.lemmas.List.Elements.{recursion_from_All}
 use Rattle.std.proofs.lemmas.Map.Lookups.{map_keys, btree_map_read_from_get}
 use Rattle.resp_value.specs.declared.value.Value.{Value}
 use Rattle.resp_keyed.specs.Keyed.{sorted, IsMerged}
-use Rattle.resp_from.specs.Laws.{IsFunction, HasOneMap}
+use Rattle.resp_laws.specs.Laws.{IsFunction, HasOneMap}
 use Rattle.resp_from.specs.Maps.{OfPair}
-use Rattle.resp_from.proofs.OneValueAtMost.{AllZip-function}
+use Rattle.resp_laws.proofs.OneValueAtMost.{AllZip-function}
 
 lookup_key-alike : {K V : Type 0} (t u : K → Bool) → ((k : K) → t k ≡ u k) → (es : List (K × V)) → lookup_key t es ≡ lookup_key u es
 lookup_key-alike t u same [] = refl

@@ -11,7 +11,7 @@ use Rattle.resp_from.specs.Lists.{IsVec, OfVec, single_maps}
 use Rattle.resp_errors.specs.declared.parsing_error.ParsingError.{ParsingError}
 use Rattle.resp_errors.specs.declared.parsing_error.ParsingError.TheVariants as parsing
 use Rattle.resp_from.specs.Conversion.{Converts}
-use Rattle.resp_from.specs.Laws.{Agree, IsFunction}
+use Rattle.resp_laws.specs.Laws.{Agree, IsFunction}
 use Rattle.resp_from.specs.Rules.{OfList, byte_replies}
 use Rattle.resp_from.specs.Attributes.{stripped}
 use Rattle.resp_from.specs.Texts.{IsText, OfText}

@@ -10,7 +10,7 @@ ghost use Rattle.resp_from.specs.Booleans.{OfBool};
 ghost use Rattle.resp_from.specs.Integers.{OfInteger, SignedNumber, SignedText, UnsignedNumber};
 ghost use Rattle.resp_from.specs.Integers.{UnsignedText};
 ghost use Rattle.resp_from.specs.Conversion.{Converts};
-ghost use Rattle.resp_from.specs.Laws.{Agree, HasOneMap, IsFunction};
+ghost use Rattle.resp_laws.specs.Laws.{Agree, HasOneMap, IsFunction};
 ghost use Rattle.resp_errors.specs.declared.parsing_error.ParsingError.{ParsingError};
 ghost use Rattle.resp_value.specs.declared.value.Value.{BulkString, Value};
 ghost use Rattle.std.specs.Prelude.{Result};
@@ -18,7 +18,7 @@ ghost use Rattle.resp_from.specs.Lists.{OfVec};
 ghost use Rattle.resp_from.specs.Texts.{OfText};
 ghost use Rattle.resp_from.specs.Wrappers.{OfOption};
 
-use crate::conversion::FromRedisValue;
+use resp_from::FromRedisValue;
 
 /// A reply is one integer of a type at most, one truth value and one text. So an owned and a
 /// borrowed conversion, which meet one contract, give equal values where both succeed.

@@ -1,0 +1,3 @@
+pub mod OneMap
+pub mod OneValueAtMost
+pub mod ReadBack
