@@ -6,8 +6,7 @@ ghost use Rattle.resp_core.specs.PipelineLaw.{LawOfPipelines};
 pub use resp_command::laws::{law_of_packing, law_of_requests, law_of_taking};
 pub use resp_errors::laws::law_of_equal_errors;
 pub use resp_laws::{
-    law_of_one_list, law_of_one_option, law_of_one_sorted_map, law_of_one_value,
-    law_of_owned_and_borrowed, law_of_written_scalars,
+    SingleKey, SingleValued, law_of_one_value, law_of_owned_and_borrowed, law_of_written_scalars,
 };
 pub use resp_parse::laws::{law_of_prefixes, law_of_sizes};
 

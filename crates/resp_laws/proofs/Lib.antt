@@ -1,3 +1,2 @@
-pub mod OneMap
-pub mod OneValueAtMost
+pub mod OwnedAndBorrowed
 pub mod ReadBack

@@ -1,23 +1,26 @@
 -- A reply is one value of a type at most, and an owned and a borrowed conversion of it agree.
 use Rattle.std.specs.Prelude.{◌≡◌, Result, Ok, Err}
-use Rattle.std.specs.BTreeMap.{BTreeMap}
 use Rattle.std.specs.declared.cmp.Ordering.{Ordering}
 use Rattle.resp_errors.specs.declared.parsing_error.ParsingError.{ParsingError}
 use Rattle.resp_errors.specs.declared.parsing_error.ParsingError.TheVariants as parsing
 use Rattle.resp_value.specs.declared.value.Value.{Value}
-use Rattle.resp_keyed.specs.Keyed.{sorted}
-use Rattle.resp_from.specs.Maps.{OfMap}
 
--- two values of one reply are the same
-abbrev pub IsFunction : {X : Type 0} → (Value → X → Type 0) → Type 0
-IsFunction {X} Of = (reply : Value) (x y : X) → Of reply x → Of reply y → x ≡ y
+-- two values of one reply look the same
+abbrev pub IsSingleValued : {X S : Type 0} → (Value → X → Type 0) → (X → S) → Type 0
+IsSingleValued {X} Of seen = (reply : Value) (x y : X) → Of reply x → Of reply y → seen x ≡ seen y
 
--- two sorted maps of one reply have the same entries
-abbrev pub HasOneMap : {K V : Type 0} → (K → K → Ordering) → (Value → K → Type 0)
-    → (Value → V → Type 0) → Type 0
-HasOneMap {K} {V} cmp OfKey OfValue = (reply : Value) (m n : BTreeMap K V)
-    → OfMap (sorted cmp) OfKey OfValue reply m.entries
-    → OfMap (sorted cmp) OfKey OfValue reply n.entries → m.entries ≡ n.entries
+-- the order of a key depends on no more than what it looks like
+abbrev pub GoesBySeen : {X S : Type 0} → (X → X → Ordering) → (X → S) → Type 0
+GoesBySeen {X} cmp seen = (x y z : X) → seen x ≡ seen y → cmp z x ≡ cmp z y
+
+-- what an entry of a map looks like
+abbrev pub entry_seen : {K V S T : Type 0} → (K → S) → (V → T) → K × V → S × T
+entry_seen key_seen value_seen entry = (key_seen entry.0, value_seen entry.1)
+
+-- what a result looks like
+abbrev pub result_seen : {X S E : Type 0} → (X → S) → Result X E → Result S E
+result_seen seen (Ok x) = Ok (seen x)
+result_seen seen (Err e) = Err e
 
 -- two answers to one reply: both are values of it or both refuse, unless memory ran out
 abbrev pub Agree : {X : Type 0} → (X → Type 0) → Result X ParsingError → Result X ParsingError

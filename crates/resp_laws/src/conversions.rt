@@ -1,7 +1,7 @@
-//! Laws of the conversions: functions that do nothing, and whose clauses are proved.
+//! Laws of every conversion, and of what scalars are written as.
 
 ghost use Rattle.std.specs.Prelude.{ℕ, ℤ, Bool, List, true, ◌<◌, ◌^◌, codes, if◌then◌else◌};
-ghost use Rattle.std.specs.Prelude.{FitsSigned};
+ghost use Rattle.std.specs.Prelude.{FitsSigned, Result};
 ghost use Rattle.std.specs.Fmt.{decimal, signed_decimal};
 ghost use Rattle.std.specs.List.{AllByRecursion};
 ghost use Rattle.std.specs.Str.{IsUtf8};
@@ -10,50 +10,17 @@ ghost use Rattle.resp_from.specs.Booleans.{OfBool};
 ghost use Rattle.resp_from.specs.Integers.{OfInteger, SignedNumber, SignedText, UnsignedNumber};
 ghost use Rattle.resp_from.specs.Integers.{UnsignedText};
 ghost use Rattle.resp_from.specs.Conversion.{Converts};
-ghost use Rattle.resp_laws.specs.Laws.{Agree, HasOneMap, IsFunction};
+ghost use Rattle.resp_laws.specs.Laws.{Agree};
 ghost use Rattle.resp_errors.specs.declared.parsing_error.ParsingError.{ParsingError};
 ghost use Rattle.resp_value.specs.declared.value.Value.{BulkString, Value};
-ghost use Rattle.std.specs.Prelude.{Result};
 ghost use Rattle.resp_from.specs.Lists.{OfVec};
 ghost use Rattle.resp_from.specs.Texts.{OfText};
-ghost use Rattle.resp_from.specs.Wrappers.{OfOption};
 
 use resp_from::FromRedisValue;
 
-/// A reply is one integer of a type at most, one truth value and one text. So an owned and a
-/// borrowed conversion, which meet one contract, give equal values where both succeed.
-#[tactic(auto, using(crate::proofs::OneValueAtMost::functions))]
-pub fn law_of_one_value()
-    ensures signed { (w : Width) → IsFunction (OfInteger (SignedNumber w) (SignedText w)) }
-    ensures unsigned { (k : ℕ) → IsFunction (OfInteger (UnsignedNumber k) (UnsignedText k)) }
-    ensures truth { IsFunction OfBool }
-    ensures text { IsFunction OfText }
-{}
-
-/// The same of an `Option`, where it holds of what is inside.
-#[tactic(auto, using(crate::proofs::OneValueAtMost::option_function))]
-pub fn law_of_one_option<T: FromRedisValue>()
-    requires inside { IsFunction T.of_value }
-    ensures option { IsFunction (OfOption T.of_value) }
-{}
-
-/// The same of the items of a `Vec`, where it holds of each item.
-#[tactic(auto, using(crate::proofs::OneValueAtMost::vec_function))]
-pub fn law_of_one_list<T: FromRedisValue>()
-    requires inside { IsFunction T.of_value }
-    ensures items { IsFunction (OfVec T.WIDTH T.BYTES T.of_value) }
-{}
-
-/// The same of the entries of a `BTreeMap`, where it holds of each key and of each value.
-pub fn law_of_one_sorted_map<K: FromRedisValue + Ord, V: FromRedisValue>()
-    requires keys { IsFunction K.of_value }
-    requires values { IsFunction V.of_value }
-    ensures map { HasOneMap K.cmp K.of_value V.of_value }
-{}
-
 /// Two conversions of one reply agree, such as an owned and a borrowed one: both give values of the
 /// reply, which are the same where it is one at most, or both refuse; unless memory ran out.
-#[tactic(auto, using(crate::proofs::OneValueAtMost::agreeing))]
+#[tactic(auto, using(crate::proofs::OwnedAndBorrowed::agreeing))]
 pub fn law_of_owned_and_borrowed<T: FromRedisValue>()
     ensures agree { (reply : Value) (owned borrowed : Result T ParsingError)
         → Converts (T.of_value reply) owned → Converts (T.of_value reply) borrowed

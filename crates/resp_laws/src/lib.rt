@@ -1,9 +1,8 @@
-//! Laws of the conversions of replies.
+//! Laws of the conversions of replies: functions that do nothing, and whose clauses are proved.
 #![tactic(auto)]
 
 mod conversions;
+mod single_valued;
 
-pub use conversions::{
-    law_of_one_list, law_of_one_option, law_of_one_sorted_map, law_of_one_value,
-    law_of_owned_and_borrowed, law_of_written_scalars,
-};
+pub use conversions::{law_of_owned_and_borrowed, law_of_written_scalars};
+pub use single_valued::{SingleKey, SingleValued, law_of_one_value};

@@ -1,6 +1,5 @@
 //! Replies as Rust values.
 
-use resp_core::laws::law_of_one_value;
 use resp_core::{
     FromRedisValue, RedisError, RedisResult, ServerError, Value, from_redis_value,
     from_redis_value_ref, parse_redis_value,
@@ -213,7 +212,6 @@ fn a_short_last_group_is_one_refusal(rt: HostRuntime) {
 
 #[test]
 fn a_borrowed_list_of_replies(rt: HostRuntime) {
-    law_of_one_value();
     let values = integers(&rt, &[1, 2]);
     let both = i64::from_redis_value_refs(rt.alloc(), values.as_slice()).expect(&rt, "no refusal");
     assert_eq!(rt; both.as_slice(), [1, 2].as_slice());

@@ -11,4 +11,6 @@ mod conversions;
 #[cfg(test)]
 mod errors;
 #[cfg(test)]
+mod one_value;
+#[cfg(test)]
 mod writing;

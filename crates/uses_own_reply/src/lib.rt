@@ -1,12 +1,14 @@
 //! A type of a caller's own that replies convert to, by way of a tuple.
 //!
 //! `From` says how the elements make the type, and one line says what a reply is to it. No proof
-//! file is needed; an `Option` or a `Vec` of the type then converts too, with its contract.
+//! file is needed; an `Option` or a `Vec` of the type then converts too, with its contract. Two lines
+//! more say what a value looks like, and that a reply is one at most.
 #![tactic(auto)]
 
 ghost use Rattle.std.specs.Prelude.{◌≡◌};
 ghost use Rattle.resp_core.specs.Replies.{OfMade};
 
+use resp_core::laws::SingleValued;
 use resp_core::{FromRedisValue, ParsingError, Value, from_redis_value_by};
 use std::alloc::Global;
 
@@ -40,6 +42,20 @@ impl FromRedisValue for Point {
     }
 }
 
+impl SingleValued for Point {
+    ghost use Rattle.std.specs.Prelude.{ℤ};
+    ghost use Rattle.std.specs.Int.{w64};
+    ghost use Rattle.resp_core.specs.Replies.{last_one, one_and, one_made, one_signed, one_tuple};
+
+    ghost Seen = { ℤ × ℤ };
+
+    ghost seen = { λ p. (p.x, p.y) };
+
+    ghost single = { one_made (λ pair. pair)
+        (one_tuple 2 (one_and (one_signed w64) (last_one (one_signed w64))))
+        (λ t p made i. (made.0 i, made.1 i)) };
+}
+
 /// A member of a sorted set with its score.
 #[derive(Drop)]
 pub struct Scored {
@@ -68,6 +84,21 @@ impl FromRedisValue for Scored {
     fn from_redis_value(alloc: Global, value: Value) -> Result<Scored, ParsingError> {
         from_redis_value_by::<(String, i64), Scored>(alloc, value)
     }
+}
+
+impl SingleValued for Scored {
+    ghost use Rattle.std.specs.Prelude.{ℕ, ℤ, List, string_bytes};
+    ghost use Rattle.std.specs.Int.{w64};
+    ghost use Rattle.resp_core.specs.Replies.{last_one, one_and, one_made, one_signed, one_string};
+    ghost use Rattle.resp_core.specs.Replies.{one_tuple};
+
+    ghost Seen = { List ℕ × ℤ };
+
+    ghost seen = { λ s. (string_bytes s.name, s.score) };
+
+    ghost single = { one_made (λ pair. pair)
+        (one_tuple 2 (one_and one_string (last_one (one_signed w64))))
+        (λ t s made i. (string_bytes (made.0 i), made.1 i)) };
 }
 
 #[cfg(test)]

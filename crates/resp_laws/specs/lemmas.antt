@@ -1,0 +1,9 @@
+pub mod InOrder
+pub mod Lists
+pub mod LookUps
+pub mod Made
+pub mod Maps
+pub mod Scalars
+pub mod Sorted
+pub mod Tuples
+pub mod Wrappers
