@@ -5,7 +5,7 @@ pub use Rattle.resp_errors.specs.Memory.{OnlyMemory}
 pub use Rattle.resp_from.specs.Conversion.{Converts, ConvertsCall, OfMade}
 pub use Rattle.resp_from.specs.Lists.{OfArray, OfVec}
 pub use Rattle.resp_from.specs.Maps.{HoldsMap, HoldsSet, OfMap, OfSet}
-pub use Rattle.resp_laws.specs.Laws.{Agree, GoesBySeen, IsSingleValued, entry_seen, result_seen}
+pub use Rattle.resp_laws.specs.Laws.{Agree, GoesBySeen, IsSingleValued, pair_seen, result_seen}
 pub use Rattle.resp_laws.specs.lemmas.Made.{one_made}
 pub use Rattle.resp_laws.specs.lemmas.Scalars.{one_signed, one_string, one_truth, one_unsigned}
 pub use Rattle.resp_laws.specs.lemmas.Tuples.{last_one, one_and, one_tuple}

@@ -13,9 +13,9 @@ IsSingleValued {X} Of seen = (reply : Value) (x y : X) → Of reply x → Of rep
 abbrev pub GoesBySeen : {X S : Type 0} → (X → X → Ordering) → (X → S) → Type 0
 GoesBySeen {X} cmp seen = (x y z : X) → seen x ≡ seen y → cmp z x ≡ cmp z y
 
--- what an entry of a map looks like
-abbrev pub entry_seen : {K V S T : Type 0} → (K → S) → (V → T) → K × V → S × T
-entry_seen key_seen value_seen entry = (key_seen entry.0, value_seen entry.1)
+-- what a pair looks like
+abbrev pub pair_seen : {X Y S T : Type 0} → (X → S) → (Y → T) → X × Y → S × T
+pair_seen seen other_seen pair = (seen pair.0, other_seen pair.1)
 
 -- what a result looks like
 abbrev pub result_seen : {X S E : Type 0} → (X → S) → Result X E → Result S E

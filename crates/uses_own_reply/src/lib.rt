@@ -1,8 +1,8 @@
 //! A type of a caller's own that replies convert to, by way of a tuple.
 //!
 //! `From` says how the elements make the type, and one line says what a reply is to it. No proof
-//! file is needed; an `Option` or a `Vec` of the type then converts too, with its contract. Two lines
-//! more say what a value looks like, and that a reply is one at most.
+//! file is needed; an `Option` or a `Vec` of the type then converts too, with its contract. Two
+//! lines more say what a value looks like, and that a reply is one at most.
 #![tactic(auto)]
 
 ghost use Rattle.std.specs.Prelude.{◌≡◌};

@@ -5,7 +5,7 @@ use Rattle.std.specs.List.{find, list_any}
 use Rattle.std.specs.Map.{lookup, lookup_key}
 use Rattle.std.proofs.Common.{refl, sym, ap, ◌∙◌}
 use mathlib.Core.List.{reverse_aux}
-use Rattle.resp_laws.specs.Laws.{entry_seen}
+use Rattle.resp_laws.specs.Laws.{pair_seen}
 use Rattle.resp_laws.specs.lemmas.Lists.{AreAlike}
 
 pub alike_reversed : {X S : Type 0} (seen : X → S) (xs ys us vs : List X) → AreAlike seen xs ys
@@ -47,7 +47,7 @@ module _ {K S : Type 0} (seen : K → S) (test : K → Bool)
   alike_any (x ∷ xs) (y ∷ ys) h = λ i. goes x y h.0 i || alike_any xs ys h.1 i
 
   module _ {V T : Type 0} (value_seen : V → T) where
-    pub alike_keys : (es ds : List (K × V)) → AreAlike (entry_seen seen value_seen) es ds
+    pub alike_keys : (es ds : List (K × V)) → AreAlike (pair_seen seen value_seen) es ds
         → option_map seen (lookup_key test es) ≡ option_map seen (lookup_key test ds)
     alike_keys [] [] h = refl
     alike_keys [] (d ∷ ds) h = absurd h
@@ -57,7 +57,7 @@ module _ {K S : Type 0} (seen : K → S) (test : K → Bool)
         step seen (test e.0) (test d.0) e.0 d.0 (lookup_key test es) (lookup_key test ds)
         (goes e.0 d.0 key) key (alike_keys es ds h.1)
 
-    pub alike_values : (es ds : List (K × V)) → AreAlike (entry_seen seen value_seen) es ds
+    pub alike_values : (es ds : List (K × V)) → AreAlike (pair_seen seen value_seen) es ds
         → option_map value_seen (lookup test es) ≡ option_map value_seen (lookup test ds)
     alike_values [] [] h = refl
     alike_values [] (d ∷ ds) h = absurd h

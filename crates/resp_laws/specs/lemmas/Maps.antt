@@ -8,7 +8,7 @@ use Rattle.std.proofs.Common.{sym, ap, ◌∙◌, subst}
 use Rattle.resp_value.specs.declared.value.Value.{Value}
 use Rattle.resp_keyed.specs.Keyed.{sorted}
 use Rattle.resp_from.specs.Maps.{OfMap, OfPair, OfSet}
-use Rattle.resp_laws.specs.Laws.{GoesBySeen, IsSingleValued, entry_seen}
+use Rattle.resp_laws.specs.Laws.{GoesBySeen, IsSingleValued, pair_seen}
 use Rattle.resp_laws.specs.lemmas.Lists.{AreAlike, alike_partners}
 use Rattle.resp_laws.specs.lemmas.Sorted.{deduplicated_alike, merged_alike}
 
@@ -21,14 +21,14 @@ module _ {K S : Type 0} (cmp : K → K → Ordering) (total : IsTotalOrder cmp)
   pub one_sorted_map : {V T : Type 0} (OfValue : Value → V → Type 0) (value_seen : V → T)
       → IsSingleValued OfValue value_seen → (reply : Value) (m n : List (K × V))
       → OfMap (sorted cmp) OfKey OfValue reply m → OfMap (sorted cmp) OfKey OfValue reply n
-      → map (entry_seen seen value_seen) m ≡ map (entry_seen seen value_seen) n
+      → map (pair_seen seen value_seen) m ≡ map (pair_seen seen value_seen) n
   one_sorted_map OfValue value_seen value_single reply m n h k =
       let Of = OfPair OfKey OfValue in
       let pairs : k.pairs ≡ h.pairs = same_found _ k.pairs h.pairs k.found h.found in
       let again : AllZip Of h.pairs k.holds.converted =
       subst (λ ps. AllZip Of ps k.holds.converted) pairs k.holds.each in
-      let alike : AreAlike (entry_seen seen value_seen) h.holds.converted k.holds.converted =
-      alike_partners Of (entry_seen seen value_seen)
+      let alike : AreAlike (pair_seen seen value_seen) h.holds.converted k.holds.converted =
+      alike_partners Of (pair_seen seen value_seen)
       (λ pair e d p q i.
       (single pair.0 e.0 d.0 p.0 q.0 i, value_single pair.1 e.1 d.1 p.1 q.1 i))
       h.pairs h.holds.converted k.holds.converted h.holds.each again in

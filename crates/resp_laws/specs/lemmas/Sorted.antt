@@ -12,7 +12,7 @@ use Rattle.std.proofs.lemmas.List.Elements.{recursion_from_All}
 use Rattle.std.proofs.lemmas.Map.Lookups.{map_keys}
 use Rattle.std.proofs.lemmas.Map.Made.{lookup-map_values}
 use Rattle.resp_keyed.specs.Keyed.{sorted, IsMerged, IsDeduplicated}
-use Rattle.resp_laws.specs.Laws.{GoesBySeen, entry_seen}
+use Rattle.resp_laws.specs.Laws.{GoesBySeen, pair_seen}
 use Rattle.resp_laws.specs.lemmas.InOrder.{read_alike, read_as_seen}
 use Rattle.resp_laws.specs.lemmas.Lists.{AreAlike}
 use Rattle.resp_laws.specs.lemmas.LookUps.{alike_any, alike_found, alike_keys, alike_reversed, alike_values}
@@ -27,7 +27,7 @@ keys_valued value_seen [] = refl
 keys_valued value_seen (e ∷ es) = λ i. e.0 ∷ keys_valued value_seen es i
 
 seen_valued : {K S V T : Type 0} (seen : K → S) (value_seen : V → T) (es : List (K × V))
-    → map_keys seen (valued value_seen es) ≡ map (entry_seen seen value_seen) es
+    → map_keys seen (valued value_seen es) ≡ map (pair_seen seen value_seen) es
 seen_valued seen value_seen [] = refl
 seen_valued seen value_seen (e ∷ es) =
     λ i. (seen e.0, value_seen e.1) ∷ seen_valued seen value_seen es i
@@ -80,9 +80,9 @@ module _ {K S : Type 0} (cmp : K → K → Ordering) (total : IsTotalOrder cmp) 
 
   -- two sorted maps of pairs that are alike
   pub merged_alike : {V T : Type 0} (value_seen : V → T) (es ds m n : List (K × V))
-      → AreAlike (entry_seen seen value_seen) es ds → IsMerged (sorted cmp) es m
+      → AreAlike (pair_seen seen value_seen) es ds → IsMerged (sorted cmp) es m
       → IsMerged (sorted cmp) ds n
-      → map (entry_seen seen value_seen) m ≡ map (entry_seen seen value_seen) n
+      → map (pair_seen seen value_seen) m ≡ map (pair_seen seen value_seen) n
   merged_alike {V} {T} value_seen es ds m n alike h k =
       let f : K → Option S = λ q. option_map seen (lookup_key (eq_by_cmp cmp q) es) in
       let ties : (x y : K) → cmp x y ≡ Equal → f x ≡ f y =
@@ -96,8 +96,8 @@ module _ {K S : Type 0} (cmp : K → K → Ordering) (total : IsTotalOrder cmp) 
       let q = get_or (keys_of n) i d in
       alike_keys seen (eq_by_cmp cmp q) (test_goes q) value_seen es ds alike
       ∙ ap (option_map seen) (k.first_keys i d p)) in
-      let backwards : AreAlike (entry_seen seen value_seen) (reverse es) (reverse ds) =
-      alike_reversed (entry_seen seen value_seen) es ds [] [] alike tt in
+      let backwards : AreAlike (pair_seen seen value_seen) (reverse es) (reverse ds) =
+      alike_reversed (pair_seen seen value_seen) es ds [] [] alike tt in
       let same : (q : K) → lookup (eq_by_cmp cmp q) (valued value_seen m)
       ≡ lookup (eq_by_cmp cmp q) (valued value_seen n) = λ q.
       let test = eq_by_cmp cmp q in

@@ -3,7 +3,7 @@ use Rattle.std.specs.Prelude.{◌≡◌, ℕ, List, [], ◌∷◌, Option, None,
 use Rattle.resp_value.specs.declared.value.Value.{Value, out-Value}
 use Rattle.resp_from.specs.Attributes.{stripped}
 use Rattle.resp_from.specs.Tuples.{First, HasValues, NoMore, values_of_width}
-use Rattle.resp_laws.specs.Laws.{IsSingleValued}
+use Rattle.resp_laws.specs.Laws.{IsSingleValued, pair_seen}
 
 -- two tuples of elements of one list of values look the same
 abbrev pub AreSingleValued : {X S : Type 0} → (List Value → X → Type 0) → (X → S) → Type 0
@@ -19,8 +19,8 @@ last_one single (value ∷ values) x y h k = single value x y h.0 k.0
 -- one element before others
 pub one_and : {A R S T : Type 0} {Of : Value → A → Type 0} {Rest : List Value → R → Type 0}
     {seen : A → S} {rest_seen : R → T} → IsSingleValued Of seen → AreSingleValued Rest rest_seen
-    → AreSingleValued {X = A × R} {S = S × T}
-    (λ values x. First Of x.0 (λ rest. Rest rest x.1) values) (λ x. (seen x.0, rest_seen x.1))
+    → AreSingleValued {X = A × R}
+    (λ values x. First Of x.0 (λ rest. Rest rest x.1) values) (pair_seen seen rest_seen)
 one_and single others [] x y h k = absurd h
 one_and single others (value ∷ values) x y h k =
     λ i. (single value x.0 y.0 h.0 k.0 i, others values x.1 y.1 h.1 k.1 i)

@@ -5,12 +5,12 @@ use std::collections::{BTreeMap, BTreeSet};
 
 impl<K: SingleKey, V: SingleValued> SingleValued for BTreeMap<K, V> {
     ghost use Rattle.std.specs.Prelude.{List, map};
-    ghost use Rattle.resp_laws.specs.Laws.{entry_seen};
+    ghost use Rattle.resp_laws.specs.Laws.{pair_seen};
     ghost use Rattle.resp_laws.specs.lemmas.Maps.{one_sorted_map};
 
     ghost Seen = { List (K.Seen × V.Seen) };
 
-    ghost seen = { λ x. map (entry_seen K.seen V.seen) x.entries };
+    ghost seen = { λ x. map (pair_seen K.seen V.seen) x.entries };
 
     ghost single = { λ reply x y. one_sorted_map K.cmp K.total K.of_value K.seen K.goes_by_seen
         K.single V.of_value V.seen V.single reply x.entries y.entries };
