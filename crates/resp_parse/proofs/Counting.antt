@@ -11,7 +11,7 @@ use Rattle.resp_parse.specs.State.{State}
 use Rattle.resp_parse.specs.Bounds.{Bounded, OneCall}
 use Rattle.resp_parse.specs.Resume.{fresh_of, IsScanned}
 use Rattle.resp_parse.specs.Weights.{built_in, frames_weight, credit, DrivePays}
-use Rattle.resp_parse.specs.Kept.{Counted, Holds}
+use Rattle.resp_parse.specs.Kept.{Counted, Holds, Spelled}
 use Rattle.resp_parse.proofs.Holding.{nothing_open}
 
 -- what a call began with, t, of what was counted before it, c, and what it came to, e
@@ -97,9 +97,9 @@ built-weighs [] = omega arith
 built-weighs (f ∷ fs) = omega (arith, built-weighs fs)
 
 -- what is kept bounds what was done
-pub Bounded-from_kept : (m : Machine) (u since : List ℕ) (failed : Bool) (c : Tally) → length m.frames ≤ 100 → Holds m u since failed → Counted m u c failed →
+pub Bounded-from_kept : (m : Machine) (u since : List ℕ) (failed : Bool) (c : Tally) (n : ℕ) → length m.frames ≤ 100 → Holds m u since failed → Counted m u c failed → (failed ≡ false → Spelled m u since n) →
     Bounded (record { unparsed = u; looked = m.scanned; since = since; failed = failed; frames = length m.frames; built = built_in m.frames; counts = c })
-Bounded-from_kept m u since failed c l h k = record {
+Bounded-from_kept m u since failed c n l h k p = record {
   turns = omega (arith, k.turns);
   taken = k.taken;
   frames = l;
@@ -108,7 +108,11 @@ Bounded-from_kept m u since failed c l h k = record {
       let r = h.resumes w in
       let s : m.scanned ≤ length u = scanned-within m.body m.scanned u r.scanned in
       let d : length (drop m.scanned u) ≡ length u - m.scanned = grind (arith, common_steps) in
-      record { held = omega (arith, b.held, s, d); built = omega (arith, r.weighs, built-weighs m.frames, s, d) };
+      record {
+        held = omega (arith, b.held, s, d);
+        built = omega (arith, r.weighs, built-weighs m.frames, s, d);
+        spelled = omega (arith, (p w).counted, (p w).few, s, d);
+      };
 }
 
 -- a value was asked for: one call at most, and no byte came

@@ -28,6 +28,7 @@ pub mod ReadingsInSequence
 pub mod Settling
 pub mod Sizes
 pub mod SizesOfValues
+pub mod Spelling
 pub mod Taking
 pub mod Tallies
 pub mod TypeBytes

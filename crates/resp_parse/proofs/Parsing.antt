@@ -6,6 +6,7 @@ use Rattle.resp_errors.specs.declared.redis_error.RedisError.{RedisError}
 use Rattle.resp_errors.specs.declared.redis_error.RedisError.TheVariants as form
 use Rattle.resp_parse.specs.State.{State, StandsAfter, FailedAfter}
 use Rattle.resp_parse.specs.Source.{Source, Came, source_of}
+use Rattle.resp_parse.specs.Prefixes.{SpelledWithin}
 use Rattle.resp_parse.specs.Calls.{Takes, CannotTake, Filled, Asks, CannotFill, AsNeeded, Parses, ParsesReader, Parsed, Failed, CannotParse}
 
 -- what was filled since the parser stood after b
@@ -21,8 +22,8 @@ FilledAsNeeded-none b p s h = record {
 
 -- after b, the source has filled some bytes, and the parser stands after them
 module _ (b : List ℕ) (p : State) (s t : Source) (k : FilledAsNeeded b p s t) where
-  pub Parsed-taken : (new : State) (v : Value) → Takes (b ++ k.more.filled) new (Ok (Some v)) → Parsed b v new s t
-  Parsed-taken new v w = record { filled = k.more.filled; came = k.more.came; needed = k.needed; value = w.0; rest = w.1; failures = k.more.failures }
+  pub Parsed-taken : (new : State) (v : Value) → Takes (b ++ k.more.filled) new (Ok (Some v)) → SpelledWithin (b ++ k.more.filled) new.unparsed → Parsed b v new s t
+  Parsed-taken new v w l = record { filled = k.more.filled; came = k.more.came; needed = k.needed; value = w.0; spelled = l; rest = w.1; failures = k.more.failures }
 
   Failed-taken : (new : State) → FailedAfter new (b ++ k.more.filled) → Failed b k.more.filled new s t
   Failed-taken new h = record { came = k.more.came; needed = k.needed; failed = h; failures = k.more.failures }

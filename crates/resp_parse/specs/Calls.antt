@@ -8,7 +8,7 @@ use Rattle.resp_errors.specs.declared.kinds.IoKind.TheVariants.{UnexpectedEof}
 use Rattle.resp_errors.specs.declared.parsing_error.ParsingError.TheVariants as parsing
 use Rattle.resp_errors.specs.declared.redis_error.RedisError.{RedisError}
 use Rattle.resp_errors.specs.declared.redis_error.RedisError.TheVariants as form
-use Rattle.resp_parse.specs.Prefixes.{HasGoodPrefix, HasFaultyPrefix, IsUnfinished}
+use Rattle.resp_parse.specs.Prefixes.{HasGoodPrefix, HasFaultyPrefix, IsUnfinished, SpelledWithin}
 use Rattle.resp_parse.specs.State.{State, StandsAfter, FailedAfter, IsBetweenValues}
 use Rattle.resp_parse.specs.Source.{Source, Came, FailureCounted, source_of}
 
@@ -73,13 +73,14 @@ pub record AsNeeded (b filled : List ℕ) : Type 0 where
   pub size : length last ≤ 4096
   pub unfinished : last ≢ [] → IsUnfinished 100 (b ++ before)
 
--- the value at the start of b and what was filled: all that follows it is buffered; the source
--- counted no failure
+-- the value at the start of b and what was filled, in at most 2^63 - 1 bytes: all that follows it
+-- is buffered; the source counted no failure
 pub record Parsed (b : List ℕ) (v : Value) (new : State) (s t : Source) : Type 0 where
   pub filled : List ℕ
   pub came : Came s filled t
   pub needed : AsNeeded b filled
   pub value : HasGoodPrefix 100 (b ++ filled) v new.unparsed
+  pub spelled : SpelledWithin (b ++ filled) new.unparsed
   pub rest : IsBetweenValues new
   pub failures : t.failures ≡ s.failures
 

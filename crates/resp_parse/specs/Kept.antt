@@ -1,5 +1,5 @@
 -- What a parser keeps of itself.
-use Rattle.std.specs.Prelude.{◌≡◌, ◌↔◌, ◌<◌, ◌≤◌, ◌+◌, ◌*◌, ℕ, Bool, true, false, List, [], ◌++◌, length, drop}
+use Rattle.std.specs.Prelude.{◌≡◌, ◌↔◌, ◌<◌, ◌≤◌, ◌+◌, ◌*◌, ◌^◌, ℕ, Bool, true, false, List, [], ◌++◌, length, drop}
 use Rattle.resp_parse.specs.declared.machine.Machine.{Machine}
 use Rattle.resp_parse.specs.declared.parser.Parser.TheInside.{Inside}
 use Rattle.resp_parse.specs.Tally.{Tally}
@@ -37,8 +37,16 @@ pub record Counted (m : Machine) (unparsed : List ℕ) (counts : Tally) (failed 
   pub taken : counts.taken ≤ counts.came
   pub works : failed ≡ false → Balanced m unparsed counts
 
+-- the bytes of the value in progress that the machine took are counted; with those of a line that
+-- it has looked at they are at most 2^63 - 1
+pub record Spelled (m : Machine) (unparsed since : List ℕ) (count : ℕ) : Type 0 where
+  pub counted : count + length unparsed ≡ length since
+  pub few : count + m.scanned < 2 ^ 63
+
 pub record Kept (p : Inside) : Type 0 where
   pub consumed : p.consumed ≤ length p.buffer.items
   pub levels : length p.machine.frames ≤ 100
   pub holds : Holds p.machine (drop p.consumed p.buffer.items) p.since p.failed
   pub counted : Counted p.machine (drop p.consumed p.buffer.items) p.counts p.failed
+  pub spelled : p.failed ≡ false →
+      Spelled p.machine (drop p.consumed p.buffer.items) p.since p.spelled

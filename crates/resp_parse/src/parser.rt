@@ -3,6 +3,7 @@
 ghost use Rattle.std.specs.Prelude.{◌≡◌, ◌≢◌, ◌↔◌, ◌++◌, ◌⊎◌, [], true, false, Err, List, ℕ};
 ghost use Rattle.std.specs.Prelude.{length, IsTrue, OnOk};
 ghost use Rattle.resp_parse.specs.State.{StandsAfter, FailedAfter, IsBetweenValues, has_failed};
+ghost use Rattle.resp_parse.specs.Prefixes.{SpelledWithin};
 ghost use Rattle.resp_parse.specs.Calls.{Feeds, Takes, Asks, Parses, ParsesReader};
 ghost use Rattle.resp_parse.specs.Bounds.{Bounded, FedBy, OneCall, CallsWithin, AskedFor};
 
@@ -20,16 +21,22 @@ use std::marker::Model;
 /// How many bytes a source is asked for at most.
 const CHUNK: usize = 4096;
 
+/// How many bytes may spell a value.
+const LONGEST: usize = isize::MAX as usize;
+
 /// A parser of replies (RESP2 and RESP3) whose bytes come in pieces.
 ///
 /// Bytes are added by [`Parser::feed`] and values taken by [`Parser::take_value`], or
 /// [`Parser::parse_from`] asks a source for the bytes that the next value needs. It does not matter
 /// how the bytes are cut: the values are those of the pieces joined.
 ///
-/// Nor does it matter for the work: the parser goes on where it stopped. Its loops make at most three
-/// turns for each byte that it has looked at and two for each call, at most 100 aggregates are open,
-/// and of the value in progress it has built at most one value for each three bytes looked at,
-/// whatever lengths are announced. Contracts see these numbers in its state.
+/// Nor does it matter for the work: the parser goes on where it stopped. Its loops make at most
+/// three turns for each byte that it has looked at and two for each call, at most 100 aggregates
+/// are open, and of the value in progress it has built at most one value for each three bytes
+/// looked at, whatever lengths are announced. Contracts see these numbers in its state.
+///
+/// A value may be spelled by 2^63 - 1 bytes. One byte more is refused as `OutOfMemory` when it is
+/// looked at, and not where a length is announced.
 ///
 /// After bytes that can't begin a value, after an early end of a source, and after `OutOfMemory` in
 /// any call but `feed`, the parser has failed permanently: each later call that feeds or takes
@@ -38,6 +45,8 @@ const CHUNK: usize = 4096;
 pub struct Parser {
     buffer: Vec<u8>,
     consumed: usize,
+    /// How many bytes of the value in progress the machine took.
+    spelled: usize,
     machine: Machine,
     failed: bool,
     since: Since,
@@ -75,6 +84,7 @@ impl Parser {
         Parser {
             buffer: Vec::new(alloc),
             consumed: 0,
+            spelled: 0,
             machine: Machine::new(alloc),
             failed: false,
             since: Since::new(),
@@ -100,9 +110,13 @@ impl Parser {
         let taken_all = self.consumed == self.buffer.len();
         let lacking = if taken_all { self.machine.lacks() } else { 0 };
         let (direct, rest) = bytes.split_at(lacking.min(bytes.len()));
+        if direct.len() > LONGEST - self.spelled {
+            return Err(RedisError::OutOfMemory);
+        }
         self.buffer.reserve(rest.len())?;
         self.machine.fill(direct, &mut self.counts)?;
         self.buffer.extend_from_slice(rest)?;
+        self.spelled += direct.len();
         self.since.append(bytes);
         self.counts.call();
         self.counts.come(bytes.len());
@@ -118,6 +132,8 @@ impl Parser {
         ensures failed { self.old.failed ≡ true → (result ≡ Err has_failed)
             × (self.new ≡ self.old) }
         ensures takes { (b : List ℕ) → StandsAfter self.old b → Takes b self.new result }
+        ensures spelled { (b : List ℕ) → StandsAfter self.old b →
+            OnOk result (SpelledWithin b self.new.unparsed) }
         ensures bounds { Bounded self.new }
         ensures counts { self.old.failed ≡ false → OneCall self.old.counts self.new.counts }
     {
@@ -127,14 +143,20 @@ impl Parser {
         self.counts.call();
         let alloc = *self.buffer.allocator();
         let bytes = &self.buffer[self.consumed..];
-        match self.machine.drive(alloc, bytes, &mut self.counts) {
+        let limit = LONGEST - self.spelled;
+        match self
+            .machine
+            .drive_within(alloc, bytes, limit, &mut self.counts)
+        {
             Ok((taken, Some(value))) => {
                 self.consumed += taken;
+                self.spelled = 0;
                 self.since.restart(&self.buffer[self.consumed..]);
                 Ok(Some(value))
             }
             Ok((taken, None)) => {
                 self.consumed += taken;
+                self.spelled += taken;
                 Ok(None)
             }
             Err(Stop::Fault(fault)) => {

@@ -3,6 +3,7 @@ use Rattle.std.proofs.lemmas.Grind.{common_steps}
 use Rattle.resp_parse.specs.State.{State}
 use Rattle.resp_parse.proofs.Asking.{Asks-out_of_memory, Asks-early_end, Asks-source_failed, Asks-filled, take-some}
 use Rattle.resp_parse.proofs.Holding.{Holds-asked, fed-fits, fed-length}
+use Rattle.resp_parse.proofs.Spelling.{Spelled-asked}
 use Rattle.resp_parse.proofs.Counting.{Counted-asked, Bounded-from_kept}
 use Rattle.resp_parse.proofs.parser.Parser.ask.Goals as goal
 
@@ -41,12 +42,14 @@ invariant_of-self-in-Ok g c =
           c.self.invariant.counted c.come.ensures (fed-length c.self.inside.buffer.items c.extend_from_slice.new.self.items bytes c.self.inside.consumed c.self.invariant.consumed e ∙ ap (λ (k : ℕ). length (drop c.self.inside.consumed c.self.inside.buffer.items) + k) l));
       holds = Holds-asked c.self.inside.machine c.self.inside.buffer.items c.extend_from_slice.new.self.items c.self.inside.since c.append.new.self bytes c.self.inside.consumed c.self.inside.failed c.self.invariant.consumed
           (take-some c.in-Ok.n c.fill.new.buf c.in-Ok.n-test.1 (grind (arith, common_steps))) c.self.invariant.holds e c.append.ensures;
+      spelled = λ w. Spelled-asked c.self.inside.machine (drop c.self.inside.consumed c.self.inside.buffer.items) (drop c.self.inside.consumed c.extend_from_slice.new.self.items) c.self.inside.since c.append.new.self bytes c.self.inside.spelled
+          (c.self.invariant.spelled w) (fed-length c.self.inside.buffer.items c.extend_from_slice.new.self.items bytes c.self.inside.consumed c.self.invariant.consumed e) c.append.ensures;
     }
 
 pub returns-in_ok-extend_from_slice-in-Ok-clause-bounds : goal.returns-in_ok-extend_from_slice-in-Ok-clause-bounds
-returns-in_ok-extend_from_slice-in-Ok-clause-bounds g c = let k = invariant_of-self-in-Ok g c in Bounded-from_kept c.self.inside.machine (drop c.self.inside.consumed c.extend_from_slice.new.self.items) c.append.new.self c.self.inside.failed c.come.new.self k.levels k.holds k.counted
+returns-in_ok-extend_from_slice-in-Ok-clause-bounds g c = let k = invariant_of-self-in-Ok g c in Bounded-from_kept c.self.inside.machine (drop c.self.inside.consumed c.extend_from_slice.new.self.items) c.append.new.self c.self.inside.failed c.come.new.self c.self.inside.spelled k.levels k.holds k.counted k.spelled
 
 pub returns-in-Err-clause-bounds : goal.returns-in-Err-clause-bounds
 returns-in-Err-clause-bounds g c =
     rw c.reserve.ensures.items
-    (Bounded-from_kept c.self.inside.machine (drop c.self.inside.consumed c.self.inside.buffer.items) c.self.inside.since c.self.inside.failed c.self.inside.counts c.self.invariant.levels c.self.invariant.holds c.self.invariant.counted)
+    (Bounded-from_kept c.self.inside.machine (drop c.self.inside.consumed c.self.inside.buffer.items) c.self.inside.since c.self.inside.failed c.self.inside.counts c.self.inside.spelled c.self.invariant.levels c.self.invariant.holds c.self.invariant.counted c.self.invariant.spelled)

@@ -1,4 +1,4 @@
-use Rattle.std.proofs.Common.{ap, refl, drop, true}
+use Rattle.std.proofs.Common.{◌≡◌, ap, refl, drop, true, false}
 use Rattle.resp_parse.specs.State.{State}
 use Rattle.resp_parse.proofs.ParserStates.{FailedAfter-failed}
 use Rattle.resp_parse.proofs.Holding.{Holds-failing}
@@ -11,9 +11,10 @@ returns-clause-fails c = λ b h. FailedAfter-failed c.args.self.now _ b h refl (
 pub returns-clause-bounds : goal.returns-clause-bounds
 returns-clause-bounds c =
     let u = drop c.self.inside.consumed c.self.inside.buffer.items in
-    Bounded-from_kept c.self.inside.machine u c.self.inside.since true c.self.inside.counts c.self.invariant.levels
+    Bounded-from_kept c.self.inside.machine u c.self.inside.since true c.self.inside.counts c.self.inside.spelled c.self.invariant.levels
     (Holds-failing c.self.inside.machine u c.self.inside.since c.self.inside.failed c.self.invariant.holds)
     (Counted-failing c.self.inside.machine u c.self.inside.counts c.self.inside.failed c.self.invariant.counted)
+    (λ e. absurd (let z : true ≡ false = e in cc))
 
 pub returns-clause-counts : goal.returns-clause-counts
 returns-clause-counts c = ap (λ (s : State). s.counts) c.self.view_is

@@ -1,6 +1,7 @@
-use Rattle.std.proofs.Common.{false, arith, refl, sym, ◌∙◌}
+use Rattle.std.proofs.Common.{false, drop, arith, refl, sym, ◌∙◌}
 use Rattle.resp_parse.proofs.ParserStates.{IsBetweenValues-from_same}
 use Rattle.resp_parse.proofs.Holding.{Holds-new}
+use Rattle.resp_parse.proofs.Spelling.{Spelled-new}
 use Rattle.resp_parse.proofs.Counting.{Counted-new, levels-fresh, Bounded-from_kept}
 use Rattle.resp_parse.proofs.parser.Parser.new.Goals as goal
 
@@ -10,10 +11,11 @@ invariant_of-result c = record {
   levels = levels-fresh c.new-2.result c.new-2.ensures.fresh;
   holds = Holds-new c.new-2.result c.new.result.items c.new-3.result c.new.ensures.items c.new-3.ensures c.new-2.ensures.fresh c.new-2.ensures.scanned;
   counted = Counted-new c.new-2.result c.new.result.items c.new-4.result c.new-4.ensures c.new-2.ensures.fresh c.new-2.ensures.scanned c.new.ensures.items;
+  spelled = λ _. Spelled-new c.new-2.result (drop 0 c.new.result.items) c.new-3.result c.new-2.ensures.scanned c.new.ensures.items c.new-3.ensures;
 }
 
 pub returns-clause-rest : goal.returns-clause-rest
 returns-clause-rest c = IsBetweenValues-from_same _ refl (c.new-3.ensures ∙ sym c.new.ensures.items)
 
 pub returns-clause-bounds : goal.returns-clause-bounds
-returns-clause-bounds c = let k = invariant_of-result c in Bounded-from_kept c.new-2.result c.new.result.items c.new-3.result false c.new-4.result k.levels k.holds k.counted
+returns-clause-bounds c = let k = invariant_of-result c in Bounded-from_kept c.new-2.result c.new.result.items c.new-3.result false c.new-4.result 0 k.levels k.holds k.counted k.spelled

@@ -42,7 +42,7 @@ returns-in-Some-clause-parses g c = λ b h.
     let source = g.S.ReplySource.source in
     let k = c.loop.invariant.filled b h in
     let w : Takes (b ++ k.more.filled) c.take_value.new.self (Ok (Some c.in-Some.value)) = rw c.in-Some.is at (c.in_ok-value.ensures.takes (b ++ k.more.filled) k.more.stands) in
-    Parsed-taken b c.loop.self (source c.args.source.now) (source c.loop.source) k c.take_value.new.self c.in-Some.value w
+    Parsed-taken b c.loop.self (source c.args.source.now) (source c.loop.source) k c.take_value.new.self c.in-Some.value w (c.in_ok-value.ensures.spelled (b ++ k.more.filled) k.more.stands)
 
 pub returns-in_err-ask-clause-parses : goal.returns-in_err-ask-clause-parses
 returns-in_err-ask-clause-parses g c = λ b h.
