@@ -1,4 +1,4 @@
--- How many bytes of the value in progress aren't buffered, from call to call.
+-- How many bytes of the value in progress the machine took, from call to call.
 use Rattle.std.proofs.Common.{◌≡◌, ℕ, ◌+◌, ◌-◌, ◌<◌, ◌≤◌, ◌^◌, List, [], ◌++◌, length, drop, ap, sym, ◌∙◌, arith, Option, Some, None, Ok}
 use Rattle.std.proofs.lemmas.Grind.{common_steps}
 use Rattle.resp_value.specs.declared.value.Value.{Value}

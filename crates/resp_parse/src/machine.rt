@@ -291,28 +291,4 @@ impl Machine {
         }
         Ok((at, None))
     }
-
-    /// Goes on as [`Machine::drive`] does, but stops as out of memory where it took more bytes than
-    /// the limit, or looked at more with those of a line that it hasn't taken.
-    pub(crate) fn drive_within(
-        &mut self,
-        alloc: Global,
-        bytes: &[u8],
-        limit: usize,
-        counts: &mut Counts,
-    ) -> Result<(usize, Option<Value>), Stop>
-        requires levels { length self.old.frames ≤ 100 }
-        requires scanned { IsScanned self.old.body self.old.scanned bytes.now }
-        ensures drives { Drives self.old bytes.now self.new result }
-        ensures within { IfOk result (λ driven. driven.0 + self.new.scanned ≤ limit) }
-        ensures levels { length self.new.frames ≤ 100 }
-        ensures weighs { DriveWeighs self.old self.new result }
-        ensures pays { DrivePays self.old self.new bytes.now counts.old counts.new result }
-    {
-        let (taken, value) = self.drive(alloc, bytes, counts)?;
-        if taken + self.scanned > limit {
-            return Err(Stop::Memory);
-        }
-        Ok((taken, value))
-    }
 }

@@ -144,17 +144,22 @@ impl Parser {
         let alloc = *self.buffer.allocator();
         let bytes = &self.buffer[self.consumed..];
         let limit = LONGEST - self.spelled;
-        match self
-            .machine
-            .drive_within(alloc, bytes, limit, &mut self.counts)
-        {
+        match self.machine.drive(alloc, bytes, &mut self.counts) {
             Ok((taken, Some(value))) => {
+                if taken > limit {
+                    self.failed = true;
+                    return Err(RedisError::OutOfMemory);
+                }
                 self.consumed += taken;
                 self.spelled = 0;
                 self.since.restart(&self.buffer[self.consumed..]);
                 Ok(Some(value))
             }
             Ok((taken, None)) => {
+                if taken + self.machine.scanned > limit {
+                    self.failed = true;
+                    return Err(RedisError::OutOfMemory);
+                }
                 self.consumed += taken;
                 self.spelled += taken;
                 Ok(None)

@@ -12,85 +12,99 @@ use Rattle.resp_parse.proofs.parser.Parser.take_value.Goals as goal
 pub returns-then-self-clause-takes : goal.returns-then-self-clause-takes
 returns-then-self-clause-takes c = λ b h. absurd (StandsAfter-not_failed c.args.self.now b h (sym (ap (λ (s : State). s.failed) c.self.view_is) ∙ c.if-self.true))
 
-pub invariant_of-self : goal.invariant_of-self
-invariant_of-self c =
+pub invariant_of-self-in-Ok-default-Some : goal.invariant_of-self-in-Ok-default-Some
+invariant_of-self-in-Ok-default-Some c =
     let u = take (length c.deref.result.now - c.self.inside.consumed) (drop c.self.inside.consumed c.deref.result.now) in
     let f : u ≡ drop c.self.inside.consumed c.self.inside.buffer.items = grind (arith, common_steps, c.deref.ensures.value) in
     let at : ℕ = c.self.inside.consumed + c.in-Ok-default-Some.taken in
     let x : take (length c.deref-in-Ok-default-Some.result.now - at) (drop at c.deref-in-Ok-default-Some.result.now) ≡ drop at c.self.inside.buffer.items = grind (arith, common_steps, c.deref-in-Ok-default-Some.ensures.value) in
-    let d : Drives c.self.inside.machine u c.drive_within.new.self (Ok (c.in-Ok-default-Some.taken, Some c.in-Ok-default-Some.value)) = rw c.in-Ok-default-Some.field-0-1-is at c.in-Ok-default-Some.ensures.drives in
+    let d : Drives c.self.inside.machine u c.drive.new.self (Ok (c.in-Ok-default-Some.taken, Some c.in-Ok-default-Some.value)) = rw c.in-Ok-default-Some.field-0-1-is at c.in-Ok-default-Some.ensures.drives in
     record {
-      consumed = value-fits c.self.inside.buffer.items c.self.inside.since c.self.inside.consumed c.self.inside.failed c.self.inside.machine c.drive_within.new.self c.self.invariant.consumed c.self.invariant.holds c.if-self.false u f
+      consumed = value-fits c.self.inside.buffer.items c.self.inside.since c.self.inside.consumed c.self.inside.failed c.self.inside.machine c.drive.new.self c.self.invariant.consumed c.self.invariant.holds c.if-self.false u f
           c.in-Ok-default-Some.taken c.in-Ok-default-Some.value d c.restart.new.self (c.restart.ensures ∙ x);
       levels = c.in-Ok-default-Some.ensures.levels;
-      holds = value-holds c.self.inside.buffer.items c.self.inside.since c.self.inside.consumed c.self.inside.failed c.self.inside.machine c.drive_within.new.self c.self.invariant.consumed c.self.invariant.holds c.if-self.false u f
+      holds = value-holds c.self.inside.buffer.items c.self.inside.since c.self.inside.consumed c.self.inside.failed c.self.inside.machine c.drive.new.self c.self.invariant.consumed c.self.invariant.holds c.if-self.false u f
           c.in-Ok-default-Some.taken c.in-Ok-default-Some.value d c.restart.new.self (c.restart.ensures ∙ x);
-      counted = value-counted c.self.inside.buffer.items c.self.inside.since c.self.inside.consumed c.self.inside.failed c.self.inside.machine c.drive_within.new.self c.self.invariant.consumed c.self.invariant.holds c.if-self.false u f
-          c.in-Ok-default-Some.taken c.in-Ok-default-Some.value d c.restart.new.self (c.restart.ensures ∙ x) c.self.inside.counts c.call.new.self c.drive_within.new.counts c.self.invariant.counted c.call.ensures c.in-Ok-default-Some.ensures.pays;
-      spelled = λ _. Spelled-value c.drive_within.new.self (drop at c.self.inside.buffer.items) c.restart.new.self d.scanned (c.restart.ensures ∙ x);
+      counted = value-counted c.self.inside.buffer.items c.self.inside.since c.self.inside.consumed c.self.inside.failed c.self.inside.machine c.drive.new.self c.self.invariant.consumed c.self.invariant.holds c.if-self.false u f
+          c.in-Ok-default-Some.taken c.in-Ok-default-Some.value d c.restart.new.self (c.restart.ensures ∙ x) c.self.inside.counts c.call.new.self c.drive.new.counts c.self.invariant.counted c.call.ensures c.in-Ok-default-Some.ensures.pays;
+      spelled = λ _. Spelled-value c.drive.new.self (drop at c.self.inside.buffer.items) c.restart.new.self d.scanned (c.restart.ensures ∙ x);
     }
 
-pub returns-in-Ok-default-Some-clause-bounds : goal.returns-in-Ok-default-Some-clause-bounds
-returns-in-Ok-default-Some-clause-bounds c = let k = invariant_of-self c in Bounded-from_kept c.drive_within.new.self (drop (c.self.inside.consumed + c.in-Ok-default-Some.taken) c.self.inside.buffer.items) c.restart.new.self c.self.inside.failed c.drive_within.new.counts 0 k.levels k.holds k.counted k.spelled
+pub returns-else-taken-limit-clause-bounds : goal.returns-else-taken-limit-clause-bounds
+returns-else-taken-limit-clause-bounds c = let k = invariant_of-self-in-Ok-default-Some c in Bounded-from_kept c.drive.new.self (drop (c.self.inside.consumed + c.in-Ok-default-Some.taken) c.self.inside.buffer.items) c.restart.new.self c.self.inside.failed c.drive.new.counts 0 k.levels k.holds k.counted k.spelled
 
-pub returns-in-Ok-default-Some-clause-takes : goal.returns-in-Ok-default-Some-clause-takes
-returns-in-Ok-default-Some-clause-takes c = λ b h.
+pub returns-else-taken-limit-clause-takes : goal.returns-else-taken-limit-clause-takes
+returns-else-taken-limit-clause-takes c = λ b h.
     let u = take (length c.deref.result.now - c.self.inside.consumed) (drop c.self.inside.consumed c.deref.result.now) in
     let f : u ≡ drop c.self.inside.consumed c.self.inside.buffer.items = grind (arith, common_steps, c.deref.ensures.value) in
     let at : ℕ = c.self.inside.consumed + c.in-Ok-default-Some.taken in
     let x : take (length c.deref-in-Ok-default-Some.result.now - at) (drop at c.deref-in-Ok-default-Some.result.now) ≡ drop at c.self.inside.buffer.items = grind (arith, common_steps, c.deref-in-Ok-default-Some.ensures.value) in
-    let d : Drives c.self.inside.machine u c.drive_within.new.self (Ok (c.in-Ok-default-Some.taken, Some c.in-Ok-default-Some.value)) = rw c.in-Ok-default-Some.field-0-1-is at c.in-Ok-default-Some.ensures.drives in
-    value-takes c.self.inside.buffer.items c.self.inside.since c.self.inside.consumed c.self.inside.failed c.self.inside.machine c.drive_within.new.self c.self.invariant.consumed c.self.invariant.holds c.if-self.false u f
+    let d : Drives c.self.inside.machine u c.drive.new.self (Ok (c.in-Ok-default-Some.taken, Some c.in-Ok-default-Some.value)) = rw c.in-Ok-default-Some.field-0-1-is at c.in-Ok-default-Some.ensures.drives in
+    value-takes c.self.inside.buffer.items c.self.inside.since c.self.inside.consumed c.self.inside.failed c.self.inside.machine c.drive.new.self c.self.invariant.consumed c.self.invariant.holds c.if-self.false u f
     c.in-Ok-default-Some.taken c.in-Ok-default-Some.value d c.restart.new.self (c.restart.ensures ∙ x) _ refl refl refl b (StandsAfter-since c.args.self.now b h ∙ sym (ap (λ (s : State). s.since) c.self.view_is))
 
-pub returns-in-Ok-default-None-clause-takes : goal.returns-in-Ok-default-None-clause-takes
-returns-in-Ok-default-None-clause-takes c = λ b h.
+pub returns-else-taken-self-clause-takes : goal.returns-else-taken-self-clause-takes
+returns-else-taken-self-clause-takes c = λ b h.
     let u = take (length c.deref.result.now - c.self.inside.consumed) (drop c.self.inside.consumed c.deref.result.now) in
     let f : u ≡ drop c.self.inside.consumed c.self.inside.buffer.items = grind (arith, common_steps, c.deref.ensures.value) in
-    let d : Drives c.self.inside.machine u c.drive_within.new.self (Ok (c.in-Ok-default-None.taken, None)) = rw c.in-Ok-default-None.field-0-1-is at c.in-Ok-default-None.ensures.drives in
-    waits-takes c.self.inside.buffer.items c.self.inside.since c.self.inside.consumed c.self.inside.failed c.self.inside.machine c.drive_within.new.self c.self.invariant.consumed c.self.invariant.holds c.if-self.false u f
+    let d : Drives c.self.inside.machine u c.drive.new.self (Ok (c.in-Ok-default-None.taken, None)) = rw c.in-Ok-default-None.field-0-1-is at c.in-Ok-default-None.ensures.drives in
+    waits-takes c.self.inside.buffer.items c.self.inside.since c.self.inside.consumed c.self.inside.failed c.self.inside.machine c.drive.new.self c.self.invariant.consumed c.self.invariant.holds c.if-self.false u f
     c.in-Ok-default-None.taken d _ refl refl b (StandsAfter-since c.args.self.now b h ∙ sym (ap (λ (s : State). s.since) c.self.view_is))
 
-pub returns-in-Ok-default-None-clause-bounds : goal.returns-in-Ok-default-None-clause-bounds
-returns-in-Ok-default-None-clause-bounds c =
+pub returns-else-taken-self-clause-bounds : goal.returns-else-taken-self-clause-bounds
+returns-else-taken-self-clause-bounds c =
     let u = take (length c.deref.result.now - c.self.inside.consumed) (drop c.self.inside.consumed c.deref.result.now) in
     let f : u ≡ drop c.self.inside.consumed c.self.inside.buffer.items = grind (arith, common_steps, c.deref.ensures.value) in
-    let d : Drives c.self.inside.machine u c.drive_within.new.self (Ok (c.in-Ok-default-None.taken, None)) = rw c.in-Ok-default-None.field-0-1-is at c.in-Ok-default-None.ensures.drives in
+    let d : Drives c.self.inside.machine u c.drive.new.self (Ok (c.in-Ok-default-None.taken, None)) = rw c.in-Ok-default-None.field-0-1-is at c.in-Ok-default-None.ensures.drives in
     let n = c.in-Ok-default-None.taken in
-    Bounded-from_kept c.drive_within.new.self (drop (c.self.inside.consumed + n) c.self.inside.buffer.items) c.self.inside.since c.self.inside.failed c.drive_within.new.counts (c.self.inside.spelled + n) c.in-Ok-default-None.ensures.levels
-    (waits-holds c.self.inside.buffer.items c.self.inside.since c.self.inside.consumed c.self.inside.failed c.self.inside.machine c.drive_within.new.self c.self.invariant.consumed c.self.invariant.holds c.if-self.false u f n d
+    Bounded-from_kept c.drive.new.self (drop (c.self.inside.consumed + n) c.self.inside.buffer.items) c.self.inside.since c.self.inside.failed c.drive.new.counts (c.self.inside.spelled + n) c.in-Ok-default-None.ensures.levels
+    (waits-holds c.self.inside.buffer.items c.self.inside.since c.self.inside.consumed c.self.inside.failed c.self.inside.machine c.drive.new.self c.self.invariant.consumed c.self.invariant.holds c.if-self.false u f n d
     (rw c.in-Ok-default-None.field-0-1-is at c.in-Ok-default-None.ensures.weighs))
-    (waits-counted c.self.inside.buffer.items c.self.inside.since c.self.inside.consumed c.self.inside.failed c.self.inside.machine c.drive_within.new.self c.self.invariant.consumed c.self.invariant.holds c.if-self.false u f n d
-    c.self.inside.counts c.call.new.self c.drive_within.new.counts c.self.invariant.counted c.call.ensures c.in-Ok-default-None.ensures.pays)
-    (λ w. Spelled-taken c.self.inside.machine c.drive_within.new.self u c.self.inside.buffer.items c.self.inside.since c.self.inside.consumed c.self.inside.spelled c.in-Ok-default-None.taken None (c.self.invariant.spelled w) f d (omega (arith, c.in-Ok-default-None.ensures.within, (c.self.invariant.spelled c.if-self.false).few)))
+    (waits-counted c.self.inside.buffer.items c.self.inside.since c.self.inside.consumed c.self.inside.failed c.self.inside.machine c.drive.new.self c.self.invariant.consumed c.self.invariant.holds c.if-self.false u f n d
+    c.self.inside.counts c.call.new.self c.drive.new.counts c.self.invariant.counted c.call.ensures c.in-Ok-default-None.ensures.pays)
+    (λ w. Spelled-taken c.self.inside.machine c.drive.new.self u c.self.inside.buffer.items c.self.inside.since c.self.inside.consumed c.self.inside.spelled c.in-Ok-default-None.taken None (c.self.invariant.spelled w) f d (omega (arith, c.if-taken-self.false, (c.self.invariant.spelled c.if-self.false).few)))
 
 pub returns-in-Err-Fault-clause-takes : goal.returns-in-Err-Fault-clause-takes
 returns-in-Err-Fault-clause-takes c = λ b h.
     let u = take (length c.deref.result.now - c.self.inside.consumed) (drop c.self.inside.consumed c.deref.result.now) in
     let f : u ≡ drop c.self.inside.consumed c.self.inside.buffer.items = grind (arith, common_steps, c.deref.ensures.value) in
-    let d : Drives c.self.inside.machine u c.drive_within.new.self (Err (stop.Fault c.in-Err-Fault.fault)) = rw c.in-Err-Fault.field-0-is at c.in-Err-Fault.ensures.drives in
-    stops-fault c.self.inside.buffer.items c.self.inside.since c.self.inside.consumed c.self.inside.failed c.self.inside.machine c.drive_within.new.self c.self.invariant.consumed c.self.invariant.holds c.if-self.false u f
+    let d : Drives c.self.inside.machine u c.drive.new.self (Err (stop.Fault c.in-Err-Fault.fault)) = rw c.in-Err-Fault.field-0-is at c.in-Err-Fault.ensures.drives in
+    stops-fault c.self.inside.buffer.items c.self.inside.since c.self.inside.consumed c.self.inside.failed c.self.inside.machine c.drive.new.self c.self.invariant.consumed c.self.invariant.holds c.if-self.false u f
     _ refl refl c.in-Err-Fault.fault d b (StandsAfter-since c.args.self.now b h ∙ sym (ap (λ (s : State). s.since) c.self.view_is))
 
 pub returns-in-Err-Memory-clause-takes : goal.returns-in-Err-Memory-clause-takes
 returns-in-Err-Memory-clause-takes c = λ b h.
     let u = take (length c.deref.result.now - c.self.inside.consumed) (drop c.self.inside.consumed c.deref.result.now) in
     let f : u ≡ drop c.self.inside.consumed c.self.inside.buffer.items = grind (arith, common_steps, c.deref.ensures.value) in
-    stops-memory c.self.inside.buffer.items c.self.inside.since c.self.inside.consumed c.self.inside.failed c.self.inside.machine c.drive_within.new.self c.self.invariant.consumed c.self.invariant.holds c.if-self.false u f
+    stops-memory c.self.inside.buffer.items c.self.inside.since c.self.inside.consumed c.self.inside.failed c.self.inside.machine c.drive.new.self c.self.invariant.consumed c.self.invariant.holds c.if-self.false u f
     _ refl refl b (StandsAfter-since c.args.self.now b h ∙ sym (ap (λ (s : State). s.since) c.self.view_is))
 
-pub returns-in-Ok-default-Some-clause-spelled : goal.returns-in-Ok-default-Some-clause-spelled
-returns-in-Ok-default-Some-clause-spelled c = λ b h.
+pub returns-else-taken-limit-clause-spelled : goal.returns-else-taken-limit-clause-spelled
+returns-else-taken-limit-clause-spelled c = λ b h.
     let u = take (length c.deref.result.now - c.self.inside.consumed) (drop c.self.inside.consumed c.deref.result.now) in
     let f : u ≡ drop c.self.inside.consumed c.self.inside.buffer.items = grind (arith, common_steps, c.deref.ensures.value) in
-    let d : Drives c.self.inside.machine u c.drive_within.new.self (Ok (c.in-Ok-default-Some.taken, Some c.in-Ok-default-Some.value)) = rw c.in-Ok-default-Some.field-0-1-is at c.in-Ok-default-Some.ensures.drives in
-    SpelledWithin-taken c.self.inside.machine c.drive_within.new.self u c.self.inside.buffer.items c.self.inside.since c.self.inside.consumed c.self.inside.spelled c.in-Ok-default-Some.taken (Some c.in-Ok-default-Some.value) (c.self.invariant.spelled c.if-self.false) f d (omega (arith, c.in-Ok-default-Some.ensures.within, (c.self.invariant.spelled c.if-self.false).few)) b
+    let d : Drives c.self.inside.machine u c.drive.new.self (Ok (c.in-Ok-default-Some.taken, Some c.in-Ok-default-Some.value)) = rw c.in-Ok-default-Some.field-0-1-is at c.in-Ok-default-Some.ensures.drives in
+    SpelledWithin-taken c.self.inside.machine c.drive.new.self u c.self.inside.buffer.items c.self.inside.since c.self.inside.consumed c.self.inside.spelled c.in-Ok-default-Some.taken (Some c.in-Ok-default-Some.value) (c.self.invariant.spelled c.if-self.false) f d (let z = d.scanned in omega (arith, c.if-taken-limit.false, z, (c.self.invariant.spelled c.if-self.false).few)) b
     (StandsAfter-since c.args.self.now b h ∙ sym (ap (λ (s : State). s.since) c.self.view_is))
 
-pub returns-in-Ok-default-None-clause-spelled : goal.returns-in-Ok-default-None-clause-spelled
-returns-in-Ok-default-None-clause-spelled c = λ b h.
+pub returns-else-taken-self-clause-spelled : goal.returns-else-taken-self-clause-spelled
+returns-else-taken-self-clause-spelled c = λ b h.
     let u = take (length c.deref.result.now - c.self.inside.consumed) (drop c.self.inside.consumed c.deref.result.now) in
     let f : u ≡ drop c.self.inside.consumed c.self.inside.buffer.items = grind (arith, common_steps, c.deref.ensures.value) in
-    let d : Drives c.self.inside.machine u c.drive_within.new.self (Ok (c.in-Ok-default-None.taken, None)) = rw c.in-Ok-default-None.field-0-1-is at c.in-Ok-default-None.ensures.drives in
-    SpelledWithin-taken c.self.inside.machine c.drive_within.new.self u c.self.inside.buffer.items c.self.inside.since c.self.inside.consumed c.self.inside.spelled c.in-Ok-default-None.taken None (c.self.invariant.spelled c.if-self.false) f d (omega (arith, c.in-Ok-default-None.ensures.within, (c.self.invariant.spelled c.if-self.false).few)) b
+    let d : Drives c.self.inside.machine u c.drive.new.self (Ok (c.in-Ok-default-None.taken, None)) = rw c.in-Ok-default-None.field-0-1-is at c.in-Ok-default-None.ensures.drives in
+    SpelledWithin-taken c.self.inside.machine c.drive.new.self u c.self.inside.buffer.items c.self.inside.since c.self.inside.consumed c.self.inside.spelled c.in-Ok-default-None.taken None (c.self.invariant.spelled c.if-self.false) f d (omega (arith, c.if-taken-self.false, (c.self.invariant.spelled c.if-self.false).few)) b
     (StandsAfter-since c.args.self.now b h ∙ sym (ap (λ (s : State). s.since) c.self.view_is))
+
+pub returns-then-taken-limit-clause-takes : goal.returns-then-taken-limit-clause-takes
+returns-then-taken-limit-clause-takes c = λ b h.
+    let u = take (length c.deref.result.now - c.self.inside.consumed) (drop c.self.inside.consumed c.deref.result.now) in
+    let f : u ≡ drop c.self.inside.consumed c.self.inside.buffer.items = grind (arith, common_steps, c.deref.ensures.value) in
+    stops-memory c.self.inside.buffer.items c.self.inside.since c.self.inside.consumed c.self.inside.failed c.self.inside.machine c.drive.new.self c.self.invariant.consumed c.self.invariant.holds c.if-self.false u f
+    _ refl refl b (StandsAfter-since c.args.self.now b h ∙ sym (ap (λ (s : State). s.since) c.self.view_is))
+
+pub returns-then-taken-self-clause-takes : goal.returns-then-taken-self-clause-takes
+returns-then-taken-self-clause-takes c = λ b h.
+    let u = take (length c.deref.result.now - c.self.inside.consumed) (drop c.self.inside.consumed c.deref.result.now) in
+    let f : u ≡ drop c.self.inside.consumed c.self.inside.buffer.items = grind (arith, common_steps, c.deref.ensures.value) in
+    stops-memory c.self.inside.buffer.items c.self.inside.since c.self.inside.consumed c.self.inside.failed c.self.inside.machine c.drive.new.self c.self.invariant.consumed c.self.invariant.holds c.if-self.false u f
+    _ refl refl b (StandsAfter-since c.args.self.now b h ∙ sym (ap (λ (s : State). s.since) c.self.view_is))
