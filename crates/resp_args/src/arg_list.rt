@@ -1,4 +1,5 @@
-ghost use Rattle.std.specs.Prelude.{◌≡◌, ◌<◌, ◌↔◌, [], length, take, IsTrue, IfOk, slice_get};
+ghost use Rattle.std.specs.Prelude.{◌≡◌, ◌<◌, ◌↔◌, [], length, take, IsTrue, IfOk};
+ghost use Rattle.std.specs.Prelude.{slice_get, slice_set};
 ghost use Rattle.std.specs.Option.{option_copied};
 ghost use Rattle.resp_args.specs.Args.{args_of};
 
@@ -31,6 +32,15 @@ impl ArgList {
         }
     }
 
+    /// No arguments, with room for this many.
+    pub fn with_capacity(alloc: Global, capacity: usize) -> Result<ArgList, AllocError>
+        ensures { IfOk result (λ list. list ≡ []) }
+    {
+        Ok(ArgList {
+            args: Vec::with_capacity(alloc, capacity)?,
+        })
+    }
+
     /// How many arguments there are.
     pub fn len(&self) -> usize
         ensures { result ≡ length self.now }
@@ -59,6 +69,16 @@ impl ArgList {
         match self.args.get(index) {
             Some(arg) => Some(arg.as_slice()),
             None => None,
+        }
+    }
+
+    /// Puts an argument of these bytes in the place of the one at this index; does nothing where
+    /// there is none. Takes no memory.
+    pub fn replace(&mut self, index: usize, arg: Vec<u8>)
+        ensures { self.new ≡ slice_set self.old index arg.items }
+    {
+        if index < self.args.len() {
+            self.args[index] = arg;
         }
     }
 

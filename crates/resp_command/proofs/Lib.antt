@@ -1,3 +1,5 @@
+pub mod ArgsWalk
+pub mod CursorArgs
 pub mod DecimalReadsBack
 pub mod OneTaking
 pub mod PackedReadsBack

@@ -2,6 +2,8 @@ pub mod Call
 pub mod Command
 pub mod CommandQuery
 pub mod Connection
+pub mod Cursors
 pub mod Packed
 pub mod PackingLaw
+pub mod ShownArgs
 pub mod Taken

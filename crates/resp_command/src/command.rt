@@ -1,17 +1,23 @@
 //! Commands.
 
 ghost use Rattle.std.specs.Prelude.{◌≡◌, ◌∷◌, [], ◌++◌, ◌↔◌, is_ok, if◌then◌else◌, IfOk, IfErr};
-ghost use Rattle.std.specs.Prelude.{OnOk, OnErr, IsTrue, true, false, length, take, ◌<◌};
+ghost use Rattle.std.specs.Prelude.{OnOk, OnErr, IsTrue, true, false, length, take, ◌<◌, is_some};
 ghost use Rattle.std.specs.Iterator.{IsFiniteIterable};
 ghost use Rattle.resp_errors.specs.Memory.{OnlyMemory};
 ghost use Rattle.resp_args.specs.Args.{Appends, IsRefusal, extended};
 ghost use Rattle.resp_command.specs.Command.{new_command};
+ghost use Rattle.resp_command.specs.Cursors.{HoldsCursor, with_cursor, with_cursor_arg};
+ghost use Rattle.resp_command.specs.Cursors.{with_extended_arg};
+ghost use Rattle.resp_command.specs.ShownArgs.{args_left, shown_args};
 ghost use Rattle.resp_command.specs.Packed.{packed, packed_or_none};
 ghost use Rattle.resp_command.specs.Call.{Answers};
 ghost use Rattle.resp_command.specs.CommandQuery.{CommandQuery};
 
+use crate::args_iter::ArgsIter;
 use crate::connection::ConnectionLike;
+use crate::cursors::{decimals, keep_below, put_texts};
 use crate::packing::{pack_command, write_packed};
+use itoa::Buffer;
 use resp_args::{ArgList, RedisWrite, ToRedisArgs};
 use resp_from::FromRedisValue;
 use resp_value::{RedisResult, Value};
@@ -28,15 +34,25 @@ use std::mem;
 pub struct Cmd {
     alloc: Global,
     args: ArgList,
+    cursor: Option<u64>,
+    cursors: Vec<usize>,
     no_response: bool,
 }
 
 impl Model for Cmd {
     ghost use Rattle.resp_command.specs.Command.{Command};
+    ghost use Rattle.resp_command.specs.Cursors.{HoldsCursor};
 
     ghost Value = { Command };
 
-    ghost view = { λ c. record { args = c.args; no_response = c.no_response } };
+    ghost view = { λ c. record {
+      args = c.args;
+      no_response = c.no_response;
+      cursor = c.cursor;
+      cursors = c.cursors.items;
+    } };
+
+    ghost invariant = { λ c. HoldsCursor c.args c.cursor c.cursors.items };
 }
 
 impl Cmd {
@@ -47,8 +63,21 @@ impl Cmd {
         Cmd {
             alloc,
             args: ArgList::new(alloc),
+            cursor: None,
+            cursors: Vec::new(alloc),
             no_response: false,
         }
+    }
+
+    /// A new command with room for this many arguments. Each argument keeps its own bytes, so no
+    /// room is made for those. Fails only with `OutOfMemory`.
+    pub fn with_capacity(alloc: Global, arg_count: usize, _size_of_data: usize) -> RedisResult<Cmd>
+        ensures new { IfOk result (λ c. c ≡ new_command) }
+        ensures memory { OnlyMemory result }
+    {
+        let mut command = Cmd::new(alloc);
+        command.args = ArgList::with_capacity(alloc, arg_count)?;
+        Ok(command)
     }
 
     /// Adds an argument, or as many as it gives.
@@ -58,7 +87,7 @@ impl Cmd {
     pub fn arg<T: ToRedisArgs + Drop>(&mut self, arg: T) -> RedisResult<&mut Self>
         ensures same { IfOk result (λ c. c.ghost_name ≡ self.entry.ghost_name) }
         ensures given { IfOk result (λ c. Appends (T.gives arg) self.old.args c.now.args) }
-        ensures flag { IfOk result (λ c. c.now.no_response ≡ self.old.no_response) }
+        ensures rest { IfOk result (λ c. c.now ≡ record self.old { args = c.now.args }) }
         ensures accepted { OnOk result (T.refuses arg → ⊥) }
         ensures refused { IfErr result (IsRefusal (T.refuses arg)) }
     {
@@ -70,7 +99,7 @@ impl Cmd {
     pub fn push_arg<T: ToRedisArgs + Drop>(&mut self, arg: T) -> RedisResult<()>
         ensures given { OnOk result (Appends (T.gives arg) self.old.args self.new.args) }
         ensures accepted { OnOk result (T.refuses arg → ⊥) }
-        ensures flag { OnOk result (self.new.no_response ≡ self.old.no_response) }
+        ensures rest { OnOk result (self.new ≡ record self.old { args = self.new.args }) }
         ensures refused { IfErr result (IsRefusal (T.refuses arg)) }
         ensures unchanged { OnErr result (self.new ≡ self.old) }
     {
@@ -82,12 +111,76 @@ impl Cmd {
         Ok(())
     }
 
-    /// Takes all arguments away, and waits for a reply again, as a new command does. Takes no
-    /// memory.
+    /// Adds a cursor argument, and sets the command's cursor: every cursor argument is sent as the
+    /// latest one, in decimal.
+    ///
+    /// Fails only with `OutOfMemory`; the command is then as it was.
+    pub fn cursor_arg(&mut self, cursor: u64) -> RedisResult<&mut Self>
+        ensures same { IfOk result (λ c. c.ghost_name ≡ self.entry.ghost_name) }
+        ensures added { IfOk result (λ c. c.now ≡ with_cursor_arg cursor self.old) }
+        ensures memory { OnlyMemory result }
+    {
+        self.push_cursor_arg(cursor)?;
+        Ok(self)
+    }
+
+    /// Adds a cursor argument as [`Cmd::cursor_arg`] does, and answers nothing.
+    pub fn push_cursor_arg(&mut self, cursor: u64) -> RedisResult<()>
+        ensures added { OnOk result (self.new ≡ with_cursor_arg cursor self.old) }
+        ensures memory { OnlyMemory result }
+        ensures unchanged { OnErr result (self.new ≡ self.old) }
+    {
+        let texts = decimals(self.alloc, cursor, self.cursors.len())?;
+        self.cursors.reserve(1)?;
+        let place = self.args.len();
+        self.args
+            .write_arg(Buffer::new().format(cursor).as_bytes())?;
+        let earlier = self.cursors.as_slice();
+        put_texts(&mut self.args, earlier, texts);
+        self.cursors.push(place)?;
+        self.cursor = Some(cursor);
+        Ok(())
+    }
+
+    /// Sets the command's cursor: every cursor argument is sent as this one, in decimal. It is what
+    /// a scan does between its requests, and adds no argument.
+    ///
+    /// Fails only with `OutOfMemory`; the command is then as it was.
+    pub fn set_cursor(&mut self, cursor: u64) -> RedisResult<()>
+        ensures set { OnOk result (self.new ≡ with_cursor cursor self.old) }
+        ensures memory { OnlyMemory result }
+        ensures unchanged { OnErr result (self.new ≡ self.old) }
+    {
+        let texts = decimals(self.alloc, cursor, self.cursors.len())?;
+        put_texts(&mut self.args, self.cursors.as_slice(), texts);
+        self.cursor = Some(cursor);
+        Ok(())
+    }
+
+    /// Whether a cursor was set.
+    pub fn in_scan_mode(&self) -> bool
+        ensures { result ≡ is_some self.now.cursor }
+    {
+        self.cursor.is_some()
+    }
+
+    /// The arguments in order, the name first, each with its bytes or as a cursor. Takes no memory.
+    pub fn args_iter(&self) -> ArgsIter<'_>
+        ensures shown { args_left result ≡ shown_args self.now.args self.now.cursors }
+        ensures count { length (args_left result) ≡ length self.now.args }
+        ensures cursors { HoldsCursor self.now.args self.now.cursor self.now.cursors }
+    {
+        ArgsIter::over(self.args.as_slice(), self.cursors.as_slice())
+    }
+
+    /// Takes all arguments and the cursor away, and waits for a reply again, as a new command does.
+    /// Takes no memory.
     pub fn clear(&mut self)
         ensures { self.new ≡ new_command }
     {
         self.args.clear();
+        self.cursor = None;
+        self.cursors.clear();
         self.no_response = false;
     }
 
@@ -107,6 +200,8 @@ impl Cmd {
         Ok(Cmd {
             alloc: self.alloc,
             args: self.args.try_clone(self.alloc)?,
+            cursor: self.cursor,
+            cursors: Vec::from_slice(self.alloc, self.cursors.as_slice())?,
             no_response: self.no_response,
         })
     }
@@ -207,14 +302,20 @@ impl RedisWrite for Cmd {
         self.args.open_arg()
     }
 
+    /// Appends bytes to the last argument, which has to be there. A cursor argument keeps its text
+    /// and becomes an ordinary argument. Fails only with `OutOfMemory`, and then leaves the command
+    /// as it was.
     fn extend_arg(&mut self, more: &[u8]) -> RedisResult<()>
         requires { 0 < length self.old.args }
         ensures ok { OnOk result (self.new.args ≡ extended self.old.args more.now) }
         ensures err { OnErr result (self.new.args ≡ self.old.args) }
         ensures memory { OnlyMemory result }
-        ensures rest { self.new ≡ record self.old { args = self.new.args } }
+        ensures whole { OnOk result (self.new ≡ with_extended_arg more.now self.old) }
+        ensures unchanged { OnErr result (self.new ≡ self.old) }
     {
-        self.args.extend_arg(more)
+        self.args.extend_arg(more)?;
+        keep_below(&mut self.cursors, self.args.len() - 1);
+        Ok(())
     }
 
     fn reserve_space_for_args<I: IntoIterator<Item = usize> + Drop>(

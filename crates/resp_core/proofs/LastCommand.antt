@@ -22,19 +22,13 @@ module _ {X : Type 0} (xs : List X) (n : ℕ) (e : length xs ≡ suc n) where
   last_written : (x : X) → slice_set xs n x ≡ take n xs ++ x ∷ []
   last_written x = sym (take_all (n + 1) (slice_set xs n x) (omega (arith, length-set xs n x))) ∙ take_more_set xs n x (omega arith)
 
--- a command by its two fields
-by_fields : (d : Command) (args : Args) (no_response : Bool) → d.args ≡ args → d.no_response ≡ no_response → d ≡ record { args = args; no_response = no_response }
-by_fields d args no_response e f =
-    let with_args : Args → Command = λ a. record { args = a; no_response = d.no_response } in
-    let with_flag : Bool → Command = λ b. record { args = args; no_response = b } in
-    ap with_args e ∙ ap with_flag f
-
 pub appends_to_last : (Gives : Args → Type 0) (r : Result (Unit {0}) RedisError) (p : Plan) (n : ℕ) (c d : Command) → length p.commands ≡ suc n → c ≡ slice_index_or p.commands n c
-    → OnOk r (Appends Gives c.args d.args) → OnOk r (d.no_response ≡ c.no_response) → OnOk r (AppendsToLast Gives p (record p { commands = slice_set p.commands n d }))
-appends_to_last Gives (Err f) p n c d e is given flag = tt
-appends_to_last Gives (Ok _) p n c d e is given flag =
+    → OnOk r (Appends Gives c.args d.args) → OnOk r (d ≡ record c { args = d.args }) → OnOk r (AppendsToLast Gives p (record p { commands = slice_set p.commands n d }))
+appends_to_last Gives (Err f) p n c d e is given rest = tt
+appends_to_last Gives (Ok _) p n c d e is given rest =
     let written = last_written p.commands n e d in
-    let grown = by_fields d (c.args ++ given.0) c.no_response given.1 flag in
+    let with_args : Args → Command = λ args. record c { args = args } in
+    let grown = rest ∙ ap with_args given.1 in
     record {
       before = take n p.commands;
       last = c;

@@ -1,12 +1,13 @@
 //! Pipelines.
 
 ghost use Rattle.std.specs.Prelude.{◌≡◌, ◌↔◌, ◌<◌, [], ◌∷◌, ◌++◌, List, length, IsTrue};
-ghost use Rattle.std.specs.Prelude.{IfOk, IfErr, OnOk, OnErr, false, true};
+ghost use Rattle.std.specs.Prelude.{IfOk, IfErr, OnOk, OnErr, true};
 ghost use Rattle.std.specs.List.{flat_map};
 ghost use Rattle.std.specs.Slice.Iter.{iter_rest};
 ghost use Rattle.resp_errors.specs.Memory.{OnlyMemory};
 ghost use Rattle.resp_args.specs.Args.{Args, IsRefusal};
 ghost use Rattle.resp_core.specs.Outcome.{Composes, Concludes, Outcome};
+ghost use Rattle.resp_command.specs.Command.{new_command};
 ghost use Rattle.resp_command.specs.Packed.{packed};
 ghost use Rattle.resp_core.specs.Pipeline.{Plan, new_plan, with_command, AppendsToLast};
 ghost use Rattle.resp_core.specs.Pipeline.{last_marked, args_of_commands, request};
@@ -122,7 +123,7 @@ impl Pipeline {
     pub fn cmd(&mut self, name: &str) -> RedisResult<&mut Self>
         ensures same { IfOk result (λ p. p.ghost_name ≡ self.entry.ghost_name) }
         ensures added { IfOk result (λ p. p.now ≡ with_command self.old
-            (record { args = name.now ∷ []; no_response = false })) }
+            (record new_command { args = name.now ∷ [] })) }
         ensures memory { OnlyMemory result }
     {
         self.push_cmd(name)?;
@@ -132,7 +133,7 @@ impl Pipeline {
     /// Adds a command of this name as [`Pipeline::cmd`] does, and answers nothing.
     pub fn push_cmd(&mut self, name: &str) -> RedisResult<()>
         ensures added { OnOk result (self.new ≡ with_command self.old
-            (record { args = name.now ∷ []; no_response = false })) }
+            (record new_command { args = name.now ∷ [] })) }
         ensures memory { OnlyMemory result }
         ensures unchanged { OnErr result (self.new ≡ self.old) }
     {
