@@ -1,1 +1,2 @@
 pub mod GrowingArgs
+pub mod ReplacedArg

@@ -74,6 +74,7 @@ impl ArgList {
 
     /// Puts an argument of these bytes in the place of the one at this index; does nothing where
     /// there is none. Takes no memory.
+    #[tactic(auto, using(crate::proofs::ReplacedArg::replaced))]
     pub fn replace(&mut self, index: usize, arg: Vec<u8>)
         ensures { self.new ≡ slice_set self.old index arg.items }
     {

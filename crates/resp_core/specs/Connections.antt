@@ -3,7 +3,9 @@ pub use Rattle.resp_command.specs.Call.{Call, CommandCall, PackedCall, Answers, 
 pub use Rattle.resp_command.specs.Command.{Command, new_command}
 pub use Rattle.resp_command.specs.CommandQuery.{CommandQuery}
 pub use Rattle.resp_command.specs.Connection.{Connection, Exchange, unobservable}
+pub use Rattle.resp_command.specs.Cursors.{HoldsCursor, with_cursor, with_cursor_arg, with_extended_arg}
 pub use Rattle.resp_command.specs.Packed.{packed}
+pub use Rattle.resp_command.specs.ShownArgs.{args_left, referent, shown_args}
 pub use Rattle.resp_command.specs.Taken.{Taken, Taking, TakesOneThing}
 pub use Rattle.resp_link.specs.Linking.{connection_of}
 pub use Rattle.resp_link.specs.Receiving.{Inflow, inflow_of}

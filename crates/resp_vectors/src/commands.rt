@@ -7,7 +7,7 @@ use std::collections::BTreeMap;
 use std::process::Abort;
 
 /// The bytes of the command are these.
-fn packs_as(rt: &impl Abort, command: &Cmd, wanted: &[u8]) {
+pub fn packs_as(rt: &impl Abort, command: &Cmd, wanted: &[u8]) {
     let packed = command.get_packed_command().expect(rt, "no refusal");
     assert_eq!(rt; packed.as_slice(), wanted);
 }

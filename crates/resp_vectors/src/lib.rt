@@ -9,6 +9,8 @@ mod calls;
 #[cfg(test)]
 mod commands;
 #[cfg(test)]
+mod cursors;
+#[cfg(test)]
 mod devices;
 #[cfg(test)]
 mod links;
