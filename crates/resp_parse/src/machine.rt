@@ -224,6 +224,9 @@ impl Machine {
         requires lacks { length bytes.now ≤ lacks_of self.old.body }
         ensures fills { Fills self.old bytes.now self.new counts.old counts.new result }
     {
+        if bytes.is_empty() {
+            return Ok(());
+        }
         let Some(mut body) = mem::replace(&mut self.body, None) else {
             return Ok(());
         };
