@@ -68,6 +68,13 @@ fn room_for(alloc: Global, count: usize, at_hand: usize) -> Result<Items<Value>,
     Ok(Items::from(Vec::with_capacity(alloc, room)?))
 }
 
+/// Room for the bytes of a body: for no more than are announced, and 64.
+fn room_for_bytes(alloc: Global, missing: usize) -> Result<Items<u8>, AllocError>
+    ensures { IfOk result (λ room. room ≡ []) }
+{
+    Ok(Items::from(Vec::with_capacity(alloc, missing.min(64))?))
+}
+
 /// How many bytes one step took, and what came of it.
 #[derive(Drop)]
 pub(crate) enum Step {
@@ -134,7 +141,7 @@ impl Machine {
                 self.body = Some(Body {
                     kind,
                     missing,
-                    bytes: Items::new(alloc),
+                    bytes: room_for_bytes(alloc, missing)?,
                 });
                 Ok(None)
             }

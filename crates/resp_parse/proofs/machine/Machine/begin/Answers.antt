@@ -22,5 +22,5 @@ pub returns-in_ok-value-in-Elements-default-eq0-clause-weighs : goal.returns-in_
 returns-in_ok-value-in-Elements-default-eq0-clause-weighs c =
     let h : Announces (Ok (shape.Elements c.in-Elements-default-eq0.kind c.in-Elements-default-eq0.field-1)) (announced c.args.kind c.args.text.now) = rw c.in-Elements-default-eq0.is at c.in_ok-value.ensures.announced in
     let s : Small (announcement_of (shape.Elements c.in-Elements-default-eq0.kind c.in-Elements-default-eq0.field-1)) = subst Small h (announced-small c.args.kind c.args.text.now) in
-    let b : built c.in_ok-value-in-Elements-default-eq0.field-0 ≤ 1 = s [] c.in_ok-value-in-Elements-default-eq0.field-0 (sym c.in-Elements-default-eq0.field-1-test) (rw c.new-in-Elements-default-eq0.ensures at c.in_ok-value-in-Elements-default-eq0.ensures.value) in
+    let b : built c.in_ok-value-in-Elements-default-eq0.field-0 ≤ 1 = s [] c.in_ok-value-in-Elements-default-eq0.field-0 (sym c.in-Elements-default-eq0.field-1-test) (rw c.new.ensures at c.in_ok-value-in-Elements-default-eq0.ensures.value) in
     omega (arith, b)
