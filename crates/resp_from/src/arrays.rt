@@ -6,6 +6,7 @@ ghost use Rattle.resp_from.specs.Lists.{is_array_like};
 
 use crate::conversion::FromRedisValue;
 use crate::lists::list_of;
+use crate::refusals::refuse;
 use resp_value::{ParsingError, Value};
 use std::alloc::Global;
 use std::boxed::BoxedSlice;
@@ -48,7 +49,7 @@ impl<T: FromRedisValue, const N: usize> FromRedisValue for [T; N] {
 
     fn from_redis_value(alloc: Global, value: Value) -> Result<[T; N], ParsingError> {
         if !is_like_array(&value) {
-            return Err(ParsingError::from("Response type not array compatible"));
+            return refuse(value, "Response type not array compatible");
         }
         match <[T; N]>::try_from(list_of(alloc, value)?) {
             Ok(items) => Ok(items),

@@ -48,7 +48,9 @@ impl FromRedisValue for bool {
 
     #[tactic(auto, using(crate::proofs::Conversions::decided))]
     fn from_redis_value(_alloc: Global, value: Value) -> Result<bool, ParsingError> {
-        read_bool(&value)
+        let truth = read_bool(&value);
+        drop(value);
+        truth
     }
 
     #[tactic(auto, using(crate::proofs::Conversions::decided))]

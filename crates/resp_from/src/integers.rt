@@ -1,13 +1,15 @@
 //! Integers of replies.
 
-ghost use Rattle.std.specs.Prelude.{ℤ, ℕ, List, Bool, IfErr};
-ghost use Rattle.resp_from.specs.Conversion.{AnyButMemory, Converts, Decides};
+ghost use Rattle.std.specs.Prelude.{◌≡◌, ℤ, ℕ, List, Bool, IfErr, MatchResult, Ok};
+ghost use Rattle.std.specs.Result.{IsErrAnd};
+ghost use Rattle.resp_from.specs.Conversion.{AnyButMemory, Converts, Decides, IsDescribed};
 ghost use Rattle.resp_from.specs.Integers.{OfInteger};
 
 use crate::attributes::strip_attribute_ref;
 use crate::conversion::FromRedisValue;
 use resp_value::{ParsingError, Value};
 use std::alloc::Global;
+use std::num::{ParseIntError, TryFromIntError};
 
 /// An integer type: which numbers and which texts are its values.
 pub trait Integer: Sized + Drop {
@@ -61,7 +63,9 @@ impl<T: Integer> FromRedisValue for T {
 
     #[tactic(auto, using(crate::proofs::Conversions::decided))]
     fn from_redis_value(_alloc: Global, value: Value) -> Result<T, ParsingError> {
-        read_integer(&value)
+        let number = read_integer(&value);
+        drop(value);
+        number
     }
 
     #[tactic(auto, using(crate::proofs::Conversions::decided))]
@@ -70,6 +74,26 @@ impl<T: Integer> FromRedisValue for T {
         ensures errors { IfErr result (AnyButMemory value.now) }
     {
         read_integer(value)
+    }
+}
+
+/// The integer that a number is, with our own refusal in place of the library's.
+fn in_range<T>(number: Result<T, TryFromIntError>) -> Result<T, ParsingError>
+    ensures { MatchResult number (λ x. result ≡ Ok x) (λ _. IsErrAnd result IsDescribed) }
+{
+    match number {
+        Ok(number) => Ok(number),
+        Err(_) => Err(ParsingError::from("Number out of range")),
+    }
+}
+
+/// The integer that a text writes, with our own refusal in place of the library's.
+fn numeral<T>(number: Result<T, ParseIntError>) -> Result<T, ParsingError>
+    ensures { MatchResult number (λ x. result ≡ Ok x) (λ _. IsErrAnd result IsDescribed) }
+{
+    match number {
+        Ok(number) => Ok(number),
+        Err(_) => Err(ParsingError::from("Could not convert from string.")),
     }
 }
 
@@ -87,12 +111,11 @@ impl Integer for i8 {
     ghost of_text = { SignedText w8 };
 
     fn from_number(number: i64) -> Result<i8, ParsingError> {
-        i8::try_from(number).map_err(|_| ParsingError::from("Number out of range"))
+        in_range(i8::try_from(number))
     }
 
     fn from_text(text: &str) -> Result<i8, ParsingError> {
-        text.parse::<i8>()
-            .map_err(|_| ParsingError::from("Could not convert from string."))
+        numeral(text.parse::<i8>())
     }
 }
 
@@ -110,12 +133,11 @@ impl Integer for i16 {
     ghost of_text = { SignedText w16 };
 
     fn from_number(number: i64) -> Result<i16, ParsingError> {
-        i16::try_from(number).map_err(|_| ParsingError::from("Number out of range"))
+        in_range(i16::try_from(number))
     }
 
     fn from_text(text: &str) -> Result<i16, ParsingError> {
-        text.parse::<i16>()
-            .map_err(|_| ParsingError::from("Could not convert from string."))
+        numeral(text.parse::<i16>())
     }
 }
 
@@ -133,12 +155,11 @@ impl Integer for i32 {
     ghost of_text = { SignedText w32 };
 
     fn from_number(number: i64) -> Result<i32, ParsingError> {
-        i32::try_from(number).map_err(|_| ParsingError::from("Number out of range"))
+        in_range(i32::try_from(number))
     }
 
     fn from_text(text: &str) -> Result<i32, ParsingError> {
-        text.parse::<i32>()
-            .map_err(|_| ParsingError::from("Could not convert from string."))
+        numeral(text.parse::<i32>())
     }
 }
 
@@ -156,12 +177,11 @@ impl Integer for i64 {
     ghost of_text = { SignedText w64 };
 
     fn from_number(number: i64) -> Result<i64, ParsingError> {
-        i64::try_from(number).map_err(|_| ParsingError::from("Number out of range"))
+        in_range(i64::try_from(number))
     }
 
     fn from_text(text: &str) -> Result<i64, ParsingError> {
-        text.parse::<i64>()
-            .map_err(|_| ParsingError::from("Could not convert from string."))
+        numeral(text.parse::<i64>())
     }
 }
 
@@ -179,12 +199,11 @@ impl Integer for i128 {
     ghost of_text = { SignedText w128 };
 
     fn from_number(number: i64) -> Result<i128, ParsingError> {
-        i128::try_from(number).map_err(|_| ParsingError::from("Number out of range"))
+        in_range(i128::try_from(number))
     }
 
     fn from_text(text: &str) -> Result<i128, ParsingError> {
-        text.parse::<i128>()
-            .map_err(|_| ParsingError::from("Could not convert from string."))
+        numeral(text.parse::<i128>())
     }
 }
 
@@ -202,12 +221,11 @@ impl Integer for isize {
     ghost of_text = { SignedText w64 };
 
     fn from_number(number: i64) -> Result<isize, ParsingError> {
-        isize::try_from(number).map_err(|_| ParsingError::from("Number out of range"))
+        in_range(isize::try_from(number))
     }
 
     fn from_text(text: &str) -> Result<isize, ParsingError> {
-        text.parse::<isize>()
-            .map_err(|_| ParsingError::from("Could not convert from string."))
+        numeral(text.parse::<isize>())
     }
 }
 
@@ -224,12 +242,11 @@ impl Integer for u8 {
     ghost of_text = { UnsignedText 8 };
 
     fn from_number(number: i64) -> Result<u8, ParsingError> {
-        u8::try_from(number).map_err(|_| ParsingError::from("Number out of range"))
+        in_range(u8::try_from(number))
     }
 
     fn from_text(text: &str) -> Result<u8, ParsingError> {
-        text.parse::<u8>()
-            .map_err(|_| ParsingError::from("Could not convert from string."))
+        numeral(text.parse::<u8>())
     }
 }
 
@@ -246,12 +263,11 @@ impl Integer for u16 {
     ghost of_text = { UnsignedText 16 };
 
     fn from_number(number: i64) -> Result<u16, ParsingError> {
-        u16::try_from(number).map_err(|_| ParsingError::from("Number out of range"))
+        in_range(u16::try_from(number))
     }
 
     fn from_text(text: &str) -> Result<u16, ParsingError> {
-        text.parse::<u16>()
-            .map_err(|_| ParsingError::from("Could not convert from string."))
+        numeral(text.parse::<u16>())
     }
 }
 
@@ -268,12 +284,11 @@ impl Integer for u32 {
     ghost of_text = { UnsignedText 32 };
 
     fn from_number(number: i64) -> Result<u32, ParsingError> {
-        u32::try_from(number).map_err(|_| ParsingError::from("Number out of range"))
+        in_range(u32::try_from(number))
     }
 
     fn from_text(text: &str) -> Result<u32, ParsingError> {
-        text.parse::<u32>()
-            .map_err(|_| ParsingError::from("Could not convert from string."))
+        numeral(text.parse::<u32>())
     }
 }
 
@@ -290,12 +305,11 @@ impl Integer for u64 {
     ghost of_text = { UnsignedText 64 };
 
     fn from_number(number: i64) -> Result<u64, ParsingError> {
-        u64::try_from(number).map_err(|_| ParsingError::from("Number out of range"))
+        in_range(u64::try_from(number))
     }
 
     fn from_text(text: &str) -> Result<u64, ParsingError> {
-        text.parse::<u64>()
-            .map_err(|_| ParsingError::from("Could not convert from string."))
+        numeral(text.parse::<u64>())
     }
 }
 
@@ -312,12 +326,11 @@ impl Integer for u128 {
     ghost of_text = { UnsignedText 128 };
 
     fn from_number(number: i64) -> Result<u128, ParsingError> {
-        u128::try_from(number).map_err(|_| ParsingError::from("Number out of range"))
+        in_range(u128::try_from(number))
     }
 
     fn from_text(text: &str) -> Result<u128, ParsingError> {
-        text.parse::<u128>()
-            .map_err(|_| ParsingError::from("Could not convert from string."))
+        numeral(text.parse::<u128>())
     }
 }
 
@@ -334,11 +347,10 @@ impl Integer for usize {
     ghost of_text = { UnsignedText 64 };
 
     fn from_number(number: i64) -> Result<usize, ParsingError> {
-        usize::try_from(number).map_err(|_| ParsingError::from("Number out of range"))
+        in_range(usize::try_from(number))
     }
 
     fn from_text(text: &str) -> Result<usize, ParsingError> {
-        text.parse::<usize>()
-            .map_err(|_| ParsingError::from("Could not convert from string."))
+        numeral(text.parse::<usize>())
     }
 }

@@ -8,6 +8,7 @@ mod conversion;
 mod integers;
 mod lists;
 mod maps;
+mod refusals;
 mod results;
 mod rules;
 mod texts;

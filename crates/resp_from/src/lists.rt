@@ -5,6 +5,7 @@ ghost use Rattle.resp_from.specs.Conversion.{ConvertsList};
 ghost use Rattle.resp_from.specs.Lists.{OfVec, single_maps};
 
 use crate::conversion::FromRedisValue;
+use crate::refusals::refuse;
 use crate::rules::convert_each;
 use resp_value::{Items, ParsingError, Value};
 use std::alloc::{AllocError, Global};
@@ -31,7 +32,7 @@ pub fn list_of<T: FromRedisValue>(alloc: Global, value: Value) -> Result<Vec<T>,
         Value::Map(pairs) => convert_each(alloc, maps_of_one(alloc, pairs)?),
         Value::BulkString(bytes) => T::from_byte_vec(alloc, bytes.into_vec()),
         Value::Nil => Ok(Vec::new(alloc)),
-        _ => Err(ParsingError::from("Response type not vector compatible.")),
+        other => refuse(other, "Response type not vector compatible."),
     }
 }
 

@@ -6,6 +6,7 @@ ghost use Rattle.resp_from.specs.Maps.{OfMap, OfPair, OfSet, HoldsMap, HoldsSet}
 
 use crate::attributes::strip_attribute;
 use crate::conversion::FromRedisValue;
+use crate::refusals::refuse;
 use resp_keyed::{FillMap, FillSet};
 use resp_value::{OwnedMapIter, ParsingError, Value};
 use std::alloc::Global;
@@ -65,7 +66,7 @@ fn map_of<K: FromRedisValue, V: FromRedisValue, M: FillMap<K, V>>(
         Value::Nil => Ok(M::none(alloc)),
         value => match value.into_map_iter() {
             Ok(pairs) => fill_map(alloc, pairs),
-            Err(_) => Err(ParsingError::from("Response type not hashmap compatible")),
+            Err(other) => refuse(other, "Response type not hashmap compatible"),
         },
     }
 }
@@ -75,7 +76,7 @@ fn set_of<T: FromRedisValue, S: FillSet<T>>(alloc: Global, reply: Value) -> Resu
 {
     match strip_attribute(reply).into_sequence(alloc) {
         Ok(items) => fill_set(alloc, items),
-        Err(_) => Err(ParsingError::from("Response type not hashset compatible")),
+        Err(other) => refuse(other, "Response type not hashset compatible"),
     }
 }
 

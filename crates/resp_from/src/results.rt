@@ -50,7 +50,10 @@ impl FromRedisValue for () {
     fn from_redis_value(alloc: Global, value: Value) -> Result<(), ParsingError> {
         match value {
             Value::ServerError(error) => Err(ParsingError::from(format!(in alloc; "{error}")?)),
-            _ => Ok(()),
+            other => {
+                drop(other);
+                Ok(())
+            }
         }
     }
 }

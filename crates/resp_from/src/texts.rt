@@ -2,6 +2,7 @@
 
 use crate::attributes::strip_attribute;
 use crate::conversion::FromRedisValue;
+use crate::refusals::refuse;
 use itoa::Buffer;
 use resp_value::{ParsingError, Value};
 use std::alloc::Global;
@@ -26,7 +27,7 @@ impl FromRedisValue for String {
             Value::Okay => Ok(String::from_str(alloc, "OK")?),
             Value::VerbatimString { text, .. } => Ok(text.into_string()),
             Value::Int(n) => Ok(String::from_str(alloc, Buffer::new().format(n))?),
-            _ => Err(ParsingError::from("Response type not string compatible")),
+            other => refuse(other, "Response type not string compatible"),
         }
     }
 }

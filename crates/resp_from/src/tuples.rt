@@ -10,6 +10,7 @@ ghost use Rattle.resp_from.specs.Tuples.{in_turn, of_length};
 
 use crate::attributes::strip_attribute;
 use crate::conversion::FromRedisValue;
+use crate::refusals::refuse;
 use resp_value::{Items, ParsingError, Value};
 use std::alloc::{AllocError, Global};
 use std::vec::IntoIter;
@@ -44,12 +45,12 @@ fn find_values(alloc: Global, width: usize, reply: Value) -> Result<Vec<Value>, 
         Value::Array(items) => if_long(items.into_vec(), width),
         Value::Set(items) => if_long(items.into_vec(), width),
         Value::Map(pairs) => if_long(values_in_turn(alloc, pairs)?, width),
-        _ => Err(ParsingError::from("Response type not tuple compatible")),
+        other => refuse(other, "Response type not tuple compatible"),
     }
 }
 
 /// What is left of a tuple's elements: none, or one and what is left then.
-pub trait Elements: Sized + Drop {
+pub trait Elements: Sized {
     // Holds of values and the elements that they are.
     ghost of_values: { List Value → Self → Type 0 };
 
@@ -65,7 +66,7 @@ impl Elements for () {
 
     fn take(_alloc: Global, values: &mut IntoIter<Value>) -> Result<(), ParsingError> {
         match values.next() {
-            Some(_) => Err(ParsingError::from("Array response of wrong dimension")),
+            Some(value) => refuse(value, "Array response of wrong dimension"),
             None => Ok(()),
         }
     }

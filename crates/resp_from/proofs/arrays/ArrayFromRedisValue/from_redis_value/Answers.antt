@@ -13,4 +13,4 @@ pub returns-clause-converts : goal.returns-clause-converts
 returns-clause-converts g c =
     let size = one_size g.T.FromRedisValue.WIDTH g.T.FromRedisValue.BYTES g.T.FromRedisValue.of_value c.args.value in
     let v = c.in_ok-list_of.field-0 in
-    rw c.from-in-Err.ensures (λ items array. c.in-Err.ensures.1 (omega (arith, v.ok.0, size v.items items c.in_ok-list_of.ensures.converts array.listed, array.sized)))
+    rw c.from.ensures (λ items array. c.in-Err.ensures.1 (omega (arith, v.ok.0, size v.items items c.in_ok-list_of.ensures.converts array.listed, array.sized)))
