@@ -125,8 +125,6 @@ refused_in_some_order Gives Wide Refuses items old new (Ok x) refused = tt
 refused_in_some_order Gives Wide Refuses items old new (Err e) refused =
     ⊎_elim (λ memory. inl memory) (λ at. inr (standing items (λ order. RefusedAt Gives Wide Refuses order old new e) at)) refused
 
-pub ruleset some_order = (in_some_order, refused_in_some_order)
-
 length-extended : (args : Args) (more : List ℕ) → length (extended args more) ≡ length args
 length-extended [] more = refl
 length-extended (arg ∷ []) more = refl

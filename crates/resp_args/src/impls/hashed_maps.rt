@@ -2,9 +2,8 @@
 
 ghost use Rattle.std.specs.Prelude.{length};
 ghost use Rattle.std.specs.List.{Any};
-ghost use Rattle.resp_args.specs.Args.{Writes, GivesEach, GivesInSomeOrder, GivesPair, IsWide};
-ghost use Rattle.resp_args.specs.Args.{RefusesPart, RefusesPair, RefusedAt, RefusedInSomeOrder};
-ghost use Rattle.resp_args.specs.Args.{IfRefused};
+ghost use Rattle.resp_args.specs.Args.{Writes, GivesInSomeOrder, GivesPair, IsWide, RefusesPart};
+ghost use Rattle.resp_args.specs.Args.{RefusesPair, RefusedInSomeOrder, IfRefused};
 
 use super::pairs::write_pair;
 use crate::args::{NumericBehavior, ToRedisArgs};
@@ -17,10 +16,10 @@ fn write_pairs<K: ToRedisArgs + Eq + Hash, V: ToRedisArgs, W: RedisWrite>(
     pairs: &HashMap<K, V>,
     out: &mut W,
 ) -> RedisResult<()>
-    ensures written { Writes (GivesEach (GivesPair K.gives V.gives) pairs.now.entries)
+    ensures written { Writes (GivesInSomeOrder (GivesPair K.gives V.gives) pairs.now.entries)
         (Any (RefusesPair K.count V.count K.refuses V.refuses) pairs.now.entries) (W.args out.old)
         (W.args out.new) result }
-    ensures refused { IfRefused result (RefusedAt (GivesPair K.gives V.gives)
+    ensures refused { IfRefused result (RefusedInSomeOrder (GivesPair K.gives V.gives)
         (IsWide K.count V.count) (RefusesPart K.refuses V.refuses) pairs.now.entries
         (W.args out.old) (W.args out.new)) }
 {
@@ -40,7 +39,6 @@ impl<K: ToRedisArgs + Eq + Hash, V: ToRedisArgs> ToRedisArgs for HashMap<K, V> {
 
     ghost count = { λ m. length m.entries };
 
-    #[tactic(auto, using(crate::proofs::GrowingArgs::some_order))]
     fn write_redis_args<W: RedisWrite>(&self, out: &mut W) -> RedisResult<()>
         ensures written { Writes (GivesInSomeOrder (GivesPair K.gives V.gives) self.now.entries)
             (Any (RefusesPair K.count V.count K.refuses V.refuses) self.now.entries)

@@ -26,6 +26,5 @@ pub(super) fn write_pair<K: ToRedisArgs, V: ToRedisArgs, W: RedisWrite>(
             "map key or value is more than one argument",
         )));
     }
-    key.write_redis_args(out)?;
-    value.write_redis_args(out)
+    (key, value).write_redis_args(out)
 }

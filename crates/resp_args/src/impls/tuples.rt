@@ -1,4 +1,5 @@
-//! Tuples are written as their elements, in order.
+//! Tuples are written as their elements, in order: from three elements on, as the pair of the first
+//! and a tuple of the rest.
 
 ghost use Rattle.std.specs.Prelude.{◌≡◌, ◌⊎◌};
 ghost use Rattle.resp_args.specs.Args.{GivesBoth};
@@ -70,8 +71,8 @@ impl<A: ToRedisArgs, B: ToRedisArgs, C: ToRedisArgs> ToRedisArgs for (A, B, C) {
     ghost count = { λ _. 3 };
 
     fn write_redis_args<W: RedisWrite>(&self, out: &mut W) -> RedisResult<()> {
-        self.0.write_redis_args(out)?;
-        (&self.1, &self.2).write_redis_args(out)
+        let rest = (&self.1, &self.2);
+        (&self.0, rest).write_redis_args(out)
     }
 
     fn write_args_from_slice<W: RedisWrite>(items: &[Self], out: &mut W) -> RedisResult<()> {
@@ -100,8 +101,8 @@ impl<A: ToRedisArgs, B: ToRedisArgs, C: ToRedisArgs, D: ToRedisArgs> ToRedisArgs
     ghost count = { λ _. 4 };
 
     fn write_redis_args<W: RedisWrite>(&self, out: &mut W) -> RedisResult<()> {
-        self.0.write_redis_args(out)?;
-        (&self.1, &self.2, &self.3).write_redis_args(out)
+        let rest = (&self.1, &self.2, &self.3);
+        (&self.0, rest).write_redis_args(out)
     }
 
     fn write_args_from_slice<W: RedisWrite>(items: &[Self], out: &mut W) -> RedisResult<()> {
@@ -132,8 +133,8 @@ impl<A: ToRedisArgs, B: ToRedisArgs, C: ToRedisArgs, D: ToRedisArgs, E: ToRedisA
     ghost count = { λ _. 5 };
 
     fn write_redis_args<W: RedisWrite>(&self, out: &mut W) -> RedisResult<()> {
-        self.0.write_redis_args(out)?;
-        (&self.1, &self.2, &self.3, &self.4).write_redis_args(out)
+        let rest = (&self.1, &self.2, &self.3, &self.4);
+        (&self.0, rest).write_redis_args(out)
     }
 
     fn write_args_from_slice<W: RedisWrite>(items: &[Self], out: &mut W) -> RedisResult<()> {
@@ -171,8 +172,8 @@ impl<
     ghost count = { λ _. 6 };
 
     fn write_redis_args<W: RedisWrite>(&self, out: &mut W) -> RedisResult<()> {
-        self.0.write_redis_args(out)?;
-        (&self.1, &self.2, &self.3, &self.4, &self.5).write_redis_args(out)
+        let rest = (&self.1, &self.2, &self.3, &self.4, &self.5);
+        (&self.0, rest).write_redis_args(out)
     }
 
     fn write_args_from_slice<W: RedisWrite>(items: &[Self], out: &mut W) -> RedisResult<()> {
@@ -213,8 +214,8 @@ impl<
     ghost count = { λ _. 7 };
 
     fn write_redis_args<W: RedisWrite>(&self, out: &mut W) -> RedisResult<()> {
-        self.0.write_redis_args(out)?;
-        (&self.1, &self.2, &self.3, &self.4, &self.5, &self.6).write_redis_args(out)
+        let rest = (&self.1, &self.2, &self.3, &self.4, &self.5, &self.6);
+        (&self.0, rest).write_redis_args(out)
     }
 
     fn write_args_from_slice<W: RedisWrite>(items: &[Self], out: &mut W) -> RedisResult<()> {
@@ -256,11 +257,10 @@ impl<
     ghost count = { λ _. 8 };
 
     fn write_redis_args<W: RedisWrite>(&self, out: &mut W) -> RedisResult<()> {
-        self.0.write_redis_args(out)?;
-        (
+        let rest = (
             &self.1, &self.2, &self.3, &self.4, &self.5, &self.6, &self.7,
-        )
-            .write_redis_args(out)
+        );
+        (&self.0, rest).write_redis_args(out)
     }
 
     fn write_args_from_slice<W: RedisWrite>(items: &[Self], out: &mut W) -> RedisResult<()> {
@@ -304,11 +304,10 @@ impl<
     ghost count = { λ _. 9 };
 
     fn write_redis_args<W: RedisWrite>(&self, out: &mut W) -> RedisResult<()> {
-        self.0.write_redis_args(out)?;
-        (
+        let rest = (
             &self.1, &self.2, &self.3, &self.4, &self.5, &self.6, &self.7, &self.8,
-        )
-            .write_redis_args(out)
+        );
+        (&self.0, rest).write_redis_args(out)
     }
 
     fn write_args_from_slice<W: RedisWrite>(items: &[Self], out: &mut W) -> RedisResult<()> {
@@ -354,11 +353,10 @@ impl<
     ghost count = { λ _. 10 };
 
     fn write_redis_args<W: RedisWrite>(&self, out: &mut W) -> RedisResult<()> {
-        self.0.write_redis_args(out)?;
-        (
+        let rest = (
             &self.1, &self.2, &self.3, &self.4, &self.5, &self.6, &self.7, &self.8, &self.9,
-        )
-            .write_redis_args(out)
+        );
+        (&self.0, rest).write_redis_args(out)
     }
 
     fn write_args_from_slice<W: RedisWrite>(items: &[Self], out: &mut W) -> RedisResult<()> {
@@ -406,12 +404,11 @@ impl<
     ghost count = { λ _. 11 };
 
     fn write_redis_args<W: RedisWrite>(&self, out: &mut W) -> RedisResult<()> {
-        self.0.write_redis_args(out)?;
-        (
+        let rest = (
             &self.1, &self.2, &self.3, &self.4, &self.5, &self.6, &self.7, &self.8, &self.9,
             &self.10,
-        )
-            .write_redis_args(out)
+        );
+        (&self.0, rest).write_redis_args(out)
     }
 
     fn write_args_from_slice<W: RedisWrite>(items: &[Self], out: &mut W) -> RedisResult<()> {
@@ -461,12 +458,11 @@ impl<
     ghost count = { λ _. 12 };
 
     fn write_redis_args<W: RedisWrite>(&self, out: &mut W) -> RedisResult<()> {
-        self.0.write_redis_args(out)?;
-        (
+        let rest = (
             &self.1, &self.2, &self.3, &self.4, &self.5, &self.6, &self.7, &self.8, &self.9,
             &self.10, &self.11,
-        )
-            .write_redis_args(out)
+        );
+        (&self.0, rest).write_redis_args(out)
     }
 
     fn write_args_from_slice<W: RedisWrite>(items: &[Self], out: &mut W) -> RedisResult<()> {

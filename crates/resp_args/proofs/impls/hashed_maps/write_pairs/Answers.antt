@@ -1,4 +1,5 @@
-use Rattle.resp_args.proofs.GrowingArgs.{progress_start, progress_step, progress_end, progress_fails, progress_refused}
+use Rattle.std.proofs.Common.{Ok}
+use Rattle.resp_args.proofs.GrowingArgs.{progress_start, progress_step, progress_end, progress_fails, progress_refused, in_some_order, refused_in_some_order}
 use Rattle.resp_args.proofs.impls.hashed_maps.write_pairs.Goals as goal
 
 pub loop-key-init : goal.loop-key-init
@@ -15,9 +16,9 @@ returns-in_err-write_pair g c =
     let pair : g.row.K.Denot × g.row.V.Denot = (c.in-Some.key.now, c.in-Some.value.now) in
     let ensures = c.in_err-write_pair.ensures in
     record {
-      written = progress_fails _ _ _ pair c.next.new.self _ _ _ _ _ progress ensures.written c.from_residual.ensures;
-      refused = progress_refused _ _ _ _ pair c.next.new.self _ _ _ _ _ progress ensures.refused c.from_residual.ensures;
+      written = in_some_order _ _ _ _ _ c.from_residual.result (progress_fails _ _ _ pair c.next.new.self _ _ _ _ _ progress ensures.written c.from_residual.ensures);
+      refused = refused_in_some_order _ _ _ _ _ _ c.from_residual.result (progress_refused _ _ _ _ pair c.next.new.self _ _ _ _ _ progress ensures.refused c.from_residual.ensures);
     }
 
 pub returns : goal.returns
-returns g c = record { written = progress_end _ _ _ _ _ (rw c.in-None.ensures.steps.0 at c.loop-key.invariant); refused = tt }
+returns g c = record { written = in_some_order _ _ _ _ _ (Ok tt) (progress_end _ _ _ _ _ (rw c.in-None.ensures.steps.0 at c.loop-key.invariant)); refused = tt }
