@@ -1,5 +1,5 @@
 -- A parser whose machine went on in the unparsed bytes.
-use Rattle.std.proofs.Common.{◌≡◌, ℕ, ◌+◌, ◌≤◌, ◌<◌, Bool, true, false, List, length, drop, refl, ap, sym, ◌∙◌, subst, arith, Ok, Err, Some, None}
+use Rattle.std.proofs.Common.{◌≡◌, ℕ, ◌+◌, ◌≤◌, ◌<◌, Bool, true, false, List, length, Option, drop, refl, ap, sym, ◌∙◌, subst, arith, Ok, Err, Some, None}
 use Rattle.std.proofs.lemmas.Grind.{common_steps}
 use Rattle.resp_value.specs.declared.value.Value.{Value}
 use Rattle.resp_errors.specs.declared.kinds.FrameFault.{FrameFault}
@@ -66,6 +66,15 @@ module _ (buffer since : List ℕ) (consumed : ℕ) (failed : Bool) (m new : Mac
   -- no value can be read
   pub stops-holds : (e : Stop) → Drives m u new (Err e) → Holds new (drop consumed buffer) since true
   stops-holds e d = Holds-failed m new (drop consumed buffer) since failed h (subst (λ (x : List ℕ). 0 < length x) u_is d.1)
+
+  -- the value in progress is longer than one may be
+  pub long-holds : 0 < length u → Holds new (drop consumed buffer) since true
+  long-holds l = Holds-failed m new (drop consumed buffer) since failed h (subst (λ (x : List ℕ). 0 < length x) u_is l)
+
+  pub long-counted : (n : ℕ) (o : Option Value) (c t e : Tally) → n ≤ length u → new.scanned ≤ length (drop n u) → Counted m (drop consumed buffer) c failed → t ≡ record c { calls = c.calls + 1 } → DrivePays m new u t e (Ok (n, o)) → Counted new (drop consumed buffer) e true
+  long-counted n o c t e l s k i p =
+      let now = Counted-taken m new u c t e failed n o l s (subst (λ x. Counted m x c failed) (sym u_is) k) w i p in
+      record { turns = now.turns; taken = now.taken; works = λ z. absurd (let y : true ≡ false = z in cc) }
 
   pub stops-counted : (x : Stop) (c t e : Tally) → Counted m (drop consumed buffer) c failed → t ≡ record c { calls = c.calls + 1 } → DrivePays m new u t e (Err x) → Counted new (drop consumed buffer) e true
   stops-counted x c t e k i p = Counted-stopped m new u c t e failed x (subst (λ y. Counted m y c failed) (sym u_is) k) w i p (drop consumed buffer)

@@ -1,9 +1,10 @@
-use Rattle.std.proofs.Common.{◌<◌, ◌-◌, List, ℕ, length, arith, refl, sym, subst, Err}
+use Rattle.std.proofs.Common.{◌≡◌, ◌<◌, ◌-◌, [], List, ℕ, length, arith, refl, sym, subst, Err}
 use Rattle.std.proofs.lemmas.Result.{err_from_is_err_and}
+use Rattle.std.proofs.lemmas.Grind.{common_steps}
 use Rattle.resp_parse.specs.Grammar.{announced}
 use Rattle.resp_parse.specs.PlainReading.{then, read_announced, read}
 use Rattle.resp_parse.specs.Resume.{place, Goes}
-use Rattle.resp_parse.proofs.HeadersInPieces.{line-waits, line-not_utf8, header-stops, header-goes, header-whole}
+use Rattle.resp_parse.proofs.HeadersInPieces.{empty-waits, unknown_type, line-waits, line-not_utf8, header-stops, header-goes, header-whole}
 use Rattle.resp_parse.proofs.Paying.{header-looks, header-pays}
 use Rattle.resp_parse.proofs.machine.Machine.header.Goals as goal
 
@@ -60,3 +61,14 @@ returns-in-None-clause-pays c =
       header-looks c.args.self.now c.begin.new.self c.args.counts.now c.line_end.new.counts c.take-2.new.self c.begin.new.counts c.in-Some-line_end.len c.saturating_sub.result c.in-Some.after.now c.saturating_sub.ensures c.in-Some-line_end.ensures.looks c.take-2.ensures c.in_ok-value.ensures.turns c.in_ok-value.ensures.scanned,
       omega (arith, q),
     )
+
+pub returns-in_default-clause-steps : goal.returns-in_default-clause-steps
+returns-in_default-clause-steps c =
+    let none : c.args.bytes.now ≡ [] = grind (arith, common_steps, c.in_default.ensures.cases) in
+    empty-waits c.args.self.now c.args.bytes.now none c.requires.scanned
+
+pub returns-in_default-from_byte-clause-steps : goal.returns-in_default-from_byte-clause-steps
+returns-in_default-from_byte-clause-steps c =
+    let l : length c.args.self.now.frames < 100 = omega arith in
+    rw c.in-Some.ensures.cases.0
+    (unknown_type c.args.self.now c.in-Some.first.now c.in-Some.after.now c.requires.no_body l c.args.self.now (sym c.in_default-from_byte.ensures.kind))

@@ -1,11 +1,11 @@
-use Rattle.std.proofs.Common.{◌≡◌, ◌+◌, ◌-◌, ℕ, length, take, drop, refl, ap, sym, ◌∙◌, arith, Ok, Err, Some, None}
+use Rattle.std.proofs.Common.{◌≡◌, ◌+◌, ◌-◌, ℕ, length, take, drop, refl, ap, sym, ◌∙◌, ◌<◌, ◌≤◌, true, false, arith, Ok, Err, Some, None}
 use Rattle.std.proofs.lemmas.Grind.{common_steps}
 use Rattle.resp_parse.specs.declared.stop.Stop.TheVariants as stop
 use Rattle.resp_parse.specs.State.{State}
 use Rattle.resp_parse.specs.Resume.{Drives}
 use Rattle.resp_parse.proofs.ParserStates.{StandsAfter-not_failed, StandsAfter-since}
-use Rattle.resp_parse.proofs.Taking.{waits-takes, waits-holds, waits-counted, value-takes, value-fits, value-holds, value-counted, stops-fault, stops-memory}
-use Rattle.resp_parse.proofs.Counting.{Bounded-from_kept}
+use Rattle.resp_parse.proofs.Taking.{waits-takes, waits-holds, waits-counted, value-takes, value-fits, value-holds, value-counted, stops-fault, stops-memory, stops-holds, stops-counted, long-holds, long-counted}
+use Rattle.resp_parse.proofs.Counting.{Bounded-from_kept, scanned-within}
 use Rattle.resp_parse.proofs.Spelling.{Spelled-taken, SpelledWithin-taken, Spelled-value}
 use Rattle.resp_parse.proofs.parser.Parser.take_value.Goals as goal
 
@@ -108,3 +108,77 @@ returns-then-taken-self-clause-takes c = λ b h.
     let f : u ≡ drop c.self.inside.consumed c.self.inside.buffer.items = grind (arith, common_steps, c.deref.ensures.value) in
     stops-memory c.self.inside.buffer.items c.self.inside.since c.self.inside.consumed c.self.inside.failed c.self.inside.machine c.drive.new.self c.self.invariant.consumed c.self.invariant.holds c.if-self.false u f
     _ refl refl b (StandsAfter-since c.args.self.now b h ∙ sym (ap (λ (s : State). s.since) c.self.view_is))
+
+pub invariant_of-self-in-Err-Fault : goal.invariant_of-self-in-Err-Fault
+invariant_of-self-in-Err-Fault c =
+    let u = take (length c.deref.result.now - c.self.inside.consumed) (drop c.self.inside.consumed c.deref.result.now) in
+    let f : u ≡ drop c.self.inside.consumed c.self.inside.buffer.items = grind (arith, common_steps, c.deref.ensures.value) in
+    let d : Drives c.self.inside.machine u c.drive.new.self (Err (stop.Fault c.in-Err-Fault.fault)) = rw c.in-Err-Fault.field-0-is at c.in-Err-Fault.ensures.drives in
+    record {
+      consumed = c.self.invariant.consumed;
+      levels = c.in-Err-Fault.ensures.levels;
+      holds = stops-holds c.self.inside.buffer.items c.self.inside.since c.self.inside.consumed c.self.inside.failed c.self.inside.machine c.drive.new.self c.self.invariant.consumed c.self.invariant.holds c.if-self.false u f (stop.Fault c.in-Err-Fault.fault) d;
+      counted = stops-counted c.self.inside.buffer.items c.self.inside.since c.self.inside.consumed c.self.inside.failed c.self.inside.machine c.drive.new.self c.self.invariant.consumed c.self.invariant.holds c.if-self.false u f (stop.Fault c.in-Err-Fault.fault) c.self.inside.counts c.call.new.self c.drive.new.counts c.self.invariant.counted c.call.ensures c.in-Err-Fault.ensures.pays;
+      spelled = λ w. absurd (let z : true ≡ false = w in cc);
+    }
+
+pub returns-in-Err-Fault-clause-bounds : goal.returns-in-Err-Fault-clause-bounds
+returns-in-Err-Fault-clause-bounds c = let k = invariant_of-self-in-Err-Fault c in Bounded-from_kept c.drive.new.self (drop c.self.inside.consumed c.self.inside.buffer.items) c.self.inside.since true c.drive.new.counts c.self.inside.spelled k.levels k.holds k.counted k.spelled
+
+pub invariant_of-self-in-Err-Memory : goal.invariant_of-self-in-Err-Memory
+invariant_of-self-in-Err-Memory c =
+    let u = take (length c.deref.result.now - c.self.inside.consumed) (drop c.self.inside.consumed c.deref.result.now) in
+    let f : u ≡ drop c.self.inside.consumed c.self.inside.buffer.items = grind (arith, common_steps, c.deref.ensures.value) in
+    let d : Drives c.self.inside.machine u c.drive.new.self (Err stop.Memory) = rw c.in-Err-Memory.field-0-is at c.in-Err-Memory.ensures.drives in
+    record {
+      consumed = c.self.invariant.consumed;
+      levels = c.in-Err-Memory.ensures.levels;
+      holds = stops-holds c.self.inside.buffer.items c.self.inside.since c.self.inside.consumed c.self.inside.failed c.self.inside.machine c.drive.new.self c.self.invariant.consumed c.self.invariant.holds c.if-self.false u f stop.Memory d;
+      counted = stops-counted c.self.inside.buffer.items c.self.inside.since c.self.inside.consumed c.self.inside.failed c.self.inside.machine c.drive.new.self c.self.invariant.consumed c.self.invariant.holds c.if-self.false u f stop.Memory c.self.inside.counts c.call.new.self c.drive.new.counts c.self.invariant.counted c.call.ensures c.in-Err-Memory.ensures.pays;
+      spelled = λ w. absurd (let z : true ≡ false = w in cc);
+    }
+
+pub returns-in-Err-Memory-clause-bounds : goal.returns-in-Err-Memory-clause-bounds
+returns-in-Err-Memory-clause-bounds c = let k = invariant_of-self-in-Err-Memory c in Bounded-from_kept c.drive.new.self (drop c.self.inside.consumed c.self.inside.buffer.items) c.self.inside.since true c.drive.new.counts c.self.inside.spelled k.levels k.holds k.counted k.spelled
+
+pub invariant_of-self : goal.invariant_of-self
+invariant_of-self c =
+    let u = take (length c.deref.result.now - c.self.inside.consumed) (drop c.self.inside.consumed c.deref.result.now) in
+    let f : u ≡ drop c.self.inside.consumed c.self.inside.buffer.items = grind (arith, common_steps, c.deref.ensures.value) in
+    let n = c.in-Ok-default-Some.taken in
+    let d : Drives c.self.inside.machine u c.drive.new.self (Ok (n, Some c.in-Ok-default-Some.value)) = rw c.in-Ok-default-Some.field-0-1-is at c.in-Ok-default-Some.ensures.drives in
+    let within : n ≤ length u = d.within in
+    let scanned : c.drive.new.self.scanned ≤ length (drop n u) = (let z = d.scanned in omega (arith, z)) in
+    let dropped : length (drop n u) ≡ length u - n = grind (arith, common_steps) in
+    let some : 0 < length u = omega (arith, within, scanned, dropped) in
+    record {
+      consumed = c.self.invariant.consumed;
+      levels = c.in-Ok-default-Some.ensures.levels;
+      holds = long-holds c.self.inside.buffer.items c.self.inside.since c.self.inside.consumed c.self.inside.failed c.self.inside.machine c.drive.new.self c.self.invariant.consumed c.self.invariant.holds c.if-self.false u f some;
+      counted = long-counted c.self.inside.buffer.items c.self.inside.since c.self.inside.consumed c.self.inside.failed c.self.inside.machine c.drive.new.self c.self.invariant.consumed c.self.invariant.holds c.if-self.false u f n (Some c.in-Ok-default-Some.value) c.self.inside.counts c.call.new.self c.drive.new.counts within scanned c.self.invariant.counted c.call.ensures c.in-Ok-default-Some.ensures.pays;
+      spelled = λ w. absurd (let z : true ≡ false = w in cc);
+    }
+
+pub returns-then-taken-limit-clause-bounds : goal.returns-then-taken-limit-clause-bounds
+returns-then-taken-limit-clause-bounds c = let k = invariant_of-self c in Bounded-from_kept c.drive.new.self (drop c.self.inside.consumed c.self.inside.buffer.items) c.self.inside.since true c.drive.new.counts c.self.inside.spelled k.levels k.holds k.counted k.spelled
+
+pub invariant_of-self-then-taken-self : goal.invariant_of-self-then-taken-self
+invariant_of-self-then-taken-self c =
+    let u = take (length c.deref.result.now - c.self.inside.consumed) (drop c.self.inside.consumed c.deref.result.now) in
+    let f : u ≡ drop c.self.inside.consumed c.self.inside.buffer.items = grind (arith, common_steps, c.deref.ensures.value) in
+    let n = c.in-Ok-default-None.taken in
+    let d : Drives c.self.inside.machine u c.drive.new.self (Ok (n, None)) = rw c.in-Ok-default-None.field-0-1-is at c.in-Ok-default-None.ensures.drives in
+    let within : n ≤ length u = d.within in
+    let scanned : c.drive.new.self.scanned ≤ length (drop n u) = scanned-within c.drive.new.self.body c.drive.new.self.scanned (drop n u) d.scanned in
+    let dropped : length (drop n u) ≡ length u - n = grind (arith, common_steps) in
+    let some : 0 < length u = omega (arith, within, scanned, dropped) in
+    record {
+      consumed = c.self.invariant.consumed;
+      levels = c.in-Ok-default-None.ensures.levels;
+      holds = long-holds c.self.inside.buffer.items c.self.inside.since c.self.inside.consumed c.self.inside.failed c.self.inside.machine c.drive.new.self c.self.invariant.consumed c.self.invariant.holds c.if-self.false u f some;
+      counted = long-counted c.self.inside.buffer.items c.self.inside.since c.self.inside.consumed c.self.inside.failed c.self.inside.machine c.drive.new.self c.self.invariant.consumed c.self.invariant.holds c.if-self.false u f n None c.self.inside.counts c.call.new.self c.drive.new.counts within scanned c.self.invariant.counted c.call.ensures c.in-Ok-default-None.ensures.pays;
+      spelled = λ w. absurd (let z : true ≡ false = w in cc);
+    }
+
+pub returns-then-taken-self-clause-bounds : goal.returns-then-taken-self-clause-bounds
+returns-then-taken-self-clause-bounds c = let k = invariant_of-self-then-taken-self c in Bounded-from_kept c.drive.new.self (drop c.self.inside.consumed c.self.inside.buffer.items) c.self.inside.since true c.drive.new.counts c.self.inside.spelled k.levels k.holds k.counted k.spelled
