@@ -1,15 +1,10 @@
-//! Connections of a caller's own: one for tests of code that takes a `&mut dyn ConnectionLike`, and
-//! one around a link ([`Counted`]).
+//! A connection for tests of code that takes a `&mut dyn ConnectionLike`.
 //!
-//! The first, [`Stored`], answers replies that it was given, in order. It isn't observable, since
-//! it has no bytes, so its whole meaning is whether it is broken. No proof file is needed.
-#![tactic(auto)]
+//! It answers replies that it was given, in order. It isn't observable, since it has no bytes, so
+//! its whole meaning is whether it is broken. No proof file is needed.
 
 ghost use Rattle.std.specs.Prelude.{◌≡◌};
 
-mod counted;
-
-pub use counted::{Counted, MemoryLink};
 use resp_core::{Cmd, ConnectionLike, ErrorKind, IoKind, RedisError, RedisResult, Value, cmd};
 use std::alloc::Global;
 use std::collections::VecDeque;
@@ -101,6 +96,3 @@ impl ConnectionLike for Stored {
 pub fn visits(alloc: Global, con: &mut dyn ConnectionLike, page: &str) -> RedisResult<i64> {
     cmd(alloc, "HINCRBY")?.arg((page, "visits", 1))?.query(con)
 }
-
-#[cfg(test)]
-mod tests;

@@ -1,9 +1,8 @@
-//! A type of a caller's own that replies convert to, by way of a tuple.
+//! Types of a caller's own that replies convert to, each by way of a tuple.
 //!
 //! `From` says how the elements make the type, and one line says what a reply is to it. No proof
 //! file is needed; an `Option` or a `Vec` of the type then converts too, with its contract. Two
 //! lines more say what a value looks like, and that a reply is one at most.
-#![tactic(auto)]
 
 ghost use Rattle.std.specs.Prelude.{◌≡◌};
 ghost use Rattle.resp_core.specs.Replies.{OfMade};
@@ -100,6 +99,3 @@ impl SingleValued for Scored {
         (one_tuple 2 (one_and one_string (last_one (one_signed w64))))
         (λ t s made i. (string_bytes (made.0 i), made.1 i)) };
 }
-
-#[cfg(test)]
-mod tests;

@@ -1,7 +1,7 @@
 //! What each type writes.
 
 use crate::{Fields, Key, Member, Path, Point, Range};
-use resp_core::{ErrorKind, RedisError, RedisWrite, ToRedisArgs};
+use resp_core::{ErrorKind, RedisError, RedisResult, RedisWrite, ToRedisArgs};
 use std::collections::BTreeMap;
 use std::process::Abort;
 use std::test::Fail;
@@ -43,13 +43,29 @@ fn fields_that_own(rt: HostRuntime) -> Result<(), Fail> {
     Ok(())
 }
 
-#[test]
-fn a_wide_pair_isnt_written(rt: HostRuntime) -> Result<(), Fail> {
+/// Puts a pair into the map.
+fn put(
+    rt: &(impl Abort + AllocGlobal),
+    map: &mut BTreeMap<i64, Vec<i64>>,
+    key: i64,
+    values: &[i64],
+) {
+    let values = Vec::from_slice(rt.alloc(), values).expect(rt, "memory");
+    let old: Result<Option<Vec<i64>>, _> = map.insert(key, values);
+    assert!(rt; old.expect(rt, "memory").is_none());
+}
+
+/// Two pairs, of which the second has two values.
+fn wide_map(rt: &(impl Abort + AllocGlobal)) -> BTreeMap<i64, Vec<i64>> {
     let mut map = BTreeMap::new(rt.alloc());
-    map.insert(1i64, vec![in rt.alloc(); 5i64]?)?;
-    map.insert(2, vec![in rt.alloc(); 6i64, 7]?)?;
-    let mut args = vec![in rt.alloc(); Vec::from_slice(rt.alloc(), b"x")?]?;
-    let refused = map.write_redis_args(&mut args).expect_err(&rt, "a refusal");
+    put(rt, &mut map, 1, &[5]);
+    put(rt, &mut map, 2, &[6, 7]);
+    map
+}
+
+/// The refusal says that a key or a value is more than one argument.
+fn refused_as_wide(rt: &impl Abort, written: RedisResult<()>) {
+    let refused = written.expect_err(rt, "a refusal");
     assert_eq!(rt; refused.kind(), ErrorKind::Client);
     match &refused {
         RedisError::General { text, .. } => {
@@ -57,6 +73,12 @@ fn a_wide_pair_isnt_written(rt: HostRuntime) -> Result<(), Fail> {
         }
         _ => assert!(rt; false),
     }
+}
+
+#[test]
+fn a_wide_pair_isnt_written(rt: HostRuntime) -> Result<(), Fail> {
+    let mut args = vec![in rt.alloc(); Vec::from_slice(rt.alloc(), b"x")?]?;
+    refused_as_wide(&rt, wide_map(&rt).write_redis_args(&mut args));
     assert_eq!(rt; args.len(), 3);
     assert_eq!(rt; args[0].as_slice(), b"x".as_slice());
     assert_eq!(rt; args[1].as_slice(), b"1".as_slice());

@@ -1,0 +1,16 @@
+//! What users write of replies: connections of their own, one for tests of code that takes a
+//! `&mut dyn ConnectionLike` ([`Stored`]) and one around a link ([`Counted`]), and types of their
+//! own that replies convert to.
+#![tactic(auto)]
+
+#[cfg(test)]
+mod connection_tests;
+mod counted;
+#[cfg(test)]
+mod own_type_tests;
+mod own_types;
+mod stored;
+
+pub use counted::{Counted, MemoryLink};
+pub use own_types::{Point, Scored};
+pub use stored::{Stored, visits};
