@@ -298,21 +298,43 @@ fn refused_as_wide(rt: &(impl Abort + AllocGlobal), written: RedisResult<()>) {
     assert_eq!(rt; shown.as_str(), wanted);
 }
 
+/// Puts a pair into the map.
+fn put(
+    rt: &(impl Abort + AllocGlobal),
+    pairs: &mut BTreeMap<i64, Vec<i64>>,
+    key: i64,
+    values: &[i64],
+) {
+    let values = Vec::from_slice(rt.alloc(), values).expect(rt, "no refusal");
+    let old: Result<Option<Vec<i64>>, _> = pairs.insert(key, values);
+    assert!(rt; old.expect(rt, "no refusal").is_none());
+}
+
+/// Two pairs, of which the second has two values.
+fn wide_pairs(rt: &(impl Abort + AllocGlobal)) -> BTreeMap<i64, Vec<i64>> {
+    let mut pairs = BTreeMap::new(rt.alloc());
+    put(rt, &mut pairs, 1, &[5]);
+    put(rt, &mut pairs, 2, &[6, 7]);
+    pairs
+}
+
 #[test]
 fn a_refused_pair_isnt_written(rt: HostRuntime) -> Result<(), Fail> {
-    let mut pairs = BTreeMap::new(rt.alloc());
-    pairs.insert(1i64, vec![in rt.alloc(); 5i64]?)?;
-    pairs.insert(2, vec![in rt.alloc(); 6i64, 7]?)?;
     let mut list: Vec<Vec<u8>> = Vec::new(rt.alloc());
     list.write_arg(b"x")?;
-    refused_as_wide(&rt, pairs.write_redis_args(&mut list));
+    refused_as_wide(&rt, wide_pairs(&rt).write_redis_args(&mut list));
     assert_eq!(rt; list.len(), 3);
     assert_eq!(rt; list[0].as_slice(), b"x".as_slice());
     assert_eq!(rt; list[1].as_slice(), b"1".as_slice());
     assert_eq!(rt; list[2].as_slice(), b"5".as_slice());
+    Ok(())
+}
+
+#[test]
+fn a_refused_pair_leaves_the_command(rt: HostRuntime) -> Result<(), Fail> {
     let mut command = cmd(rt.alloc(), "HSET")?;
-    refused_as_wide(&rt, command.push_arg(&pairs));
-    match command.arg(pairs) {
+    refused_as_wide(&rt, command.push_arg(&wide_pairs(&rt)));
+    match command.arg(wide_pairs(&rt)) {
         Ok(_) => assert!(rt; false, "no refusal"),
         Err(error) => refused_as_wide(&rt, Err(error)),
     }
@@ -336,31 +358,34 @@ fn a_map_is_packed_as_its_pairs(rt: HostRuntime) -> Result<(), Fail> {
     Ok(())
 }
 
+/// The comparison gives these arguments, and counts for one.
+fn compares(
+    rt: &(impl Abort + AllocGlobal),
+    comparison: RedisResult<ValueComparison>,
+    wanted: &str,
+) {
+    gives(rt, &comparison.expect(rt, "no refusal"), wanted, 1);
+}
+
 #[test]
-fn comparisons_are_a_name_and_a_text(rt: HostRuntime) -> Result<(), Fail> {
+fn comparisons_are_a_name_and_a_text(rt: HostRuntime) {
+    compares(&rt, ValueComparison::ifeq(rt.alloc(), 5i64), "4:IFEQ 1:5 ");
+    compares(&rt, ValueComparison::ifne(rt.alloc(), "x"), "4:IFNE 1:x ");
+    compares(&rt, ValueComparison::ifdeq(rt.alloc(), "d"), "5:IFDEQ 1:d ");
+    compares(&rt, ValueComparison::ifdne(rt.alloc(), ""), "5:IFDNE 0: ");
+}
+
+#[test]
+fn a_comparison_is_copied_and_shown(rt: HostRuntime) -> Result<(), Fail> {
     let equal = ValueComparison::ifeq(rt.alloc(), 5i64)?;
-    gives(&rt, &equal, "4:IFEQ 1:5 ", 1);
     gives(&rt, &equal.try_clone(rt.alloc())?, "4:IFEQ 1:5 ", 1);
     let shown = format!(in rt.alloc(); "{equal:?}")?;
     assert_eq!(rt; shown.as_str(), "IFEQ(\"5\")");
-    gives(
-        &rt,
-        &ValueComparison::ifne(rt.alloc(), "x")?,
-        "4:IFNE 1:x ",
-        1,
-    );
-    gives(
-        &rt,
-        &ValueComparison::ifdeq(rt.alloc(), "d")?,
-        "5:IFDEQ 1:d ",
-        1,
-    );
-    gives(
-        &rt,
-        &ValueComparison::ifdne(rt.alloc(), "")?,
-        "5:IFDNE 0: ",
-        1,
-    );
+    Ok(())
+}
+
+#[test]
+fn a_comparison_of_bytes_is_lossy(rt: HostRuntime) -> Result<(), Fail> {
     let lossy = ValueComparison::ifeq(rt.alloc(), [0xFFu8].as_slice())?;
     let args = lossy.to_redis_args(rt.alloc())?;
     assert_eq!(rt; args.len(), 2);

@@ -55,32 +55,56 @@ fn both<T: FromRedisValue>(rt: &(impl Abort + AllocGlobal), reply: &str) -> (T, 
     (moved, borrowed)
 }
 
-/// The reply is a sorted map of these entries, and a hashed one.
-fn is_map(rt: &(impl Abort + AllocGlobal), reply: &str, entries: &[(i64, i64)]) {
+/// The reply is a sorted map of these entries.
+fn is_sorted_map(rt: &(impl Abort + AllocGlobal), reply: &str, entries: &[(i64, i64)]) {
     let (sorted, same): (BTreeMap<i64, i64>, BTreeMap<i64, i64>) = both(rt, reply);
-    let (hashed, alike): (HashMap<i64, i64>, HashMap<i64, i64>) = both(rt, reply);
-    assert!(rt; sorted == same && hashed == alike, "{reply}");
+    assert!(rt; sorted == same, "{reply}");
     assert_eq!(rt; sorted.len(), entries.len());
-    assert_eq!(rt; hashed.len(), entries.len());
     for (key, value) in entries {
         assert!(rt; sorted.get(key) == Some(value), "{reply}");
+    }
+}
+
+/// The reply is a hashed map of these entries.
+fn is_hashed_map(rt: &(impl Abort + AllocGlobal), reply: &str, entries: &[(i64, i64)]) {
+    let (hashed, same): (HashMap<i64, i64>, HashMap<i64, i64>) = both(rt, reply);
+    assert!(rt; hashed == same, "{reply}");
+    assert_eq!(rt; hashed.len(), entries.len());
+    for (key, value) in entries {
         assert!(rt; hashed.get(key) == Some(value), "{reply}");
+    }
+}
+
+/// The reply is a sorted map of these entries, and a hashed one.
+fn is_map(rt: &(impl Abort + AllocGlobal), reply: &str, entries: &[(i64, i64)]) {
+    is_sorted_map(rt, reply, entries);
+    is_hashed_map(rt, reply, entries);
+}
+
+/// The reply is a sorted set of these members.
+fn is_sorted_set(rt: &(impl Abort + AllocGlobal), reply: &str, members: &[i64]) {
+    let (sorted, same): (BTreeSet<i64>, BTreeSet<i64>) = both(rt, reply);
+    assert!(rt; sorted == same, "{reply}");
+    assert_eq!(rt; sorted.len(), members.len());
+    for member in members {
+        assert!(rt; sorted.contains(member), "{reply}");
+    }
+}
+
+/// The reply is a hashed set of these members.
+fn is_hashed_set(rt: &(impl Abort + AllocGlobal), reply: &str, members: &[i64]) {
+    let (hashed, same): (HashSet<i64>, HashSet<i64>) = both(rt, reply);
+    assert!(rt; hashed == same, "{reply}");
+    assert_eq!(rt; hashed.len(), members.len());
+    for member in members {
+        assert!(rt; hashed.contains(member), "{reply}");
     }
 }
 
 /// The reply is a sorted set of these members, and a hashed one.
 fn is_set(rt: &(impl Abort + AllocGlobal), reply: &str, members: &[i64]) {
-    let (sorted, same): (BTreeSet<i64>, BTreeSet<i64>) = both(rt, reply);
-    let (hashed, alike): (HashSet<i64>, HashSet<i64>) = both(rt, reply);
-    assert!(rt; sorted == same && hashed == alike, "{reply}");
-    assert_eq!(rt; sorted.len(), members.len());
-    assert_eq!(rt; hashed.len(), members.len());
-    for member in members {
-        assert!(rt;
-            sorted.contains(member) && hashed.contains(member),
-            "{reply}"
-        );
-    }
+    is_sorted_set(rt, reply, members);
+    is_hashed_set(rt, reply, members);
 }
 
 #[test]
