@@ -1,9 +1,13 @@
 pub mod ArgsWalk
 pub mod CursorArgs
 pub mod DecimalReadsBack
+pub mod Nexts
 pub mod OneTaking
 pub mod PackedReadsBack
 pub mod PrefixOfPrefix
 pub mod Queries
 pub mod Requests
+pub mod ScanCalls
+pub mod ScanRequests
 pub mod Values
+pub mod WholeScans

@@ -1,5 +1,5 @@
 -- What the query of a command over a connection does: its theorem.
-use Rattle.std.specs.Prelude.{List, Result}
+use Rattle.std.specs.Prelude.{Result}
 use Rattle.resp_value.specs.declared.value.Value.{Value}
 use Rattle.resp_errors.specs.declared.redis_error.RedisError.{RedisError}
 use Rattle.resp_command.specs.Call.{CommandCall, Answers, needed}

@@ -5,5 +5,10 @@ pub mod Connection
 pub mod Cursors
 pub mod Packed
 pub mod PackingLaw
+pub mod ScanLaw
+pub mod ScanReplies
+pub mod ScanStates
+pub mod Scans
+pub mod Seeking
 pub mod ShownArgs
 pub mod Taken

@@ -2,6 +2,7 @@
 
 ghost use Rattle.std.specs.Prelude.{◌≡◌, ◌∷◌, [], ◌++◌, ◌↔◌, is_ok, if◌then◌else◌, IfOk, IfErr};
 ghost use Rattle.std.specs.Prelude.{OnOk, OnErr, IsTrue, true, false, length, take, ◌<◌, is_some};
+ghost use Rattle.std.specs.Prelude.{Err, MatchResult};
 ghost use Rattle.std.specs.Iterator.{IsFiniteIterable};
 ghost use Rattle.resp_errors.specs.Memory.{OnlyMemory};
 ghost use Rattle.resp_args.specs.Args.{Appends, IsRefusal, extended};
@@ -12,11 +13,15 @@ ghost use Rattle.resp_command.specs.ShownArgs.{args_left, shown_args};
 ghost use Rattle.resp_command.specs.Packed.{packed, packed_or_none};
 ghost use Rattle.resp_command.specs.Call.{Answers};
 ghost use Rattle.resp_command.specs.CommandQuery.{CommandQuery};
+ghost use Rattle.resp_command.specs.Scans.{FirstRequest, Starts, request};
+ghost use Rattle.resp_command.specs.ScanStates.{borrowed, scan_state, state_of};
 
 use crate::args_iter::ArgsIter;
 use crate::connection::ConnectionLike;
 use crate::cursors::{decimals, keep_below, put_texts};
 use crate::packing::{pack_command, write_packed};
+use crate::progress::ScanProgress;
+use crate::scan::{Iter, Scan};
 use itoa::Buffer;
 use resp_args::{ArgList, RedisWrite, ToRedisArgs};
 use resp_from::FromRedisValue;
@@ -225,6 +230,16 @@ impl Cmd {
         pack_command(self.alloc, self.args.as_slice())
     }
 
+    /// The bytes that send the command with this cursor. Fails only with `OutOfMemory`.
+    pub(crate) fn get_packed_command_with_cursor(&self, cursor: u64) -> RedisResult<Vec<u8>>
+        ensures packed { IfOk result (λ bytes. bytes.items ≡ request self.now cursor) }
+        ensures memory { OnlyMemory result }
+    {
+        let mut command = self.try_clone()?;
+        command.set_cursor(cursor)?;
+        command.get_packed_command()
+    }
+
     /// Appends the bytes that send the command; an empty command gives `*0` and CR LF. On
     /// `OutOfMemory` the buffer's bytes are as they were.
     pub fn write_packed_command(&self, out: &mut Vec<u8>) -> RedisResult<()>
@@ -271,6 +286,54 @@ impl Cmd {
             (⟦<() as FromRedisValue>⟧.of_value) result }
     {
         self.query(con)
+    }
+
+    /// Sends the command, and iterates over the results of its reply and of those that follow: a
+    /// reply is a cursor and a list, and with each cursor but 0 the command is sent again, up to
+    /// `budget` times. See [`Scan`] for what its items are.
+    ///
+    /// A first reply that is no array of a bulk string and an array is a list alone, which is all.
+    /// Fails with kind `Parse` where the first reply is neither, and where the connection's
+    /// `req_command` fails. Server errors in a reply are values as others are, and aren't looked
+    /// for.
+    ///
+    /// ```text
+    /// let mut scan = cmd(alloc, "SCAN")?;
+    /// scan.push_cursor_arg(0)?;
+    /// for key in scan.iter::<String, _>(&mut link, 1_000)? {
+    ///     print(key?);
+    /// }
+    /// ```
+    pub fn iter<'a, T: FromRedisValue, C: ConnectionLike>(
+        self,
+        con: &'a mut C,
+        budget: u64,
+    ) -> RedisResult<Iter<'a, T, C>>
+        ensures same_connection { IfOk result (λ scan. (borrowed scan).ghost_name
+            ≡ con.entry.ghost_name) }
+        ensures starts { IfOk result (λ scan. Starts T.WIDTH T.of_value (C.connection con.old)
+            (C.connection (borrowed scan).now) self budget (scan_state scan)) }
+    {
+        let progress = self.start_scan(con, budget)?;
+        Ok(Scan::over(con, progress))
+    }
+
+    /// Sends the command as [`Cmd::iter`] does, and answers a scan that doesn't hold the
+    /// connection: it is lent one at each call.
+    ///
+    /// Fails as [`Cmd::iter`] does; the connection is then as the command's request left it.
+    pub fn start_scan<T: FromRedisValue, C: ConnectionLike>(
+        self,
+        con: &mut C,
+        budget: u64,
+    ) -> RedisResult<ScanProgress<T>>
+        ensures { MatchResult result
+            (λ p. Starts T.WIDTH T.of_value (C.connection con.old) (C.connection con.new) self
+            budget (state_of p))
+            (λ e. FirstRequest T.WIDTH T.of_value (C.connection con.old) (C.connection con.new)
+            self (Err e)) }
+    {
+        ScanProgress::start(self.alloc, con, self, budget)
     }
 }
 

@@ -3,7 +3,10 @@
 ghost use Rattle.std.specs.Prelude.{ℕ, List};
 ghost use Rattle.resp_args.specs.Args.{Args};
 ghost use Rattle.resp_command.specs.PackingLaw.{LawOfPacking, LawOfRequests};
+ghost use Rattle.resp_command.specs.ScanLaw.{LawOfScans};
 ghost use Rattle.resp_command.specs.Taken.{TakesOneThing};
+
+use resp_from::FromRedisValue;
 
 /// A packed command of up to 2^63 - 1 bytes is read by the grammar as the one array of its
 /// arguments, and as nothing else.
@@ -21,4 +24,12 @@ pub fn law_of_requests()
 /// the last of them and the rest; or a fault, or an early end, and the pushes before it.
 pub fn law_of_taking()
     ensures { (n : ℕ) (b : List ℕ) → TakesOneThing n b }
+{}
+
+/// A scan that is called until it answers nothing made requests one after another, each with the
+/// latest cursor, none after cursor 0, and no more than its budget; it answered what waited and
+/// what they gave, in order; in the end its cursor is 0, or its budget is used up, which its last
+/// answer says; and it answers nothing ever after.
+pub fn law_of_scans<T: FromRedisValue>()
+    ensures { LawOfScans T.WIDTH T.of_value }
 {}

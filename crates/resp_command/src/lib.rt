@@ -2,15 +2,21 @@
 #![tactic(auto)]
 
 mod args_iter;
+mod batch;
 mod command;
 mod connection;
 mod cursors;
 pub mod laws;
 mod packing;
+mod progress;
+mod scan;
+mod seeking;
 mod start;
 
 pub use args_iter::{Arg, ArgsIter};
 pub use command::Cmd;
 pub use connection::ConnectionLike;
 pub use packing::pack_command;
+pub use progress::ScanProgress;
+pub use scan::{Iter, Scan};
 pub use start::cmd;

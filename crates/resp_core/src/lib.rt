@@ -21,7 +21,9 @@ pub use resp_args::{
     ProtocolVersion, RedisWrite, SetExpiry, ToRedisArgs, ToSingleRedisArg, ValueComparison,
     is_valid_16_bytes_hex_digest, write_each_arg,
 };
-pub use resp_command::{Arg, ArgsIter, Cmd, ConnectionLike, cmd, pack_command};
+pub use resp_command::{
+    Arg, ArgsIter, Cmd, ConnectionLike, Iter, Scan, ScanProgress, cmd, pack_command,
+};
 pub use resp_from::{FromRedisValue, from_redis_value, from_redis_value_by, from_redis_value_ref};
 pub use resp_link::{ByteLink, CommandSink, Writing};
 pub use resp_parse::{Parser, Reading, ReplySource, parse_redis_value};

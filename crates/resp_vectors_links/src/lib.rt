@@ -15,4 +15,6 @@ mod pushes;
 #[cfg(test)]
 mod queries;
 #[cfg(test)]
+mod scans;
+#[cfg(test)]
 mod transactions;

@@ -1,0 +1,91 @@
+-- What a request gives a scan, from what it was answered with.
+use Rattle.std.proofs.Common.{◌≡◌, ℕ, true, false, refl, sym, subst, Result, Ok, Err}
+use Rattle.std.specs.Bool.{MatchBool}
+use Rattle.std.specs.declared.alloc.Global.{Global}
+use Rattle.std.specs.declared.vec.Vec.{Vec}
+use Rattle.resp_errors.specs.declared.parsing_error.ParsingError.{ParsingError}
+use Rattle.resp_errors.specs.declared.parsing_error.ParsingError.TheVariants as parsing
+use Rattle.resp_errors.specs.declared.redis_error.RedisError.{RedisError}
+use Rattle.resp_errors.specs.Errors.{error_of_parsing}
+use Rattle.resp_value.specs.declared.value.Value.{Value}
+use Rattle.resp_value.specs.Views.{is_cursor}
+use Rattle.resp_from.specs.Conversion.{Converts, ConvertsCall, RefusesIf}
+use Rattle.resp_from.proofs.Conversions.{RefusesIf-along}
+use Rattle.resp_command.specs.Call.{CommandCall, needed}
+use Rattle.resp_command.specs.Command.{Command}
+use Rattle.resp_command.specs.Connection.{Connection}
+use Rattle.resp_command.specs.Cursors.{with_cursor}
+use Rattle.resp_command.specs.ScanReplies.{Given, IsBatch, IsFirstPage, IsListOf, IsPage}
+use Rattle.resp_command.specs.Scans.{FirstRequest, LaterRequest, Sends, request}
+use Rattle.resp_command.specs.declared.batch.Batch.{Batch}
+use Rattle.resp_command.proofs.OneTaking.{takes_one_thing}
+use Rattle.resp_command.proofs.PackedReadsBack.{packed_reads_only}
+
+-- a refused conversion as a refused call
+pub call_refused : {X : Type 0} (Fits : X → Type 0) (e : ParsingError) → RefusesIf e ((x : X) → Fits x → ⊥) → ConvertsCall Fits (Err (error_of_parsing e))
+call_refused Fits (parsing.Described text) h = (tt, h)
+call_refused Fits (parsing.Fault fault) h = absurd h
+call_refused Fits parsing.OutOfMemory h = tt
+
+-- ---- the first page
+
+page_first : (reply : Value) (cursor : ℕ) (items : Vec Value Global) → is_cursor reply ≡ true → IsPage reply cursor items → IsFirstPage reply cursor items
+page_first reply cursor items is h = subst (λ t. MatchBool t (IsPage reply cursor items) ((cursor ≡ 0) × IsListOf reply items)) (sym is) h
+
+first_page : (reply : Value) (cursor : ℕ) (items : Vec Value Global) → is_cursor reply ≡ true → IsFirstPage reply cursor items → IsPage reply cursor items
+first_page reply cursor items is h = subst (λ t. MatchBool t (IsPage reply cursor items) ((cursor ≡ 0) × IsListOf reply items)) is h
+
+pub list_first : (reply : Value) (cursor : ℕ) (items : Vec Value Global) → is_cursor reply ≡ false → cursor ≡ 0 → IsListOf reply items → IsFirstPage reply cursor items
+list_first reply cursor items is zero h = subst (λ t. MatchBool t (IsPage reply cursor items) ((cursor ≡ 0) × IsListOf reply items)) (sym is) (zero, h)
+
+pub batch_first : {X : Type 0} (n : ℕ) (Of : Value → X → Type 0) (reply : Value) (r : Result (Batch X) ParsingError) → is_cursor reply ≡ true → Converts (IsBatch IsPage n Of reply) r → Converts (IsBatch IsFirstPage n Of reply) r
+batch_first n Of reply (Ok batch) is h = record {
+  items = h.items;
+  page = page_first reply batch.cursor h.items is h.page;
+  results = h.results;
+}
+batch_first n Of reply (Err e) is h = RefusesIf-along e (λ none batch k. none batch (record {
+  items = k.items;
+  page = first_page reply batch.cursor k.items is k.page;
+  results = k.results;
+})) h
+
+-- ---- requests
+
+module _ {X : Type 0} (n : ℕ) (Of : Value → X → Type 0) (old new : Connection) (c : Command) where
+  pub first_failed : (answer : Result Value RedisError) (e : RedisError) → answer ≡ Err e → CommandCall old new c answer (λ reply. answer ≡ Ok reply) → FirstRequest n Of old new c (Err e)
+  first_failed answer e is h = record {
+    answer = answer;
+    reads_only = packed_reads_only c.args;
+    takes_one = takes_one_thing (needed c) old.incoming;
+    call = h;
+    gives = rw is refl;
+  }
+
+  pub first_read : (answer : Result Value RedisError) (reply : Value) (given : Given X) → answer ≡ Ok reply → CommandCall old new c answer (λ v. answer ≡ Ok v) → ConvertsCall (IsBatch IsFirstPage n Of reply) given → FirstRequest n Of old new c given
+  first_read answer reply given is h read = record {
+    answer = answer;
+    reads_only = packed_reads_only c.args;
+    takes_one = takes_one_thing (needed c) old.incoming;
+    call = h;
+    gives = rw is read;
+  }
+
+  module _ (u : ℕ) where
+    pub later_failed : (answer : Result Value RedisError) (e : RedisError) → answer ≡ Err e → Sends old new (request c u) answer → LaterRequest n Of old new c u (Err e)
+    later_failed answer e is h = record {
+      answer = answer;
+      reads_only = packed_reads_only (with_cursor u c).args;
+      takes_one = takes_one_thing 1 old.incoming;
+      sends = h;
+      gives = rw is refl;
+    }
+
+    pub later_read : (answer : Result Value RedisError) (reply : Value) (given : Given X) → answer ≡ Ok reply → Sends old new (request c u) answer → ConvertsCall (IsBatch IsPage n Of reply) given → LaterRequest n Of old new c u given
+    later_read answer reply given is h read = record {
+      answer = answer;
+      reads_only = packed_reads_only (with_cursor u c).args;
+      takes_one = takes_one_thing 1 old.incoming;
+      sends = h;
+      gives = rw is read;
+    }
