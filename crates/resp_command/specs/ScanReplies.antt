@@ -1,4 +1,5 @@
--- What replies give a scan (the replies to SCAN, HSCAN, SSCAN and ZSCAN: the next cursor, and a list).
+-- What replies give a scan: the reply to SCAN, HSCAN, SSCAN or ZSCAN is the next cursor and a list
+-- (RESP, "Arrays").
 use Rattle.std.specs.Prelude.{◌≡◌, ℕ, false, List, [], ◌∷◌, map, Result, Ok, Err, MatchResult}
 use Rattle.std.specs.Bool.{MatchBool}
 use Rattle.std.specs.List.{flat_map}
@@ -54,11 +55,12 @@ Gives Page n Of answer given = MatchResult answer
 abbrev pub as_answers : {X : Type 0} → List (Result X ParsingError) → List (Result X RedisError)
 as_answers results = map (result_map_both (λ x. x) error_of_parsing) results
 
--- what the requests answer in all: of each the results of its batch, or its one error
+-- what a request answers: the results of its batch, or its one error
 abbrev pub answers_of : {X : Type 0} → Given X → List (Result X RedisError)
 answers_of (Ok batch) = as_answers batch.results.items
 answers_of (Err e) = Err e ∷ []
 
+-- what requests answer in all
 abbrev pub answers_in : {X : Type 0} → List (Given X) → List (Result X RedisError)
 answers_in givens = flat_map answers_of givens
 

@@ -102,19 +102,19 @@ module _ {X : Type 0} (n : ℕ) (Of : Value → X → Type 0) where
         → s.budget ≡ Some k → s.waiting ≡ []
         → Asked old new s.command s.cursor k t.cursor left givens
         → answers_in givens ≡ x ∷ t.waiting → answer ≡ Some x
-        → t ≡ record { command = s.command; cursor = t.cursor; waiting = t.waiting; budget = Some left }
+        → t ≡ record s { cursor = t.cursor; waiting = t.waiting; budget = Some left }
         → Next old new s answer t
     -- the cursor became 0, or was it, and there is no more answer
     done : (k left : ℕ) (givens : List (Given X)) → s.budget ≡ Some k → s.waiting ≡ []
         → Asked old new s.command s.cursor k 0 left givens
         → answers_in givens ≡ [] → answer ≡ None
-        → t ≡ record { command = s.command; cursor = 0; waiting = []; budget = Some left }
+        → t ≡ record s { cursor = 0; waiting = []; budget = Some left }
         → Next old new s answer t
     -- the budget was used up before the cursor became 0
     used_up : (k : ℕ) (givens : List (Given X)) → s.budget ≡ Some k → s.waiting ≡ []
         → Asked old new s.command s.cursor k t.cursor 0 givens
         → answers_in givens ≡ [] → t.cursor ≢ 0 → answer ≡ Some (Err budget_used_up)
-        → t ≡ record { command = s.command; cursor = t.cursor; waiting = []; budget = None }
+        → t ≡ record s { cursor = t.cursor; waiting = []; budget = None }
         → Next old new s answer t
 
 -- no scan answers more often than this

@@ -48,8 +48,8 @@ const SCAN_0: &[u8] = b"*2\r\n$4\r\nSCAN\r\n$1\r\n0\r\n";
 
 const SCAN_0_7: &[u8] = b"*2\r\n$4\r\nSCAN\r\n$1\r\n0\r\n*2\r\n$4\r\nSCAN\r\n$1\r\n7\r\n";
 
-const SCAN_0_7_7: &[u8] =
-    b"*2\r\n$4\r\nSCAN\r\n$1\r\n0\r\n*2\r\n$4\r\nSCAN\r\n$1\r\n7\r\n*2\r\n$4\r\nSCAN\r\n$1\r\n7\r\n";
+const SCAN_0_7_7: &[u8] = b"*2\r\n$4\r\nSCAN\r\n$1\r\n0\r\n\
+    *2\r\n$4\r\nSCAN\r\n$1\r\n7\r\n*2\r\n$4\r\nSCAN\r\n$1\r\n7\r\n";
 
 #[test]
 fn an_empty_batch_asks_on(rt: HostRuntime) {
