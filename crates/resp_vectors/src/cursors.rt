@@ -28,12 +28,6 @@ fn a_cursor_after_other_arguments(rt: HostRuntime) {
     command
         .push_arg(["phone", "barz"].as_slice())
         .expect(&rt, "no refusal");
-    let _ = command.cursor_arg(512).expect(&rt, "no refusal");
-    packs_as(
-        &rt,
-        &command,
-        b"*6\r\n$3\r\nkey\r\n$5\r\nvalue\r\n$2\r\n42\r\n$5\r\nphone\r\n$4\r\nbarz\r\n$3\r\n512\r\n",
-    );
     let wanted = [
         simple("key"),
         simple("value"),
@@ -42,6 +36,13 @@ fn a_cursor_after_other_arguments(rt: HostRuntime) {
         simple("barz"),
         Arg::Cursor,
     ];
+    shows_as(&rt, &command, &wanted[..5]);
+    let _ = command.cursor_arg(512).expect(&rt, "no refusal");
+    packs_as(
+        &rt,
+        &command,
+        b"*6\r\n$3\r\nkey\r\n$5\r\nvalue\r\n$2\r\n42\r\n$5\r\nphone\r\n$4\r\nbarz\r\n$3\r\n512\r\n",
+    );
     shows_as(&rt, &command, wanted.as_slice());
     assert_eq!(rt; command.args_iter().len(), 6);
     assert!(rt; command.in_scan_mode());

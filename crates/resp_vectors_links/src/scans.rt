@@ -1,6 +1,7 @@
 //! Scans over a link.
 
 use crate::memory::{MemoryLink, link_over, next_integer, sent};
+use resp_core::laws::law_of_scans;
 use resp_core::{Cmd, ErrorKind, FromRedisValue, Iter, RedisResult, ScanProgress, cmd};
 use std::fmt::Debug;
 use std::process::Abort;
@@ -56,6 +57,7 @@ fn an_empty_batch_asks_on(rt: HostRuntime) {
     let mut link = link_over(&rt, FIVE_AND_ALL);
     assert_eq!(rt; answers::<i64>(&rt, &mut link, 1).as_str(), "5 ");
     assert_eq!(rt; sent(link).as_slice(), SCAN_0_7);
+    law_of_scans::<i64>();
 }
 
 #[test]
