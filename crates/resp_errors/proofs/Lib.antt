@@ -1,1 +1,2 @@
 pub mod EqualErrors
+pub mod Words

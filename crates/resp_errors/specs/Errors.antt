@@ -1,5 +1,5 @@
 -- What an error says, by its form.
-use Rattle.std.specs.Prelude.{ℕ, List, [], ◌∷◌, codes, Option, None, Some}
+use Rattle.std.specs.Prelude.{ℕ, List, [], ◌∷◌, codes, Option, None, Some, Result, Ok, Err}
 use Rattle.resp_errors.specs.declared.kinds.ServerErrorKind.{ServerErrorKind}
 use Rattle.resp_errors.specs.declared.kinds.ServerErrorKind.TheVariants.{ResponseError, ExecAbort, BusyLoading, NoScript, Moved, Ask, TryAgain, ClusterDown, CrossSlot, MasterDown, ReadOnly, NotBusy, NoSub, NoPerm}
 use Rattle.resp_errors.specs.declared.kinds.ErrorKind.{ErrorKind}
@@ -144,3 +144,8 @@ server_errors_of (form.Server e) = Some ((0, e) ∷ [])
 server_errors_of (form.Pipeline errors) = Some errors
 server_errors_of (form.Aborted errors) = Some errors
 server_errors_of _ = None
+
+-- the server's error of an error of that form; of another form the error itself
+abbrev pub server_error_or_back : RedisError → Result ServerError RedisError
+server_error_or_back (form.Server e) = Ok e
+server_error_or_back e = Err e

@@ -237,6 +237,27 @@ impl From<io::ErrorKind> for IoKind {
     }
 }
 
+/// How a call that met an error may be tried again.
+#[derive(Clone, Copy, PartialEq, Eq, Debug)]
+pub enum RetryMethod {
+    /// Over a new connection, since this one can't be used any more.
+    Reconnect,
+    /// Not at all: it would be met again.
+    NoRetry,
+    /// At once.
+    RetryImmediately,
+    /// After a while, so that the server isn't overloaded.
+    WaitAndRetry,
+    /// At the node that the error names, this one time (cluster).
+    AskRedirect,
+    /// At the node that the error names, which has the key from now on (cluster).
+    MovedRedirect,
+    /// Over a new connection to one of the nodes that were given at first (cluster).
+    ReconnectFromInitialConnections,
+    /// At the slot's owner, once the map of slots is fetched anew: it is out of date (cluster).
+    RefreshSlotsAndRetry,
+}
+
 /// What is wrong with bytes that can't begin a reply, however they go on.
 #[derive(Clone, Copy, PartialEq, Eq, Debug)]
 pub enum FrameFault {

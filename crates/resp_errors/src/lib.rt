@@ -6,11 +6,13 @@ mod description;
 mod kinds;
 pub mod laws;
 mod parsing_error;
+mod questions;
+mod redirects;
 mod redis_error;
 mod server_error;
 
 pub use description::Description;
-pub use kinds::{ErrorKind, FrameFault, IoKind, ServerErrorKind};
+pub use kinds::{ErrorKind, FrameFault, IoKind, RetryMethod, ServerErrorKind};
 pub use parsing_error::ParsingError;
-pub use redis_error::{RedisError, RedisResult};
+pub use redis_error::{RedisError, RedisResult, make_extension_error};
 pub use server_error::ServerError;

@@ -7,6 +7,7 @@ ghost use Rattle.resp_errors.specs.Errors.{io_kind_of, server_errors_of, error_o
 ghost use Rattle.resp_errors.specs.Descriptions.{fitting};
 ghost use Rattle.resp_errors.specs.Memory.{OnlyMemory};
 ghost use Rattle.resp_errors.specs.declared.redis_error.RedisError.TheVariants as form;
+ghost use Rattle.resp_errors.specs.declared.server_error.ServerError.TheVariants as server;
 
 use crate::description::Description;
 use crate::kinds::{ErrorKind, FrameFault, IoKind, ServerErrorKind};
@@ -217,11 +218,43 @@ impl From<(ErrorKind, &'static str, String)> for RedisError {
     }
 }
 
+/// An error of a code of its own, as a server answers it: its kind is `Extension`, even where the
+/// code is one that [`ServerErrorKind`] names.
+pub fn make_extension_error(code: String, detail: Option<String>) -> RedisError
+    ensures { result ≡ form.Server
+        (server.Extension (string_bytes code) (option_map string_bytes detail)) }
+{
+    let detail = match detail {
+        Some(detail) => Some(Text::from(detail)),
+        None => None,
+    };
+    RedisError::Server(ServerError::Extension {
+        code: Text::from(code),
+        detail,
+    })
+}
+
 impl From<ServerError> for RedisError {
     ghost from_gives = { λ s e. e ≡ form.Server s };
 
     fn from(error: ServerError) -> RedisError {
         RedisError::Server(error)
+    }
+}
+
+/// The server's error of an error of that form; of another form the error itself comes back.
+impl TryFrom<RedisError> for ServerError {
+    ghost use Rattle.resp_errors.specs.Errors.{server_error_or_back};
+
+    type Error = RedisError;
+
+    ghost try_from_gives = { λ e r. r ≡ server_error_or_back e };
+
+    fn try_from(error: RedisError) -> Result<ServerError, RedisError> {
+        match error {
+            RedisError::Server(error) => Ok(error),
+            other => Err(other),
+        }
     }
 }
 

@@ -10,7 +10,7 @@ pub use map_iter::{MapIter, OwnedMapIter};
 pub use names::{PushKind, VerbatimFormat, get_push_kind, verbatim_format};
 pub use resp_containers::{Boxed, Items, Text};
 pub use resp_errors::{
-    Description, ErrorKind, FrameFault, IoKind, ParsingError, RedisError, RedisResult, ServerError,
-    ServerErrorKind,
+    Description, ErrorKind, FrameFault, IoKind, ParsingError, RedisError, RedisResult, RetryMethod,
+    ServerError, ServerErrorKind, make_extension_error,
 };
 pub use value::{PushInfo, Value};
