@@ -2,7 +2,8 @@
 use Rattle.std.specs.Prelude.{◌≡◌, ℕ, ◌<◌, ◌^◌, ℤ, pos, List, FitsSigned}
 use Rattle.std.specs.Int.{Width}
 use Rattle.std.specs.Str.{IsUtf8}
-use Rattle.std.specs.Str.Parse.{IsNumeral, digits_value, signed_digits_value, without_leading_plus, without_leading_sign}
+use Rattle.std.specs.Str.Parse.{IsNumeral, signed_digits_value, without_leading_sign}
+pub use Rattle.resp_errors.specs.Numerals.{UnsignedText}
 use Rattle.resp_value.specs.declared.value.Value.{Value, out-Value}
 use Rattle.resp_value.specs.declared.value.Value.TheOpen.{Value-F}
 use Rattle.resp_from.specs.Attributes.{stripped}
@@ -20,11 +21,6 @@ SignedText w text x =
 -- the number n is the integer x of the unsigned type of k bits
 abbrev pub UnsignedNumber : ℕ → ℤ → ℕ → Type 0
 UnsignedNumber k n x = (x < 2 ^ k) × (n ≡ pos x)
-
--- the text is an optional `+` and digits, and writes the integer x of the unsigned type of k bits
-abbrev pub UnsignedText : ℕ → List ℕ → ℕ → Type 0
-UnsignedText k text x = IsNumeral 10 (without_leading_plus text) × (x < 2 ^ k)
-    × (x ≡ digits_value 10 (without_leading_plus text))
 
 -- a reply without its attribute is the integer x: by its number, or by its text, as the type reads
 -- them

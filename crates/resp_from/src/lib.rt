@@ -8,6 +8,7 @@ mod conversion;
 mod integers;
 mod lists;
 mod maps;
+pub mod parts;
 mod refusals;
 mod results;
 mod rules;

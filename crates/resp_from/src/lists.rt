@@ -51,3 +51,17 @@ impl<T: FromRedisValue> FromRedisValue for Vec<T> {
         list_of(alloc, value)
     }
 }
+
+/// The same list, of which contracts see only the elements.
+impl<T: FromRedisValue> FromRedisValue for Items<T> {
+    const WIDTH: usize = 0;
+
+    const BYTES: bool = false;
+
+    ghost of_value = { OfVec T.WIDTH T.BYTES T.of_value };
+
+    fn from_redis_value(alloc: Global, value: Value) -> Result<Items<T>, ParsingError> {
+        let items: Vec<T> = list_of(alloc, value)?;
+        Ok(Items::from(items))
+    }
+}

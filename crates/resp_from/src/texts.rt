@@ -4,9 +4,36 @@ use crate::attributes::strip_attribute;
 use crate::conversion::FromRedisValue;
 use crate::refusals::refuse;
 use itoa::Buffer;
-use resp_value::{ParsingError, Value};
+use resp_value::{ParsingError, Text, Value};
 use std::alloc::Global;
 
+/// A text is a bulk string of UTF-8, a simple string, `OK`, a verbatim text, or an integer in
+/// decimal. At most one attribute is removed.
+impl FromRedisValue for Text {
+    ghost use Rattle.resp_from.specs.Texts.{OfText};
+
+    const WIDTH: usize = 0;
+
+    const BYTES: bool = false;
+
+    ghost of_value = { OfText };
+
+    fn from_redis_value(alloc: Global, value: Value) -> Result<Text, ParsingError> {
+        match strip_attribute(value) {
+            Value::BulkString(bytes) => match String::from_utf8(bytes.into_vec()) {
+                Ok(text) => Ok(Text::from(text)),
+                Err(_) => Err(ParsingError::from("Invalid UTF-8")),
+            },
+            Value::SimpleString(text) => Ok(text),
+            Value::Okay => Ok(Text::from_str(alloc, "OK")?),
+            Value::VerbatimString { text, .. } => Ok(text),
+            Value::Int(n) => Ok(Text::from_str(alloc, Buffer::new().format(n))?),
+            other => refuse(other, "Response type not string compatible"),
+        }
+    }
+}
+
+/// A string is what a [`Text`] is.
 impl FromRedisValue for String {
     ghost use Rattle.std.specs.Prelude.{string_bytes};
     ghost use Rattle.resp_from.specs.Texts.{OfText};
@@ -18,16 +45,7 @@ impl FromRedisValue for String {
     ghost of_value = { λ reply text. OfText reply (string_bytes text) };
 
     fn from_redis_value(alloc: Global, value: Value) -> Result<String, ParsingError> {
-        match strip_attribute(value) {
-            Value::BulkString(bytes) => match String::from_utf8(bytes.into_vec()) {
-                Ok(text) => Ok(text),
-                Err(_) => Err(ParsingError::from("Invalid UTF-8")),
-            },
-            Value::SimpleString(text) => Ok(text.into_string()),
-            Value::Okay => Ok(String::from_str(alloc, "OK")?),
-            Value::VerbatimString { text, .. } => Ok(text.into_string()),
-            Value::Int(n) => Ok(String::from_str(alloc, Buffer::new().format(n))?),
-            other => refuse(other, "Response type not string compatible"),
-        }
+        let text = Text::from_redis_value(alloc, value)?;
+        Ok(text.into_string())
     }
 }

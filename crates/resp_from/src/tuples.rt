@@ -1,6 +1,6 @@
 //! Replies as tuples.
 
-ghost use Rattle.std.specs.Prelude.{◌≡◌, List, IfOk};
+ghost use Rattle.std.specs.Prelude.{◌≡◌, ⊤, List, IfOk};
 ghost use Rattle.std.specs.Vec.Iter.{into_iter_items};
 ghost use Rattle.resp_value.specs.declared.value.Value.{Value, out-Value};
 ghost use Rattle.resp_from.specs.Conversion.{Converts};
@@ -86,6 +86,17 @@ impl<A: FromRedisValue, R: Elements> Elements for (A, R) {
             }
             None => Err(ParsingError::from("Array response of wrong dimension")),
         }
+    }
+}
+
+/// What more there is, whatever it be: the end of elements that others may follow.
+pub struct Ignored;
+
+impl Elements for Ignored {
+    ghost of_values = { λ _ _. ⊤ };
+
+    fn take(_alloc: Global, _values: &mut IntoIter<Value>) -> Result<Ignored, ParsingError> {
+        Ok(Ignored)
     }
 }
 

@@ -71,7 +71,7 @@ one_layer_text (Value-F.VerbatimString format t) x y h k = h ∙ sym k
 one_layer_text (Value-F.Int n) x y h k = h ∙ sym k
 one_layer_text _ x y h k = absurd h
 
-one_text : IsSingleValued OfText (λ x. x)
+pub one_text : IsSingleValued OfText (λ x. x)
 one_text reply x y h k = one_layer_text (out-Value (stripped reply)) x y h k
 
 pub one_string : IsSingleValued (λ reply (text : String Global). OfText reply (string_bytes text))

@@ -1,6 +1,7 @@
 //! Lists.
 
 use crate::single_valued::SingleValued;
+use resp_value::Items;
 use std::boxed::BoxedSlice;
 
 impl<T: SingleValued> SingleValued for Vec<T> {
@@ -13,6 +14,17 @@ impl<T: SingleValued> SingleValued for Vec<T> {
 
     ghost single = { λ reply x y. one_list T.of_value T.seen T.single T.WIDTH T.BYTES reply x.items
         y.items };
+}
+
+impl<T: SingleValued> SingleValued for Items<T> {
+    ghost use Rattle.std.specs.Prelude.{List, map};
+    ghost use Rattle.resp_laws.specs.lemmas.Lists.{one_list};
+
+    ghost Seen = { List T.Seen };
+
+    ghost seen = { λ x. map T.seen x };
+
+    ghost single = { λ reply x y. one_list T.of_value T.seen T.single T.WIDTH T.BYTES reply x y };
 }
 
 impl<T: SingleValued> SingleValued for BoxedSlice<T> {

@@ -1,7 +1,7 @@
 //! Truth values, texts, replies as they are, and `()`.
 
 use crate::single_valued::{SingleKey, SingleValued};
-use resp_value::Value;
+use resp_value::{Text, Value};
 
 impl SingleValued for bool {
     ghost use Rattle.std.specs.Prelude.{Bool};
@@ -38,6 +38,17 @@ impl SingleKey for String {
     ghost use Rattle.std.proofs.Common.{ap};
 
     ghost goes_by_seen = { λ x y z same. ap (slice_cmp nat_cmp (string_bytes z)) same };
+}
+
+impl SingleValued for Text {
+    ghost use Rattle.std.specs.Prelude.{ℕ, List};
+    ghost use Rattle.resp_laws.specs.lemmas.Scalars.{one_text};
+
+    ghost Seen = { List ℕ };
+
+    ghost seen = { λ x. x };
+
+    ghost single = { one_text };
 }
 
 impl SingleValued for Value {
