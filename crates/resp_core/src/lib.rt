@@ -27,8 +27,9 @@ pub use resp_command::{
 pub use resp_from::{FromRedisValue, from_redis_value, from_redis_value_by, from_redis_value_ref};
 pub use resp_link::{ByteLink, CommandSink, Writing};
 pub use resp_parse::{Parser, Reading, ReplySource, parse_redis_value};
+pub use resp_types::{IncrexResult, InfoDict, IntegerReplyOrNoOp, ReplicaInfo, Role, ValueType};
 pub use resp_value::{
     Boxed, Description, ErrorKind, FrameFault, IoKind, Items, MapIter, OwnedMapIter, ParsingError,
-    PushInfo, PushKind, RedisError, RedisResult, ServerError, ServerErrorKind, Text, Value,
-    VerbatimFormat, get_push_kind, verbatim_format,
+    PushInfo, PushKind, RedisError, RedisResult, RetryMethod, ServerError, ServerErrorKind, Text,
+    Value, VerbatimFormat, get_push_kind, make_extension_error, verbatim_format,
 };

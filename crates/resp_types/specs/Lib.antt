@@ -1,0 +1,5 @@
+pub mod Increx
+pub mod Info
+pub mod IntegerReplies
+pub mod Roles
+pub mod ValueTypes
