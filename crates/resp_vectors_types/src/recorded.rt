@@ -42,7 +42,7 @@ fn role_of_a_primary(rt: HostRuntime) {
             replication_offset,
             replicas,
         } => {
-            assert_eq!(rt; *replication_offset, 78);
+            assert_eq!(rt; (*replication_offset, replicas.len()), (78, 1));
             assert_eq!(rt;
                 (replicas[0].port, replicas[0].replication_offset),
                 (6391, 78)
