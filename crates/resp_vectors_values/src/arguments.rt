@@ -177,15 +177,23 @@ fn an_argument_list_grows(rt: HostRuntime) {
     assert!(rt; list.get(4).is_none());
 }
 
+/// An argument list of three texts.
+fn three_texts(rt: &(impl Abort + AllocGlobal)) -> ArgList {
+    let mut list = ArgList::new(rt.alloc());
+    write_each_arg(&["a", "b", "c"], &mut list).expect(rt, "no refusal");
+    list
+}
+
+/// How many arguments the list's copy has.
+fn copied_len(rt: &(impl Abort + AllocGlobal), list: &ArgList) -> usize {
+    list.try_clone(rt.alloc()).expect(rt, "no refusal").len()
+}
+
 #[test]
 fn an_argument_list_shrinks(rt: HostRuntime) {
-    let mut list = ArgList::new(rt.alloc());
-    write_each_arg(&["a", "b", "c"], &mut list).expect(&rt, "no refusal");
+    let mut list = three_texts(&rt);
     list.truncate(2);
-    assert_eq!(rt;
-        list.try_clone(rt.alloc()).expect(&rt, "no refusal").len(),
-        2
-    );
+    assert_eq!(rt; copied_len(&rt, &list), 2);
     list.clear();
     assert!(rt; list.is_empty());
 }
@@ -238,26 +246,20 @@ fn tuples_are_their_elements(rt: HostRuntime) {
 
 #[test]
 fn sorted_sets_are_their_members(rt: HostRuntime) {
-    let mut members = BTreeSet::new(rt.alloc());
-    members.insert(2u32).expect(&rt, "no refusal");
-    members.insert(1).expect(&rt, "no refusal");
+    let members = BTreeSet::from_array(rt.alloc(), [2u32, 1]).expect(&rt, "no refusal");
     gives(&rt, &members, "1:1 1:2 ", 2);
 }
 
 #[test]
 fn sorted_maps_are_their_pairs(rt: HostRuntime) -> Result<(), Fail> {
-    let mut pairs = BTreeMap::new(rt.alloc());
-    pairs.insert("a", 1u32)?;
-    pairs.insert("b", 2)?;
+    let pairs = BTreeMap::from_array(rt.alloc(), [("b", 2u32), ("a", 1)])?;
     gives(&rt, &pairs, "1:a 1:1 1:b 1:2 ", 2);
     Ok(())
 }
 
 #[test]
 fn hashed_sets_are_their_members(rt: HostRuntime) {
-    let mut members = HashSet::new(rt.alloc());
-    members.insert(1i64).expect(&rt, "no refusal");
-    members.insert(2).expect(&rt, "no refusal");
+    let members = HashSet::from_array(rt.alloc(), [1i64, 2]).expect(&rt, "no refusal");
     let args = members.to_redis_args(rt.alloc()).expect(&rt, "no refusal");
     assert_eq!(rt; args.len(), 2);
     let in_order = args[0].as_slice() == b"1".as_slice();
@@ -267,8 +269,7 @@ fn hashed_sets_are_their_members(rt: HostRuntime) {
 
 #[test]
 fn hashed_maps_are_their_pairs(rt: HostRuntime) -> Result<(), Fail> {
-    let mut pairs = HashMap::new(rt.alloc());
-    pairs.insert("a", "b")?;
+    let pairs = HashMap::from_array(rt.alloc(), [("a", "b")])?;
     gives(&rt, &pairs, "1:a 1:b ", 1);
     Ok(())
 }
@@ -280,8 +281,7 @@ fn refused(rt: &(impl Abort), written: RedisResult<Vec<Vec<u8>>>) -> ErrorKind {
 
 #[test]
 fn a_map_refuses_keys_of_two_arguments(rt: HostRuntime) -> Result<(), Fail> {
-    let mut pairs = BTreeMap::new(rt.alloc());
-    pairs.insert((1i64, 2i64), 3i64)?;
+    let pairs = BTreeMap::from_array(rt.alloc(), [((1i64, 2i64), 3i64)])?;
     assert_eq!(rt;
         refused(&rt, pairs.to_redis_args(rt.alloc())),
         ErrorKind::Client
@@ -298,23 +298,12 @@ fn refused_as_wide(rt: &(impl Abort + AllocGlobal), written: RedisResult<()>) {
     assert_eq!(rt; shown.as_str(), wanted);
 }
 
-/// Puts a pair into the map.
-fn put(
-    rt: &(impl Abort + AllocGlobal),
-    pairs: &mut BTreeMap<i64, Vec<i64>>,
-    key: i64,
-    values: &[i64],
-) {
-    let values = Vec::from_slice(rt.alloc(), values).expect(rt, "no refusal");
-    let old: Result<Option<Vec<i64>>, _> = pairs.insert(key, values);
-    assert!(rt; old.expect(rt, "no refusal").is_none());
-}
-
 /// Two pairs, of which the second has two values.
 fn wide_pairs(rt: &(impl Abort + AllocGlobal)) -> BTreeMap<i64, Vec<i64>> {
-    let mut pairs = BTreeMap::new(rt.alloc());
-    put(rt, &mut pairs, 1, &[5]);
-    put(rt, &mut pairs, 2, &[6, 7]);
+    let one = Vec::from_slice(rt.alloc(), &[5]).expect(rt, "no refusal");
+    let two = Vec::from_slice(rt.alloc(), &[6, 7]).expect(rt, "no refusal");
+    let pairs = BTreeMap::from_array(rt.alloc(), [(1, one), (2, two)]).expect(rt, "no refusal");
+    assert_eq!(rt; pairs.len(), 2);
     pairs
 }
 
@@ -345,9 +334,7 @@ fn a_refused_pair_leaves_the_command(rt: HostRuntime) -> Result<(), Fail> {
 
 #[test]
 fn a_map_is_packed_as_its_pairs(rt: HostRuntime) -> Result<(), Fail> {
-    let mut pairs = BTreeMap::new(rt.alloc());
-    pairs.insert("a", 1i64)?;
-    pairs.insert("b", 2)?;
+    let pairs = BTreeMap::from_array(rt.alloc(), [("a", 1i64), ("b", 2)])?;
     assert_eq!(rt; pairs.num_of_args(), 2);
     let mut command = cmd(rt.alloc(), "HSET")?;
     command.push_arg("h")?;

@@ -40,12 +40,10 @@ fn a_reply_is_one_tuple(rt: HostRuntime) {
 
 #[test]
 fn a_reply_is_one_sorted_map(rt: HostRuntime) {
-    let mut scores = BTreeMap::new(rt.alloc());
-    for (name, score) in [("a", 2i64), ("b", 1)] {
-        let name = String::from_str(rt.alloc(), name).expect(&rt, "memory");
-        let old: Result<Option<[i64; 1]>, _> = scores.insert(name, [score]);
-        assert!(rt; old.expect(&rt, "memory").is_none());
-    }
+    let a = String::from_str(rt.alloc(), "a").expect(&rt, "memory");
+    let b = String::from_str(rt.alloc(), "b").expect(&rt, "memory");
+    let scores = BTreeMap::from_array(rt.alloc(), [(a, [2i64]), (b, [1])]).expect(&rt, "memory");
+    assert_eq!(rt; scores.len(), 2);
     is_one(
         &rt,
         "%3\r\n+b\r\n*1\r\n:1\r\n+a\r\n*1\r\n:0\r\n+a\r\n*1\r\n:2\r\n",
@@ -55,10 +53,7 @@ fn a_reply_is_one_sorted_map(rt: HostRuntime) {
 
 #[test]
 fn a_reply_is_one_sorted_set(rt: HostRuntime) {
-    let mut numbers = BTreeSet::new(rt.alloc());
-    for number in [1u8, 2] {
-        let fresh: Result<bool, _> = numbers.insert(number);
-        assert!(rt; fresh.expect(&rt, "memory"));
-    }
+    let numbers = BTreeSet::from_array(rt.alloc(), [1u8, 2]).expect(&rt, "memory");
+    assert_eq!(rt; numbers.len(), 2);
     is_one(&rt, "~3\r\n:2\r\n:1\r\n:2\r\n", &numbers);
 }
