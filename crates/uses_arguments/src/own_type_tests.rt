@@ -43,23 +43,12 @@ fn fields_that_own(rt: HostRuntime) -> Result<(), Fail> {
     Ok(())
 }
 
-/// Puts a pair into the map.
-fn put(
-    rt: &(impl Abort + AllocGlobal),
-    map: &mut BTreeMap<i64, Vec<i64>>,
-    key: i64,
-    values: &[i64],
-) {
-    let values = Vec::from_slice(rt.alloc(), values).expect(rt, "memory");
-    let old: Result<Option<Vec<i64>>, _> = map.insert(key, values);
-    assert!(rt; old.expect(rt, "memory").is_none());
-}
-
 /// Two pairs, of which the second has two values.
 fn wide_map(rt: &(impl Abort + AllocGlobal)) -> BTreeMap<i64, Vec<i64>> {
-    let mut map = BTreeMap::new(rt.alloc());
-    put(rt, &mut map, 1, &[5]);
-    put(rt, &mut map, 2, &[6, 7]);
+    let one = Vec::from_slice(rt.alloc(), &[5]).expect(rt, "memory");
+    let two = Vec::from_slice(rt.alloc(), &[6, 7]).expect(rt, "memory");
+    let map = BTreeMap::from_array(rt.alloc(), [(1, one), (2, two)]).expect(rt, "memory");
+    assert_eq!(rt; map.len(), 2);
     map
 }
 
