@@ -1,6 +1,8 @@
 pub mod ArgsWalk
 pub mod CursorArgs
 pub mod DecimalReadsBack
+pub mod FramedArgs
+pub mod LongerFrame
 pub mod Nexts
 pub mod OneTaking
 pub mod PackedReadsBack

@@ -3,6 +3,7 @@ pub mod Command
 pub mod CommandQuery
 pub mod Connection
 pub mod Cursors
+pub mod Frames
 pub mod Packed
 pub mod PackingLaw
 pub mod ScanLaw

@@ -6,6 +6,8 @@ mod batch;
 mod command;
 mod connection;
 mod cursors;
+mod frames;
+mod framing;
 pub mod laws;
 mod packing;
 mod progress;

@@ -1,0 +1,8 @@
+use Rattle.std.proofs.Common.{rules}
+use Rattle.resp_command.proofs.FramedArgs.{span-within}
+use Rattle.resp_command.proofs.frames.Frames.get.Goals as goal
+
+pub part-requires : goal.part-requires
+part-requires c =
+    let h = span-within c.self.inside.bytes.items c.self.inside.spans.items c.args.index c.index.result.now c.self.invariant (search rules) in
+    rw (c.as_slice.ensures.value, c.index.ensures) h
