@@ -2,6 +2,8 @@
 pub use Rattle.resp_errors.specs.Errors.{kind_of, detail_of, code_of, fault_of, io_kind_of}
 pub use Rattle.resp_errors.specs.Errors.{server_errors_of}
 pub use Rattle.resp_errors.specs.Memory.{OnlyMemory}
+pub use Rattle.resp_errors.specs.Redirects.{RedirectsTo}
+pub use Rattle.resp_errors.specs.Retries.{is_dropped, is_of_cluster, replaces_connection, retry_of}
 pub use Rattle.resp_from.specs.Conversion.{Converts, ConvertsCall, OfMade}
 pub use Rattle.resp_from.specs.Lists.{OfArray, OfVec}
 pub use Rattle.resp_from.specs.Maps.{HoldsMap, HoldsSet, OfMap, OfSet}
@@ -17,3 +19,8 @@ pub use Rattle.resp_parse.specs.State.{State, StandsAfter, IsBetweenValues}
 pub use Rattle.resp_parse.specs.Tally.{Tally}
 pub use Rattle.resp_parse.specs.Built.{built}
 pub use Rattle.resp_parse.specs.Bounds.{unseen, WorksWithin, Bounded, FedBy, OneCall, CallsWithin}
+pub use Rattle.resp_types.specs.Info.{Gets, HoldsText, OfInfo, SameEntry, entries_of, value_at}
+pub use Rattle.resp_types.specs.Increx.{AreIntegers, OfIncrex}
+pub use Rattle.resp_types.specs.IntegerReplies.{OfIntegerReply, number_of}
+pub use Rattle.resp_types.specs.Roles.{OfReplica, OfRole}
+pub use Rattle.resp_types.specs.ValueTypes.{OfType, name_of_type, type_named}
