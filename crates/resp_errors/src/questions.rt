@@ -3,7 +3,8 @@
 ghost use Rattle.std.specs.Prelude.{◌≡◌};
 ghost use Rattle.resp_errors.specs.Errors.{kind_of};
 ghost use Rattle.resp_errors.specs.Retries.{is_io, is_of_cluster, is_fault_of};
-ghost use Rattle.resp_errors.specs.Retries.{refuses_connection, times_out, drops_connection, is_dropped};
+ghost use Rattle.resp_errors.specs.Retries.{refuses_connection, times_out, drops_connection};
+ghost use Rattle.resp_errors.specs.Retries.{is_dropped};
 ghost use Rattle.resp_errors.specs.Retries.{retry_of_server_kind, retry_of_kind, retry_of};
 ghost use Rattle.resp_errors.specs.Retries.{replaces_connection};
 ghost use Rattle.resp_errors.specs.declared.redis_error.RedisError.TheVariants as form;
