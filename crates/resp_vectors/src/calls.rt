@@ -2,12 +2,27 @@
 
 use crate::answers::{next_shown, shown_reply};
 use crate::devices::{ScriptedReader, ScriptedWriter, Step};
-use resp_core::{ByteLink, Cmd, CommandSink, IoKind, Parser, Reading, ReplySource, Writing, cmd};
+use resp_core::{
+    ByteLink, Cmd, CommandSink, ConnectionLike, IoKind, Parser, Reading, ReplySource, Writing, cmd,
+};
 use std::io::ErrorKind;
 use std::process::Abort;
 
 fn ping(rt: &(impl Abort + AllocGlobal)) -> Cmd {
     cmd(rt.alloc(), "PING").expect(rt, "no refusal")
+}
+
+/// The number that a query answers.
+fn number(rt: &(impl Abort + AllocGlobal), con: &mut dyn ConnectionLike) -> i64 {
+    ping(rt).query(con).expect(rt, "no refusal")
+}
+
+/// The kind of the device's fault that a query for a number is refused with.
+fn device_fault(rt: &(impl Abort + AllocGlobal), con: &mut dyn ConnectionLike) -> Option<IoKind> {
+    ping(rt)
+        .query::<i64>(con)
+        .expect_err(rt, "a refusal")
+        .io_kind()
 }
 
 /// What the parser answers over a reader with this script.
@@ -89,15 +104,17 @@ fn one_read_a_fill(rt: HostRuntime) {
     let mut buf = [0; 16];
     assert_eq!(rt; source.fill(&mut buf[..]), Err(IoKind::Interrupted));
     assert_eq!(rt; source.into_inner().calls, 1);
+}
+
+#[test]
+fn one_read_a_query(rt: HostRuntime) {
+    let script = &[Step::Fails(ErrorKind::Interrupted), Step::Moves(b":7\r\n")];
     let mut link = ByteLink::new(
         rt.alloc(),
         ScriptedReader::new(script),
         ScriptedWriter::new(&[], &[]),
     );
-    let error = ping(&rt)
-        .query::<i64>(&mut link)
-        .expect_err(&rt, "a refusal");
-    assert_eq!(rt; error.io_kind(), Some(IoKind::Interrupted));
+    assert_eq!(rt; device_fault(&rt, &mut link), Some(IoKind::Interrupted));
     assert!(rt; link.is_broken());
     let (source, _sink) = link.into_ends();
     assert_eq!(rt; source.into_inner().calls, 1);
@@ -155,29 +172,32 @@ fn a_query_flushes_its_writer(rt: HostRuntime) {
         ScriptedReader::new(&[Step::Moves(b":7\r\n"), Step::Moves(b":8\r\n")]),
         ScriptedWriter::new(&[], &[]),
     );
-    let first: i64 = ping(&rt).query(&mut link).expect(&rt, "no refusal");
-    assert_eq!(rt; first, 7);
+    assert_eq!(rt; number(&rt, &mut link), 7);
     let (source, sink) = link.into_ends();
     let writer = sink.into_inner();
     assert_eq!(rt; (writer.writes, writer.flushes), (1, 1));
     assert_eq!(rt; source.into_inner().calls, 1);
 }
 
+/// More bytes than one read may be asked for, of a body that doesn't end.
+const LONG_BODY: &[Step] = &[
+    Step::Moves(b"$9000\r\n"),
+    Step::Moves(&[b'x'; 5000]),
+    Step::Moves(&[b'x'; 5000]),
+    Step::Moves(b"x"),
+];
+
 #[test]
 fn at_most_4096_bytes_a_read(rt: HostRuntime) {
-    let script = &[
-        Step::Moves(b"$9000\r\n"),
-        Step::Moves(&[b'x'; 5000]),
-        Step::Moves(&[b'x'; 5000]),
-        Step::Moves(b"x"),
-    ];
     let mut parser = Parser::new(rt.alloc());
-    assert_eq!(rt;
-        scripted(&rt, &mut parser, script).as_str(),
-        "UnexpectedEof"
-    );
+    let early = scripted(&rt, &mut parser, LONG_BODY);
+    assert_eq!(rt; early.as_str(), "UnexpectedEof");
+}
+
+#[test]
+fn at_most_4096_bytes_a_fill(rt: HostRuntime) {
     let mut parser = Parser::new(rt.alloc());
-    let mut source = Reading::new(ScriptedReader::new(script));
+    let mut source = Reading::new(ScriptedReader::new(LONG_BODY));
     let early = shown_reply(&rt, parser.parse_from(&mut source));
     assert_eq!(rt; early.as_str(), "UnexpectedEof");
     let reader = source.into_inner();

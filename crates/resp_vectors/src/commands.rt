@@ -94,10 +94,7 @@ fn a_packed_command_reads_as_its_array(rt: HostRuntime) {
 
 /// A map that no command takes: its key is two arguments.
 pub fn refused_map(rt: &(impl Abort + AllocGlobal)) -> BTreeMap<(i64, i64), i64> {
-    let mut map = BTreeMap::new(rt.alloc());
-    let inserted: Result<_, _> = map.insert((1, 2), 3);
-    assert!(rt; inserted.is_ok());
-    map
+    BTreeMap::from_array(rt.alloc(), [((1, 2), 3)]).expect(rt, "no refusal")
 }
 
 #[test]
@@ -127,8 +124,7 @@ fn a_cleared_command_is_new(rt: HostRuntime) {
     assert!(rt; command.is_empty() && !command.is_no_response());
     for same in [&copy, &taken] {
         assert!(rt; same.is_no_response());
-        let packed = same.get_packed_command().expect(&rt, "no refusal");
-        assert_eq!(rt; packed.as_slice(), b"*1\r\n$3\r\nkey\r\n".as_slice());
+        packs_as(&rt, same, b"*1\r\n$3\r\nkey\r\n");
     }
     taken.clear();
     assert!(rt; taken.is_empty() && !taken.is_no_response());

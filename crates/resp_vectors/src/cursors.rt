@@ -9,7 +9,7 @@ fn shows_as(rt: &impl Abort, command: &Cmd, wanted: &[Arg<&[u8]>]) {
     let mut shown = command.args_iter();
     for (passed, arg) in wanted.iter().enumerate() {
         assert_eq!(rt; shown.len(), wanted.len() - passed);
-        assert!(rt; shown.next().is_some_and(|next| next == *arg));
+        assert!(rt; shown.next().as_ref() == Some(arg));
     }
     assert_eq!(rt; shown.size_hint(), (0, Some(0)));
     assert!(rt; shown.next().is_none());
@@ -102,9 +102,9 @@ fn a_cloned_iterator_goes_on(rt: HostRuntime) {
     let mut command = cmd(rt.alloc(), "A").expect(&rt, "no refusal");
     let _ = command.cursor_arg(3).expect(&rt, "no refusal");
     let mut shown = command.args_iter();
-    assert!(rt; shown.next().is_some_and(|next| next == simple("A")));
+    assert!(rt; shown.next() == Some(simple("A")));
     let mut again = shown.clone().expect(&rt, "no refusal");
-    assert!(rt; again.next().is_some_and(|next| next == Arg::Cursor));
+    assert!(rt; again.next() == Some(Arg::Cursor));
     assert!(rt; again.next().is_none());
     assert_eq!(rt; shown.len(), 1);
 }

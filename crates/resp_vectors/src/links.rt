@@ -3,8 +3,8 @@
 use crate::answers::shown_reply;
 use crate::devices::{Dropping, Full};
 use resp_core::{
-    ByteLink, Cmd, CommandSink, ErrorKind, FrameFault, IoKind, Reading, RedisError, ReplySource,
-    ServerErrorKind, Value, Writing, cmd,
+    ByteLink, Cmd, CommandSink, ConnectionLike, ErrorKind, FrameFault, IoKind, Reading, RedisError,
+    ReplySource, ServerErrorKind, Value, Writing, cmd,
 };
 use std::io::Cursor;
 use std::process::Abort;
@@ -111,24 +111,26 @@ fn exec_wants_no_value(rt: HostRuntime) {
     assert!(rt; !link.is_broken());
 }
 
+/// The kind of the device's fault that a query for a number is refused with.
+fn device_fault(rt: &(impl Abort + AllocGlobal), con: &mut dyn ConnectionLike) -> Option<IoKind> {
+    get(rt)
+        .query::<i64>(con)
+        .expect_err(rt, "a refusal")
+        .io_kind()
+}
+
 #[test]
 fn a_reader_that_fails_breaks_it(rt: HostRuntime) {
     let reader = Dropping::new(b"$1\r\n", 1);
     let mut link = ByteLink::new(rt.alloc(), reader, Vec::new(rt.alloc()));
-    let error = get(&rt)
-        .query::<i64>(&mut link)
-        .expect_err(&rt, "a refusal");
-    assert_eq!(rt; error.io_kind(), Some(IoKind::TimedOut));
+    assert_eq!(rt; device_fault(&rt, &mut link), Some(IoKind::TimedOut));
     assert!(rt; link.is_broken());
 }
 
 #[test]
 fn a_full_writer_breaks_it(rt: HostRuntime) {
     let mut full = ByteLink::new(rt.alloc(), Dropping::new(b":7\r\n", 0), Full::new(3));
-    let error = get(&rt)
-        .query::<i64>(&mut full)
-        .expect_err(&rt, "a refusal");
-    assert_eq!(rt; error.io_kind(), Some(IoKind::BrokenPipe));
+    assert_eq!(rt; device_fault(&rt, &mut full), Some(IoKind::BrokenPipe));
     assert!(rt; full.is_broken());
 }
 

@@ -2,6 +2,7 @@
 
 use crate::answers::{Example, debug_text, next_shown, shown_reply};
 use resp_core::{ErrorKind, Parser, Reading, ServerErrorKind, Value, parse_redis_value};
+use std::alloc::Global;
 use std::io::Cursor;
 use std::process::Abort;
 
@@ -117,15 +118,21 @@ fn without_errors_a_reply_stays(rt: HostRuntime) {
     );
 }
 
+/// How many values the value is a sequence of.
+fn borrowed_length(value: &Value) -> Option<usize> {
+    Some(value.as_sequence()?.len())
+}
+
+/// How many values the value is a sequence of, by move.
+fn moved_length(alloc: Global, value: Value) -> Option<usize> {
+    Some(value.into_sequence(alloc).ok()?.len())
+}
+
 /// How many values the reply is a sequence of, borrowed and by move.
 fn length(rt: &(impl Abort + AllocGlobal), bytes: &[u8]) -> Option<usize> {
     let value = reply(rt, bytes);
-    let borrowed = value.as_sequence().map(|elements| elements.len());
-    let moved = value
-        .into_sequence(rt.alloc())
-        .ok()
-        .map(|elements| elements.len());
-    assert_eq!(rt; borrowed, moved);
+    let borrowed = borrowed_length(&value);
+    assert_eq!(rt; borrowed, moved_length(rt.alloc(), value));
     borrowed
 }
 
@@ -181,6 +188,6 @@ fn no_pairs_of_three(rt: HostRuntime) {
     assert!(rt; three.as_map_iter().is_none());
     match three.into_map_iter() {
         Ok(_pairs) => assert!(rt; false),
-        Err(back) => assert_eq!(rt; back.as_sequence().map(|elements| elements.len()), Some(3)),
+        Err(back) => assert_eq!(rt; borrowed_length(&back), Some(3)),
     }
 }
