@@ -2,9 +2,9 @@
 //!
 //! `resp_bench parse FILE PIECE ROUNDS` feeds the bytes of a file to a parser, PIECE bytes at a
 //! time (0: 16,384), takes each value and drops it. `resp_bench pack WHAT COUNT ROUNDS` packs
-//! COUNT times: `set`, a command of three short arguments, built and packed; `big`, one of an
-//! argument of 1 MiB, built and packed; `big-only`, the same, packed alone; `pipe`, a pipeline
-//! of 1,000 of the first.
+//! COUNT times: `set`, a command of three short arguments, built and packed; `set-only`, the same,
+//! packed alone into a buffer at hand; `big`, one of an argument of 1 MiB, built and packed;
+//! `big-only`, the same, packed alone; `pipe`, a pipeline of 1,000 of the first.
 //!
 //! Each does one round untimed and then ROUNDS timed ones, and prints how many replies or
 //! commands a round reads or packs, how many bytes those are, and the nanoseconds of CPU time

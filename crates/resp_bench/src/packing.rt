@@ -18,6 +18,7 @@ const COMMANDS: usize = 1000;
 #[derive(Clone, Copy, Debug)]
 pub enum Packing {
     Set,
+    SetOnly,
     Big,
     BigOnly,
     Pipe,
@@ -27,7 +28,8 @@ pub enum Packing {
 #[derive(Drop)]
 pub struct Load {
     large: Vec<u8>,
-    command: Cmd,
+    small_command: Cmd,
+    large_command: Cmd,
 }
 
 impl Packing {
@@ -35,6 +37,7 @@ impl Packing {
     pub fn named(word: &str) -> Option<Packing> {
         match word {
             "set" => Some(Packing::Set),
+            "set-only" => Some(Packing::SetOnly),
             "big" => Some(Packing::Big),
             "big-only" => Some(Packing::BigOnly),
             "pipe" => Some(Packing::Pipe),
@@ -42,14 +45,18 @@ impl Packing {
         }
     }
 
-    /// The argument and the command that rounds of it need.
+    /// The argument and the commands that rounds of it need.
     pub fn load(self, alloc: Global) -> RedisResult<Load> {
         let mut large = Vec::new(alloc);
         for _ in 0..LARGE {
             large.push(b'x')?;
         }
-        let command = large_command(alloc, large.as_slice())?;
-        Ok(Load { large, command })
+        let large_command = large_command(alloc, large.as_slice())?;
+        Ok(Load {
+            large,
+            small_command: set_command(alloc)?,
+            large_command,
+        })
     }
 }
 
@@ -62,11 +69,13 @@ pub fn pack_round(
     count: usize,
 ) -> RedisResult<Round> {
     let mut bytes: u64 = 0;
+    let mut buffer = Vec::new(alloc);
     for _ in 0..count {
         let packed = match packing {
             Packing::Set => packed_length(&set_command(alloc)?)?,
+            Packing::SetOnly => written_length(&load.small_command, &mut buffer)?,
             Packing::Big => packed_length(&large_command(alloc, load.large.as_slice())?)?,
-            Packing::BigOnly => packed_length(&load.command)?,
+            Packing::BigOnly => packed_length(&load.large_command)?,
             Packing::Pipe => set_pipeline(alloc)?.get_packed_pipeline()?.len() as u64,
         };
         bytes = bytes.saturating_add(packed);
@@ -84,6 +93,14 @@ pub fn pack_round(
 #[inline(never)]
 fn packed_length(command: &Cmd) -> RedisResult<u64> {
     Ok(command.get_packed_command()?.len() as u64)
+}
+
+/// As [`packed_length`], into a buffer at hand.
+#[inline(never)]
+fn written_length(command: &Cmd, buffer: &mut Vec<u8>) -> RedisResult<u64> {
+    buffer.clear();
+    command.write_packed_command(buffer)?;
+    Ok(buffer.len() as u64)
 }
 
 #[inline(never)]

@@ -165,10 +165,6 @@ extended-then [] a more = refl
 extended-then (b ∷ []) a more = refl
 extended-then (b ∷ c ∷ init) a more = ap (λ xs. b ∷ xs) (extended-then (c ∷ init) a more)
 
-spans-counted : (at : ℕ) (args : Args) → length (spans_of at args) ≡ length args
-spans-counted at [] = refl
-spans-counted at (a ∷ args) = ap suc (spans-counted (at + length (bulk a)) args)
-
 -- the frame at the end of a buffer, with more bytes
 longer-bulk : (front a more : List ℕ) → longer (front ++ bulk a) (length front + 1) (length front + (length (decimal (length a)) + 3)) more ≡ front ++ bulk (a ++ more)
 longer-bulk front a more =

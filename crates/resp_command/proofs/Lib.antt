@@ -2,11 +2,14 @@ pub mod ArgsWalk
 pub mod CursorArgs
 pub mod DecimalReadsBack
 pub mod FramedArgs
+pub mod LastPieces
 pub mod LongerFrame
 pub mod Nexts
 pub mod OneTaking
+pub mod PackedPieces
 pub mod PackedReadsBack
 pub mod PrefixOfPrefix
+pub mod PiecesAgree
 pub mod Queries
 pub mod Requests
 pub mod ScanCalls

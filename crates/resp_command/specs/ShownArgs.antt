@@ -1,11 +1,13 @@
 -- The arguments of a command as they are shown: each with its bytes, or as a cursor.
-use Rattle.std.specs.Prelude.{ℕ, ◌+◌, List, [], ◌∷◌, drop, nat_eq, if◌then◌else◌}
-use Rattle.std.specs.List.{list_any}
+use Rattle.std.specs.Prelude.{◌≡◌, ℕ, ◌+◌, ◌-◌, List, [], ◌∷◌, Some, drop, length, nat_eq, slice_get, if◌then◌else◌}
+use Rattle.std.specs.List.{flat_map, list_any}
 use Rattle.std.specs.Borrow.{Bor}
-use Rattle.resp_args.specs.Args.{Args, args_of}
+use Rattle.resp_args.specs.Args.{Args}
 use Rattle.resp_command.specs.declared.args_iter.Arg.{Arg}
 use Rattle.resp_command.specs.declared.args_iter.Arg.TheVariants.{Simple, Cursor}
 use Rattle.resp_command.specs.declared.args_iter.ArgsIter.{ArgsIter}
+use Rattle.resp_command.specs.Packed.{bulk}
+use Rattle.resp_command.specs.Pieces.{Pieces, ordinary, woven}
 
 -- arguments whose first one has this place: those at the cursors' places are shown as cursors
 abbrev pub shown_from : ℕ → Args → List ℕ → List (Arg (List ℕ))
@@ -17,20 +19,21 @@ shown_from place (arg ∷ args) cursors =
 abbrev pub shown_args : Args → List ℕ → List (Arg (List ℕ))
 shown_args args cursors = shown_from 0 args cursors
 
--- the same by one walk along arguments and places, where the places ascend
-abbrev pub walked_from : ℕ → Args → List ℕ → List (Arg (List ℕ))
-walked_from place [] cursors = []
-walked_from place (arg ∷ args) [] = Simple arg ∷ walked_from (place + 1) args []
-walked_from place (arg ∷ args) (cursor ∷ cursors) =
-    if nat_eq cursor place
-    then Cursor ∷ walked_from (place + 1) args cursors
-    else Simple arg ∷ walked_from (place + 1) args (cursor ∷ cursors)
-
 -- the arguments that an iterator has left
-abbrev pub args_left : ArgsIter → List (Arg (List ℕ))
-args_left it = walked_from it.index (args_of (drop it.index it.args.now)) it.cursors.now
+abbrev pub args_left : ArgsIter → Pieces
+args_left it =
+    woven (it.taken + it.passed) (drop it.passed it.cursors.now) (drop it.taken it.frames.now)
+
+-- the ordinary arguments, as they are shown, framed and joined
+abbrev pub framed_args : Args → List ℕ → List ℕ
+framed_args args cursors = flat_map bulk (ordinary (shown_args args cursors))
 
 -- what a borrowed argument refers to
 abbrev pub referent : Arg (Bor (List ℕ)) → Arg (List ℕ)
 referent (Simple arg) = Simple arg.now
 referent Cursor = Cursor
+
+-- the last argument is a cursor argument: the last of the places is its place
+abbrev pub EndsInCursor : Args → List ℕ → Type 0
+EndsInCursor args cursors =
+    slice_get cursors (length cursors - 1) ≡ Some (length args - 1)

@@ -1,6 +1,8 @@
 //! Iterators over the arguments of a command.
 
-ghost use Rattle.std.specs.Prelude.{◌≡◌};
+ghost use Rattle.std.specs.Prelude.{◌≡◌, slice_get};
+
+use crate::frames::Frames;
 
 /// An argument of a command, as [`Cmd::args_iter`](crate::Cmd::args_iter) shows it.
 #[derive(Clone, Debug, PartialEq, Drop)]
@@ -15,24 +17,57 @@ pub enum Arg<D> {
 /// The arguments of a command, in order; made by [`Cmd::args_iter`](crate::Cmd::args_iter).
 #[derive(Clone, Drop)]
 pub struct ArgsIter<'a> {
-    args: &'a [Vec<u8>],
-    index: usize,
+    frames: &'a Frames,
+    taken: usize,
     cursors: &'a [usize],
+    passed: usize,
 }
 
 impl<'a> ArgsIter<'a> {
-    ghost use Rattle.resp_args.specs.Args.{args_of};
-    ghost use Rattle.resp_command.specs.ShownArgs.{args_left, walked_from};
+    ghost use Rattle.std.specs.Prelude.{◌+◌, ◌<◌, ◌∷◌, [], ℕ, List, IsTrue, not, length, None, Some};
+    ghost use Rattle.resp_command.specs.declared.args_iter.Arg.TheVariants.{Cursor, Simple};
+    ghost use Rattle.resp_command.specs.Pieces.{woven};
+    ghost use Rattle.resp_command.specs.ShownArgs.{args_left};
 
-    /// All arguments; those at the places of cursors are shown as cursors.
-    pub(crate) fn over(args: &'a [Vec<u8>], cursors: &'a [usize]) -> ArgsIter<'a>
-        ensures { args_left result ≡ walked_from 0 (args_of args.now) cursors.now }
+    /// These arguments, and cursors at these places.
+    pub(crate) fn over(frames: &'a Frames, cursors: &'a [usize]) -> ArgsIter<'a>
+        ensures { args_left result ≡ woven 0 cursors.now frames.now }
     {
         ArgsIter {
-            args,
-            index: 0,
+            frames,
+            taken: 0,
             cursors,
+            passed: 0,
         }
+    }
+
+    /// Whether a cursor comes next.
+    fn is_at_cursor(&self) -> bool
+        ensures cursor { IsTrue result → (self.now.passed < length self.now.cursors.now)
+            × (args_left self.now
+            ≡ Cursor ∷ args_left (record self.now { passed = self.now.passed + 1 })) }
+        ensures simple { IsTrue (not result) → (arg : List ℕ)
+            → slice_get self.now.frames.now self.now.taken ≡ Some arg → args_left self.now
+            ≡ Simple arg ∷ args_left (record self.now { taken = self.now.taken + 1 }) }
+        ensures nothing { IsTrue (not result)
+            → slice_get self.now.frames.now self.now.taken ≡ None → args_left self.now ≡ [] }
+    {
+        let has_arg = self.taken < self.frames.len();
+        match place_at(self.cursors, self.passed) {
+            Some(place) => !has_arg || place.saturating_sub(self.passed) <= self.taken,
+            None => false,
+        }
+    }
+}
+
+/// The place at this index, if there is one.
+fn place_at(places: &[usize], index: usize) -> Option<usize>
+    ensures { result ≡ slice_get places.now index }
+{
+    if index < places.len() {
+        Some(places[index])
+    } else {
+        None
     }
 }
 
@@ -49,34 +84,33 @@ impl<'a> Iterator for ArgsIter<'a> {
     ghost remaining = { item_count args_left };
 
     fn next(&mut self) -> Option<Arg<&'a [u8]>> {
-        let index = self.index;
-        let arg = self.args.get(index)?;
-        self.index = index + 1;
-        if let Some((place, later)) = self.cursors.split_first() {
-            if *place == index {
-                self.cursors = later;
-                return Some(Arg::Cursor);
-            }
+        if self.is_at_cursor() {
+            self.passed += 1;
+            return Some(Arg::Cursor);
         }
-        Some(Arg::Simple(arg.as_slice()))
+        let arg = self.frames.get(self.taken)?;
+        self.taken += 1;
+        Some(Arg::Simple(arg))
     }
 
     /// Exactly as many arguments as there are left.
-    #[tactic(auto, using(crate::proofs::ArgsWalk::left_counted))]
+    #[tactic(auto, using(crate::proofs::PiecesAgree::left_counted))]
     fn size_hint(&self) -> (usize, Option<usize>)
         ensures lower { IsWithinCount result.0 (at_most (length (args_left self.now))) }
         ensures upper { IfSome result.1 (UpTo (at_most (length (args_left self.now)))) }
         ensures least { result.0 ≡ length (args_left self.now) }
         ensures most { result.1 ≡ Some (length (args_left self.now)) }
     {
-        let left = self.args.len().saturating_sub(self.index);
+        let left = self.frames.len().saturating_sub(self.taken)
+            + self.cursors.len().saturating_sub(self.passed);
         (left, Some(left))
     }
 }
 
 impl<'a> ExactSizeIterator for ArgsIter<'a> {
-    #[tactic(auto, using(crate::proofs::ArgsWalk::left_counted))]
+    #[tactic(auto, using(crate::proofs::PiecesAgree::left_counted))]
     fn len(&self) -> usize {
-        self.args.len().saturating_sub(self.index)
+        self.frames.len().saturating_sub(self.taken)
+            + self.cursors.len().saturating_sub(self.passed)
     }
 }

@@ -9,7 +9,7 @@ ghost use Rattle.resp_args.specs.Args.{Appends, IsRefusal, extended};
 ghost use Rattle.resp_command.specs.Command.{new_command};
 ghost use Rattle.resp_command.specs.Cursors.{HoldsCursor, with_cursor, with_cursor_arg};
 ghost use Rattle.resp_command.specs.Cursors.{with_extended_arg};
-ghost use Rattle.resp_command.specs.ShownArgs.{args_left, shown_args};
+ghost use Rattle.resp_command.specs.ShownArgs.{EndsInCursor, args_left, framed_args, shown_args};
 ghost use Rattle.resp_command.specs.Packed.{packed, packed_or_none};
 ghost use Rattle.resp_command.specs.Call.{Answers};
 ghost use Rattle.resp_command.specs.CommandQuery.{CommandQuery};
@@ -18,12 +18,12 @@ ghost use Rattle.resp_command.specs.ScanStates.{borrowed, scan_state, state_of};
 
 use crate::args_iter::ArgsIter;
 use crate::connection::ConnectionLike;
-use crate::cursors::{decimals, keep_below, put_texts};
-use crate::packing::{pack_command, write_packed};
+use crate::frames::Frames;
+use crate::packing::append_pieces;
 use crate::progress::ScanProgress;
 use crate::scan::{Iter, Scan};
 use itoa::Buffer;
-use resp_args::{ArgList, RedisWrite, ToRedisArgs};
+use resp_args::{RedisWrite, ToRedisArgs};
 use resp_from::FromRedisValue;
 use resp_value::{RedisResult, Value};
 use std::alloc::{AllocError, Global};
@@ -38,7 +38,7 @@ use std::mem;
 #[derive(Drop)]
 pub struct Cmd {
     alloc: Global,
-    args: ArgList,
+    frames: Frames,
     cursor: Option<u64>,
     cursors: Vec<usize>,
     no_response: bool,
@@ -46,18 +46,18 @@ pub struct Cmd {
 
 impl Model for Cmd {
     ghost use Rattle.resp_command.specs.Command.{Command};
-    ghost use Rattle.resp_command.specs.Cursors.{HoldsCursor};
+    ghost use Rattle.resp_command.specs.Pieces.{Keeps, sent_args};
 
     ghost Value = { Command };
 
     ghost view = { λ c. record {
-      args = c.args;
+      args = sent_args c.cursor c.cursors.items c.frames;
       no_response = c.no_response;
       cursor = c.cursor;
       cursors = c.cursors.items;
     } };
 
-    ghost invariant = { λ c. HoldsCursor c.args c.cursor c.cursors.items };
+    ghost invariant = { λ c. Keeps c.cursor c.cursors.items c.frames };
 }
 
 impl Cmd {
@@ -67,21 +67,21 @@ impl Cmd {
     {
         Cmd {
             alloc,
-            args: ArgList::new(alloc),
+            frames: Frames::new(alloc),
             cursor: None,
             cursors: Vec::new(alloc),
             no_response: false,
         }
     }
 
-    /// A new command with room for this many arguments. Each argument keeps its own bytes, so no
-    /// room is made for those. Fails only with `OutOfMemory`.
-    pub fn with_capacity(alloc: Global, arg_count: usize, _size_of_data: usize) -> RedisResult<Cmd>
+    /// A new command with room for this many arguments of so many bytes in all. Fails only with
+    /// `OutOfMemory`.
+    pub fn with_capacity(alloc: Global, arg_count: usize, size_of_data: usize) -> RedisResult<Cmd>
         ensures new { IfOk result (λ c. c ≡ new_command) }
         ensures memory { OnlyMemory result }
     {
         let mut command = Cmd::new(alloc);
-        command.args = ArgList::with_capacity(alloc, arg_count)?;
+        command.frames.reserve(arg_count, size_of_data)?;
         Ok(command)
     }
 
@@ -108,9 +108,9 @@ impl Cmd {
         ensures refused { IfErr result (IsRefusal (T.refuses arg)) }
         ensures unchanged { OnErr result (self.new ≡ self.old) }
     {
-        let before = self.args.len();
-        if let Err(error) = arg.write_redis_args(&mut self.args) {
-            self.args.truncate(before);
+        let before = self.frames.len();
+        if let Err(error) = arg.write_redis_args(&mut self.frames) {
+            self.frames.truncate(before);
             return Err(error);
         }
         Ok(())
@@ -135,31 +135,18 @@ impl Cmd {
         ensures memory { OnlyMemory result }
         ensures unchanged { OnErr result (self.new ≡ self.old) }
     {
-        let texts = decimals(self.alloc, cursor, self.cursors.len())?;
-        self.cursors.reserve(1)?;
-        let place = self.args.len();
-        self.args
-            .write_arg(Buffer::new().format(cursor).as_bytes())?;
-        let earlier = self.cursors.as_slice();
-        put_texts(&mut self.args, earlier, texts);
+        let place = self.count();
         self.cursors.push(place)?;
-        self.cursor = Some(cursor);
+        self.cursor.replace(cursor);
         Ok(())
     }
 
     /// Sets the command's cursor: every cursor argument is sent as this one, in decimal. It is what
-    /// a scan does between its requests, and adds no argument.
-    ///
-    /// Fails only with `OutOfMemory`; the command is then as it was.
-    pub fn set_cursor(&mut self, cursor: u64) -> RedisResult<()>
-        ensures set { OnOk result (self.new ≡ with_cursor cursor self.old) }
-        ensures memory { OnlyMemory result }
-        ensures unchanged { OnErr result (self.new ≡ self.old) }
+    /// a scan does between its requests, and adds no argument. Takes no memory.
+    pub fn set_cursor(&mut self, cursor: u64)
+        ensures { self.new ≡ with_cursor cursor self.old }
     {
-        let texts = decimals(self.alloc, cursor, self.cursors.len())?;
-        put_texts(&mut self.args, self.cursors.as_slice(), texts);
         self.cursor = Some(cursor);
-        Ok(())
     }
 
     /// Whether a cursor was set.
@@ -175,7 +162,15 @@ impl Cmd {
         ensures count { length (args_left result) ≡ length self.now.args }
         ensures cursors { HoldsCursor self.now.args self.now.cursor self.now.cursors }
     {
-        ArgsIter::over(self.args.as_slice(), self.cursors.as_slice())
+        ArgsIter::over(&self.frames, self.cursors.as_slice())
+    }
+
+    /// The frames of the ordinary arguments (`$`, the length, CR LF, the bytes, CR LF), joined in
+    /// order. Takes no memory.
+    pub fn framed(&self) -> &[u8]
+        ensures { result.now ≡ framed_args self.now.args self.now.cursors }
+    {
+        self.frames.as_bytes()
     }
 
     /// Takes all arguments and the cursor away, and waits for a reply again, as a new command does.
@@ -183,7 +178,7 @@ impl Cmd {
     pub fn clear(&mut self)
         ensures { self.new ≡ new_command }
     {
-        self.args.clear();
+        self.frames.clear();
         self.cursor = None;
         self.cursors.clear();
         self.no_response = false;
@@ -204,7 +199,7 @@ impl Cmd {
     {
         Ok(Cmd {
             alloc: self.alloc,
-            args: self.args.try_clone(self.alloc)?,
+            frames: self.frames.try_clone(self.alloc)?,
             cursor: self.cursor,
             cursors: Vec::from_slice(self.alloc, self.cursors.as_slice())?,
             no_response: self.no_response,
@@ -215,7 +210,25 @@ impl Cmd {
     pub fn is_empty(&self) -> bool
         ensures { IsTrue result ↔ (self.now.args ≡ []) }
     {
-        self.args.is_empty()
+        self.count() == 0
+    }
+
+    /// Whether the last argument is a cursor argument.
+    fn ends_in_cursor(&self) -> bool
+        requires { 0 < length self.now.args }
+        ensures { IsTrue result ↔ EndsInCursor self.now.args self.now.cursors }
+    {
+        match self.cursors.last() {
+            Some(place) => *place == self.count() - 1,
+            None => false,
+        }
+    }
+
+    /// How many arguments there are.
+    fn count(&self) -> usize
+        ensures { result ≡ length self.now.args }
+    {
+        self.frames.len() + self.cursors.len()
     }
 
     /// The bytes that send the command, as [`pack_command`](crate::pack_command) gives them; no
@@ -224,10 +237,7 @@ impl Cmd {
         ensures packed { IfOk result (λ bytes. bytes.items ≡ packed_or_none self.now.args) }
         ensures memory { OnlyMemory result }
     {
-        if self.args.is_empty() {
-            return Ok(Vec::new(self.alloc));
-        }
-        pack_command(self.alloc, self.args.as_slice())
+        self.get_packed_command_with_cursor(self.cursor.unwrap_or(0))
     }
 
     /// The bytes that send the command with this cursor. Fails only with `OutOfMemory`.
@@ -235,9 +245,25 @@ impl Cmd {
         ensures packed { IfOk result (λ bytes. bytes.items ≡ request self.now cursor) }
         ensures memory { OnlyMemory result }
     {
-        let mut command = self.try_clone()?;
-        command.set_cursor(cursor)?;
-        command.get_packed_command()
+        let mut bytes = Vec::new(self.alloc);
+        if self.is_empty() {
+            return Ok(bytes);
+        }
+        self.append_packed(cursor, &mut bytes)?;
+        Ok(bytes)
+    }
+
+    /// Appends the bytes that send the command with this cursor; refused, it leaves more behind the
+    /// old bytes.
+    fn append_packed(&self, cursor: u64, out: &mut Vec<u8>) -> RedisResult<()>
+        ensures written { OnOk result (out.new.items
+            ≡ out.old.items ++ packed (with_cursor cursor self.now).args) }
+        ensures prefix { take (length out.old.items) out.new.items ≡ out.old.items }
+        ensures memory { OnlyMemory result }
+    {
+        let mut buffer = Buffer::new();
+        let text = buffer.format(cursor).as_bytes();
+        append_pieces(out, &self.frames, self.cursors.as_slice(), text)
     }
 
     /// Appends the bytes that send the command; an empty command gives `*0` and CR LF. On
@@ -247,7 +273,12 @@ impl Cmd {
         ensures unchanged { OnErr result (out.new.items ≡ out.old.items) }
         ensures memory { OnlyMemory result }
     {
-        write_packed(out, self.args.as_slice())
+        let before = out.len();
+        if let Err(error) = self.append_packed(self.cursor.unwrap_or(0), out) {
+            out.truncate(before);
+            return Err(error);
+        }
+        Ok(())
     }
 
     /// Says whether a reply is waited for; `true`: none is.
@@ -353,7 +384,8 @@ impl RedisWrite for Cmd {
         ensures memory { OnlyMemory result }
         ensures rest { self.new ≡ record self.old { args = self.new.args } }
     {
-        self.args.write_arg(arg)
+        self.frames.push(arg)?;
+        Ok(())
     }
 
     fn open_arg(&mut self) -> RedisResult<()>
@@ -362,7 +394,8 @@ impl RedisWrite for Cmd {
         ensures memory { OnlyMemory result }
         ensures rest { self.new ≡ record self.old { args = self.new.args } }
     {
-        self.args.open_arg()
+        self.frames.push(&[])?;
+        Ok(())
     }
 
     /// Appends bytes to the last argument, which has to be there. A cursor argument keeps its text
@@ -376,8 +409,14 @@ impl RedisWrite for Cmd {
         ensures whole { OnOk result (self.new ≡ with_extended_arg more.now self.old) }
         ensures unchanged { OnErr result (self.new ≡ self.old) }
     {
-        self.args.extend_arg(more)?;
-        keep_below(&mut self.cursors, self.args.len() - 1);
+        if !self.ends_in_cursor() {
+            self.frames.extend_last(more)?;
+            return Ok(());
+        }
+        let mut buffer = Buffer::new();
+        let text = buffer.format(self.cursor.unwrap_or(0)).as_bytes();
+        self.frames.push_both(text, more)?;
+        self.cursors.pop();
         Ok(())
     }
 
@@ -391,6 +430,6 @@ impl RedisWrite for Cmd {
         ensures memory { OnlyMemory result }
         ensures rest { self.new ≡ self.old }
     {
-        self.args.reserve_space_for_args(additional)
+        self.frames.reserve_space_for_args(additional)
     }
 }

@@ -9,7 +9,7 @@ ghost use Rattle.resp_args.specs.Args.{extended};
 ghost use Rattle.resp_command.specs.Packed.{bulk};
 ghost use Rattle.resp_command.specs.Frames.{IsFramed, args_at};
 
-use crate::framing::{append_frame, extend_frame};
+use crate::framing::{FRAME, append_frame, extend_frame};
 use resp_args::RedisWrite;
 use resp_value::RedisResult;
 use std::alloc::{AllocError, Global};
@@ -57,7 +57,8 @@ impl Frames {
         ensures { self.new ≡ self.old }
     {
         self.spans.reserve(count)?;
-        self.bytes.reserve(size)
+        self.bytes
+            .reserve(size.saturating_add(count.saturating_mul(FRAME)))
     }
 
     /// How many arguments there are.

@@ -9,7 +9,10 @@ ghost use Rattle.resp_command.specs.Packed.{bulk};
 use itoa::Buffer;
 use std::alloc::AllocError;
 
-/// The room that is made for later arguments with the first one.
+/// The room for what stands around an argument.
+pub const FRAME: usize = 25;
+
+/// The room that is made for the first argument's frame and for later arguments.
 const SPARE: usize = 96;
 
 /// Appends an argument's frame, and answers where the argument ends; refused, the bytes are as they
@@ -32,9 +35,8 @@ pub fn write_frame(bytes: &mut Vec<u8>, arg: &[u8]) -> Result<(), AllocError>
     ensures ok { OnOk result (bytes.new.items ≡ bytes.old.items ++ bulk arg.now) }
     ensures err { OnErr result (take (length bytes.old.items) bytes.new.items ≡ bytes.old.items) }
 {
-    if bytes.is_empty() {
-        bytes.reserve(arg.len() + SPARE)?;
-    }
+    let spare = if bytes.is_empty() { SPARE } else { FRAME };
+    bytes.reserve(arg.len() + spare)?;
     bytes.push(b'$')?;
     bytes.extend_from_slice(Buffer::new().format(arg.len()).as_bytes())?;
     bytes.extend_from_slice(b"\r\n")?;

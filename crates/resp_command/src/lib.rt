@@ -5,7 +5,6 @@ mod args_iter;
 mod batch;
 mod command;
 mod connection;
-mod cursors;
 mod frames;
 mod framing;
 pub mod laws;

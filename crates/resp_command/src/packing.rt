@@ -1,10 +1,13 @@
 //! Requests as bytes.
 
-ghost use Rattle.std.specs.Prelude.{◌≡◌, ◌++◌, length, take, IfOk, OnOk, OnErr};
+ghost use Rattle.std.specs.Prelude.{◌≡◌, ◌++◌, length, map, take, IfOk, OnOk};
 ghost use Rattle.resp_errors.specs.Memory.{OnlyMemory};
 ghost use Rattle.resp_args.specs.Args.{args_of};
 ghost use Rattle.resp_command.specs.Packed.{length_line, bulk, packed};
+ghost use Rattle.resp_command.specs.Pieces.{IsWoven, sent, woven};
 
+use crate::frames::Frames;
+use crate::framing::FRAME;
 use itoa::Buffer;
 use resp_value::RedisResult;
 use std::alloc::Global;
@@ -22,17 +25,39 @@ pub fn pack_command(alloc: Global, args: &[Vec<u8>]) -> RedisResult<Vec<u8>>
     Ok(bytes)
 }
 
-/// Appends a packed command; on `OutOfMemory` the bytes are as they were.
-pub fn write_packed(out: &mut Vec<u8>, args: &[Vec<u8>]) -> RedisResult<()>
-    ensures written { OnOk result (out.new.items ≡ out.old.items ++ packed (args_of args.now)) }
-    ensures unchanged { OnErr result (out.new.items ≡ out.old.items) }
+/// Appends a packed command of these arguments with cursors of this text at the places; refused, it
+/// leaves more behind the old bytes.
+pub fn append_pieces(
+    out: &mut Vec<u8>,
+    frames: &Frames,
+    cursors: &[usize],
+    text: &[u8],
+) -> RedisResult<()>
+    requires { IsWoven cursors.now frames.now }
+    ensures written { OnOk result (out.new.items ≡ out.old.items
+        ++ packed (map (sent text.now) (woven 0 cursors.now frames.now))) }
+    ensures prefix { take (length out.old.items) out.new.items ≡ out.old.items }
     ensures memory { OnlyMemory result }
 {
-    let before = out.len();
-    if let Err(error) = append_packed(out, args) {
-        out.truncate(before);
-        return Err(error);
+    let room = cursors.len().saturating_mul(text.len() + FRAME);
+    out.reserve(
+        frames
+            .as_bytes()
+            .len()
+            .saturating_add(room)
+            .saturating_add(FRAME),
+    )?;
+    append_length_line(out, b'*', frames.len() + cursors.len())?;
+    let mut done = 0;
+    let mut passed = 0;
+    for place in cursors {
+        let next = *place - passed;
+        out.extend_from_slice(frames.range(done, next))?;
+        append_bulk(out, text)?;
+        done = next;
+        passed += 1;
     }
+    out.extend_from_slice(frames.range(done, frames.len()))?;
     Ok(())
 }
 

@@ -1,5 +1,5 @@
 -- The grammar reads a pipeline's bytes as the arrays of its commands, and as nothing else.
-use Rattle.std.specs.Prelude.{ℕ, ◌<◌, ◌^◌, length}
+use Rattle.std.specs.Prelude.{◌<◌, ◌^◌, length}
 use Rattle.resp_command.specs.PackingLaw.{ReadsOnly}
 use Rattle.resp_core.specs.Pipeline.{Plan, request, as_values}
 

@@ -1,5 +1,5 @@
 -- What the query of a pipeline over a connection does: its theorem.
-use Rattle.std.specs.Prelude.{◌≡◌, ℕ, ◌⊎◌, true, false, List, Result, None, codes}
+use Rattle.std.specs.Prelude.{◌≡◌, ◌⊎◌, true, false, Result, None, codes}
 use Rattle.resp_value.specs.declared.value.Value.{Value}
 use Rattle.resp_errors.specs.declared.kinds.ErrorKind.TheVariants as kind
 use Rattle.resp_errors.specs.declared.redis_error.RedisError.{RedisError}

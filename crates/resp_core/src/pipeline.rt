@@ -23,6 +23,9 @@ use std::alloc::{AllocError, Global};
 use std::marker::Model;
 use std::slice;
 
+/// The room for what stands before a command's arguments, or around a transaction's commands.
+const SPARE: usize = 32;
+
 /// Commands that are sent at once, and whose replies are answered together.
 ///
 /// ```text
@@ -245,6 +248,7 @@ impl Pipeline {
         ensures memory { OnlyMemory result }
     {
         let mut bytes = Vec::new(self.alloc);
+        bytes.reserve(room_for(self.commands.as_slice()))?;
         if !self.atomic {
             append_commands(&mut bytes, self.commands.as_slice())?;
             return Ok(bytes);
@@ -368,6 +372,17 @@ fn unsupported() -> RedisError
         ErrorKind::Client,
         "This connection does not support pipelining.",
     ))
+}
+
+/// As many bytes as packed commands take that have no cursor arguments, and some more.
+fn room_for(commands: &[Cmd]) -> usize {
+    let mut room = SPARE;
+    for command in commands {
+        room = room
+            .saturating_add(command.framed().len())
+            .saturating_add(SPARE);
+    }
+    room
 }
 
 fn append_commands(out: &mut Vec<u8>, commands: &[Cmd]) -> RedisResult<()>

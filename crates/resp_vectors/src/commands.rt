@@ -100,11 +100,17 @@ pub fn refused_map(rt: &(impl Abort + AllocGlobal)) -> BTreeMap<(i64, i64), i64>
 #[test]
 fn refused_argument_changes_nothing(rt: HostRuntime) {
     let mut command = cmd(rt.alloc(), "HSET").expect(&rt, "no refusal");
+    command.push_arg("key").expect(&rt, "no refusal");
+    command.push_arg(7i32).expect(&rt, "no refusal");
     match command.arg(refused_map(&rt)) {
         Ok(_command) => assert!(rt; false),
         Err(error) => assert_eq!(rt; error.kind(), ErrorKind::Client),
     }
-    packs_as(&rt, &command, b"*1\r\n$4\r\nHSET\r\n");
+    packs_as(
+        &rt,
+        &command,
+        b"*3\r\n$4\r\nHSET\r\n$3\r\nkey\r\n$1\r\n7\r\n",
+    );
 }
 
 #[test]

@@ -73,6 +73,7 @@ fn the_latest_cursor_is_sent(rt: HostRuntime) {
     packs_as(&rt, &command, packed.as_bytes());
     let wanted = [simple("A"), Arg::Cursor, simple("b"), Arg::Cursor];
     shows_as(&rt, &command, wanted.as_slice());
+    assert_eq!(rt; command.framed(), b"$1\r\nA\r\n$1\r\nb\r\n".as_slice());
 }
 
 #[test]
@@ -80,7 +81,7 @@ fn a_cursor_is_set(rt: HostRuntime) {
     let mut command = cmd(rt.alloc(), "A").expect(&rt, "no refusal");
     let _ = command.cursor_arg(10).expect(&rt, "no refusal");
     command.push_arg("b").expect(&rt, "no refusal");
-    command.set_cursor(7).expect(&rt, "no refusal");
+    command.set_cursor(7);
     packs_as(&rt, &command, b"*3\r\n$1\r\nA\r\n$1\r\n7\r\n$1\r\nb\r\n");
 }
 
@@ -91,8 +92,8 @@ fn copies_keep_the_cursor(rt: HostRuntime) {
     let mut copy = command.try_clone().expect(&rt, "no refusal");
     let mut taken = command.take();
     assert!(rt; !command.in_scan_mode());
-    copy.set_cursor(4).expect(&rt, "no refusal");
-    taken.set_cursor(5).expect(&rt, "no refusal");
+    copy.set_cursor(4);
+    taken.set_cursor(5);
     packs_as(&rt, &copy, b"*2\r\n$1\r\nA\r\n$1\r\n4\r\n");
     packs_as(&rt, &taken, b"*2\r\n$1\r\nA\r\n$1\r\n5\r\n");
 }
@@ -114,7 +115,7 @@ fn an_extended_cursor_is_an_ordinary_argument(rt: HostRuntime) {
     let mut command = cmd(rt.alloc(), "A").expect(&rt, "no refusal");
     let _ = command.cursor_arg(3).expect(&rt, "no refusal");
     command.extend_arg(b"x").expect(&rt, "no refusal");
-    command.set_cursor(4).expect(&rt, "no refusal");
+    command.set_cursor(4);
     packs_as(&rt, &command, b"*2\r\n$1\r\nA\r\n$2\r\n3x\r\n");
     let wanted = [simple("A"), simple("3x")];
     shows_as(&rt, &command, wanted.as_slice());

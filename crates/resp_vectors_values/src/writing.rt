@@ -90,6 +90,22 @@ fn an_argument_is_written_in_pieces(rt: HostRuntime) {
 }
 
 #[test]
+fn a_length_gains_digits(rt: HostRuntime) {
+    let mut command = Cmd::new(rt.alloc());
+    let mut writer = command.writer_for_next_arg().expect(&rt, "no refusal");
+    writer.write_all(b"123456789").expect(&rt, "no refusal");
+    writer.write_all(b"0").expect(&rt, "no refusal");
+    drop(writer);
+    packs(&rt, &command, "*1\r\n$10\r\n1234567890\r\n");
+    command.extend_arg(&[b'x'; 89]).expect(&rt, "no refusal");
+    command.extend_arg(b"y").expect(&rt, "no refusal");
+    let packed = command.get_packed_command().expect(&rt, "no refusal");
+    assert_eq!(rt; packed.len(), 112);
+    assert!(rt; packed.starts_with(b"*1\r\n$100\r\n1234567890x"));
+    assert!(rt; packed.ends_with(b"xy\r\n"));
+}
+
+#[test]
 fn an_argument_that_isnt_written_is_empty(rt: HostRuntime) {
     let mut command = Cmd::new(rt.alloc());
     let mut writer = command.writer_for_next_arg().expect(&rt, "no refusal");

@@ -1,16 +1,17 @@
-use Rattle.std.proofs.Common.{◌≡◌, ◌∙◌, ap, length}
-use Rattle.resp_command.specs.ShownArgs.{args_left, walked_from}
-use Rattle.resp_command.proofs.ArgsWalk.{walk_shows, walk_counted}
+use Rattle.std.proofs.Common.{◌≡◌, ◌∙◌, ap, sym, ℕ, List}
+use Rattle.resp_command.specs.ShownArgs.{args_left}
+use Rattle.resp_command.specs.Pieces.{woven}
+use Rattle.resp_command.proofs.PiecesAgree.{shown_pieces, holds_cursor}
 use Rattle.resp_command.proofs.command.Cmd.args_iter.Goals as goal
 
 pub returns-clause-shown : goal.returns-clause-shown
 returns-clause-shown c =
     let inside = c.self.inside in
-    let left : args_left c.over.result ≡ walked_from 0 inside.args inside.cursors.items = rw (← c.as_slice.ensures, ← c.as_slice-2.ensures.value) c.over.ensures in
-    rw (← c.self.view_is) (left ∙ walk_shows 0 (length inside.args) inside.args inside.cursors.items c.self.invariant.ascend)
+    let h = c.self.invariant.are_woven in
+    let left : args_left c.over.result ≡ woven 0 inside.cursors.items inside.frames = c.over.ensures ∙ ap (λ (places : List ℕ). woven 0 places inside.frames) c.as_slice.ensures.value in
+    rw (← c.self.view_is) (left ∙ sym (shown_pieces inside.cursor inside.cursors.items inside.frames h))
 
-pub returns-clause-count : goal.returns-clause-count
-returns-clause-count c =
+pub returns-clause-cursors : goal.returns-clause-cursors
+returns-clause-cursors c =
     let inside = c.self.inside in
-    let left : args_left c.over.result ≡ walked_from 0 inside.args inside.cursors.items = rw (← c.as_slice.ensures, ← c.as_slice-2.ensures.value) c.over.ensures in
-    rw (← c.self.view_is) (ap length left ∙ walk_counted 0 inside.args inside.cursors.items)
+    rw (← c.self.view_is) (holds_cursor inside.cursor inside.cursors.items inside.frames c.self.invariant)

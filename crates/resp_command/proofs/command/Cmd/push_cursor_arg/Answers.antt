@@ -1,16 +1,25 @@
-use Rattle.std.proofs.Common.{◌≡◌, ◌∙◌, ◌∷◌, [], ◌++◌, ℕ, List, length, replicate, decimal, ap, sym}
-use Rattle.resp_args.specs.Args.{Args, args_of}
-use Rattle.resp_command.specs.Cursors.{with_text_at}
-use Rattle.resp_command.proofs.CursorArgs.{holds_added}
+use Rattle.std.proofs.Common.{◌≡◌, refl, ◌+◌, ◌++◌, ◌∷◌, [], ◌∙◌, ℕ, List, Option, Some, ap, sym, subst, length}
+use Rattle.resp_command.specs.Pieces.{Keeps, sent_args}
+use Rattle.resp_command.proofs.PiecesAgree.{keeps_added, sent-counted, sent-cursor-added}
 use Rattle.resp_command.proofs.command.Cmd.push_cursor_arg.Goals as goal
 
 pub invariant_of-self-2 : goal.invariant_of-self-2
 invariant_of-self-2 c =
     let inside = c.self.inside in
-    let text = decimal c.args.cursor in
-    let kept = c.in_ok-reserve.ensures in
-    let grown : c.write_arg.new.self ≡ inside.args ++ text ∷ [] = c.in_ok-write_arg.ensures.ok ∙ ap (λ (t : List ℕ). inside.args ++ t ∷ []) (c.as_bytes.ensures.value ∙ c.format.ensures.text) in
-    let copies : args_of c.in_ok-texts.texts.items ≡ replicate (length c.as_slice-earlier.result.now) text = c.in_ok-texts.ensures.copies ∙ ap (λ (n : ℕ). replicate n text) (c.len.ensures ∙ sym (c.as_slice-earlier.ensures.len ∙ kept.len)) in
-    let put : c.put_texts.new.args ≡ with_text_at text inside.cursors.items (inside.args ++ text ∷ []) = c.put_texts.ensures text copies ∙ ap (λ (places : List ℕ). with_text_at text places c.write_arg.new.self) (c.as_slice-earlier.ensures.value ∙ kept.items) ∙ ap (λ (args : Args). with_text_at text inside.cursors.items args) grown in
-    let pushed : c.push.new.self.items ≡ inside.cursors.items ++ length inside.args ∷ [] = c.in_ok-push.ensures.items ∙ ap (λ (places : List ℕ). places ++ c.len-place.result ∷ []) kept.items ∙ ap (λ (n : ℕ). inside.cursors.items ++ n ∷ []) c.len-place.ensures in
-    rw (put, pushed) (holds_added c.args.cursor inside.args inside.cursor inside.cursors.items c.self.invariant)
+    let n : c.count-place.result ≡ length inside.frames + length inside.cursors.items =
+    c.count-place.ensures ∙ sym (ap (λ d. length d.args) c.self.view_is) ∙ sent-counted inside.cursor inside.cursors.items inside.frames in
+    let kept = keeps_added inside.cursor c.args.cursor inside.cursors.items inside.frames c.count-place.result c.self.invariant n in
+    subst (λ (cursor : Option ℕ). Keeps cursor c.push.new.self.items inside.frames) (sym c.replace.ensures.after)
+    (subst (λ (cursors : List ℕ). Keeps (Some c.args.cursor) cursors inside.frames) (sym c.in_ok-push.ensures.items) kept)
+
+pub returns-clause-added : goal.returns-clause-added
+returns-clause-added c =
+    let inside = c.self.inside in
+    let place : c.count-place.result ≡ length (sent_args inside.cursor inside.cursors.items inside.frames) = c.count-place.ensures ∙ sym (ap (λ d. length d.args) c.self.view_is) in
+    let n : c.count-place.result ≡ length inside.frames + length inside.cursors.items = place ∙ sent-counted inside.cursor inside.cursors.items inside.frames in
+    let texts = sent-cursor-added c.args.cursor inside.cursor inside.cursors.items inside.frames c.count-place.result c.self.invariant.are_woven n in
+    let pushed = c.in_ok-push.ensures.items in
+    let args = ap (λ (cursors : List ℕ). sent_args (Some c.args.cursor) cursors inside.frames) pushed ∙ sym texts in
+    let places = pushed ∙ ap (λ (k : ℕ). inside.cursors.items ++ k ∷ []) place in
+    let cursor = c.replace.ensures.after in
+    rw (← c.self.view_is, cursor) (rw (← args, ← places) refl)

@@ -1,23 +1,50 @@
-use Rattle.std.proofs.Common.{◌≡◌, ◌∙◌, ℕ, ◌-◌, length, filter, nat_lt, arith, ap}
-use Rattle.resp_args.specs.Args.{extended}
-use Rattle.resp_command.proofs.CursorArgs.{holds_extended, length_extended}
+use Rattle.std.proofs.Common.{◌≡◌, ◌-◌, ◌∙◌, length, take, rules}
+use Rattle.resp_command.proofs.LastPieces.{seen_args, seen_cursor, seen_room, seen_simple, seen_whole}
 use Rattle.resp_command.proofs.command.CmdRedisWrite.extend_arg.Goals as goal
 
-pub overflow_sub-len : goal.overflow_sub-len
-overflow_sub-len c = omega (arith, length_extended c.self.inside.args c.args.more.now, ap length (c.in_ok-extend_arg.ensures.ok), ap (λ d. length d.args) c.self.view_is)
+pub extend_last-requires : goal.extend_last-requires
+extend_last-requires c =
+    let i = c.self.inside in
+    seen_room i.cursor i.cursors.items i.frames c.args.more.now i.no_response c.args.self.now c.self.invariant c.self.view_is c.requires c.if-not-ends_in_cursor.ensures.1
+
+pub invariant_of-self-then-not-ends_in_cursor : goal.invariant_of-self-then-not-ends_in_cursor
+invariant_of-self-then-not-ends_in_cursor c =
+    let i = c.self.inside in
+    let g = seen_simple i.cursor i.cursors.items i.frames c.args.more.now i.no_response c.args.self.now c.self.invariant c.self.view_is c.requires _ c.in_ok-extend_last.ensures c.if-not-ends_in_cursor.ensures.1 in
+    g.keeps
+
+pub returns-then-not-ends_in_cursor-clause-ok : goal.returns-then-not-ends_in_cursor-clause-ok
+returns-then-not-ends_in_cursor-clause-ok c =
+    let i = c.self.inside in
+    let g = seen_simple i.cursor i.cursors.items i.frames c.args.more.now i.no_response c.args.self.now c.self.invariant c.self.view_is c.requires _ c.in_ok-extend_last.ensures c.if-not-ends_in_cursor.ensures.1 in
+    seen_args i.cursor i.cursors.items i.frames c.args.more.now i.no_response c.args.self.now c.self.invariant c.self.view_is c.requires _ _ g
+
+pub returns-then-not-ends_in_cursor-clause-whole : goal.returns-then-not-ends_in_cursor-clause-whole
+returns-then-not-ends_in_cursor-clause-whole c =
+    let i = c.self.inside in
+    let g = seen_simple i.cursor i.cursors.items i.frames c.args.more.now i.no_response c.args.self.now c.self.invariant c.self.view_is c.requires _ c.in_ok-extend_last.ensures c.if-not-ends_in_cursor.ensures.1 in
+    seen_whole i.cursor i.cursors.items i.frames c.args.more.now i.no_response c.args.self.now c.self.invariant c.self.view_is c.requires _ _ g
 
 pub invariant_of-self-2 : goal.invariant_of-self-2
 invariant_of-self-2 c =
-    let inside = c.self.inside in
-    let same : c.extend_arg.new.self ≡ extended inside.args c.args.more.now = c.in_ok-extend_arg.ensures.ok in
-    let count : c.len.result ≡ length inside.args = c.len.ensures ∙ ap length same ∙ length_extended inside.args c.args.more.now in
-    let kept : c.keep_below.new.places.items ≡ filter (λ place. nat_lt place (length inside.args - 1)) inside.cursors.items = c.keep_below.ensures ∙ ap (λ (n : ℕ). filter (λ place. nat_lt place (n - 1)) inside.cursors.items) count in
-    rw (same, kept) (holds_extended inside.args c.args.more.now inside.cursor inside.cursors.items c.self.invariant)
+    let i = c.self.inside in
+    let left : c.pop.new.self.items ≡ take (length i.cursors.items - 1) i.cursors.items = search rules in
+    let g = seen_cursor i.cursor i.cursors.items i.frames c.args.more.now i.no_response c.args.self.now c.self.invariant c.self.view_is c.requires
+    _ _ _ _ c.unwrap_or.ensures (c.as_bytes-text.ensures.value ∙ c.format.ensures.text) left c.in_ok-push_both.ensures c.if-not-ends_in_cursor.ensures.0 in
+    g.keeps
+
+pub returns-clause-ok : goal.returns-clause-ok
+returns-clause-ok c =
+    let i = c.self.inside in
+    let left : c.pop.new.self.items ≡ take (length i.cursors.items - 1) i.cursors.items = search rules in
+    let g = seen_cursor i.cursor i.cursors.items i.frames c.args.more.now i.no_response c.args.self.now c.self.invariant c.self.view_is c.requires
+    _ _ _ _ c.unwrap_or.ensures (c.as_bytes-text.ensures.value ∙ c.format.ensures.text) left c.in_ok-push_both.ensures c.if-not-ends_in_cursor.ensures.0 in
+    seen_args i.cursor i.cursors.items i.frames c.args.more.now i.no_response c.args.self.now c.self.invariant c.self.view_is c.requires _ _ g
 
 pub returns-clause-whole : goal.returns-clause-whole
 returns-clause-whole c =
-    let inside = c.self.inside in
-    let same : c.extend_arg.new.self ≡ extended inside.args c.args.more.now = c.in_ok-extend_arg.ensures.ok in
-    let count : c.len.result ≡ length inside.args = c.len.ensures ∙ ap length same ∙ length_extended inside.args c.args.more.now in
-    let kept : c.keep_below.new.places.items ≡ filter (λ place. nat_lt place (length inside.args - 1)) inside.cursors.items = c.keep_below.ensures ∙ ap (λ (n : ℕ). filter (λ place. nat_lt place (n - 1)) inside.cursors.items) count in
-    rw (← c.self.view_is) (cc (same, kept))
+    let i = c.self.inside in
+    let left : c.pop.new.self.items ≡ take (length i.cursors.items - 1) i.cursors.items = search rules in
+    let g = seen_cursor i.cursor i.cursors.items i.frames c.args.more.now i.no_response c.args.self.now c.self.invariant c.self.view_is c.requires
+    _ _ _ _ c.unwrap_or.ensures (c.as_bytes-text.ensures.value ∙ c.format.ensures.text) left c.in_ok-push_both.ensures c.if-not-ends_in_cursor.ensures.0 in
+    seen_whole i.cursor i.cursors.items i.frames c.args.more.now i.no_response c.args.self.now c.self.invariant c.self.view_is c.requires _ _ g
