@@ -8,7 +8,7 @@ pub use resp_errors::laws::law_of_equal_errors;
 pub use resp_laws::{
     SingleKey, SingleValued, law_of_one_value, law_of_owned_and_borrowed, law_of_written_scalars,
 };
-pub use resp_parse::laws::{law_of_prefixes, law_of_sizes};
+pub use resp_parse::laws::{law_of_completion, law_of_prefixes, law_of_sizes};
 
 /// The bytes of a pipeline, up to 2^63 - 1 of them, are read by the grammar as the arrays of its
 /// commands, in order, and as nothing else.

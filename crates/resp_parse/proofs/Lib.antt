@@ -6,6 +6,7 @@ pub mod BuiltOf
 pub mod ByteTests
 pub mod ElementReads
 pub mod BodiesInPieces
+pub mod Completions
 pub mod Counting
 pub mod Driving
 pub mod FewDigits

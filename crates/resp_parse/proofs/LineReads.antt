@@ -8,7 +8,7 @@ use Rattle.resp_parse.specs.PlainReading.{ReadOutcome, got, fault, unfinished, t
 use Rattle.resp_parse.proofs.ByteTests.{not_true, eq_true}
 use Rattle.resp_parse.proofs.ReadingsInSequence.{then-fault, at_first, at_next}
 
-line-later : (b c : ℕ) (bs text rest : List ℕ) → ((b ≡ 13) → (c ≡ 10) → ⊥) → line (c ∷ bs) ≡ got text rest → line (b ∷ c ∷ bs) ≡ got (b ∷ text) rest
+pub line-later : (b c : ℕ) (bs text rest : List ℕ) → ((b ≡ 13) → (c ≡ 10) → ⊥) → line (c ∷ bs) ≡ got text rest → line (b ∷ c ∷ bs) ≡ got (b ∷ text) rest
 line-later b c bs text rest apart e =
     let here : ((b == 13) && (c == 10)) ≡ false = not_true _ (λ t. let p = and_parts _ _ t in apart ((Decides-eqb b 13).0 p.0) ((Decides-eqb c 10).0 p.1)) in
     rw (here, e) refl

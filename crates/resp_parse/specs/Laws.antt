@@ -1,4 +1,5 @@
--- The law of prefixes: bytes have at most one reading, however they go on.
+-- The laws of the grammar: bytes have at most one reading, however they go on, and while they have
+-- none they can go on to one.
 use Rattle.std.specs.Prelude.{◌≡◌, ℕ, List, ◌++◌}
 use Rattle.resp_value.specs.declared.value.Value.{Value}
 use Rattle.resp_errors.specs.declared.kinds.FrameFault.{FrameFault}
@@ -11,3 +12,9 @@ pub record LawOfPrefixes (d : ℕ) (a x b y : List ℕ) : Type 0 where
   pub faults : (f g : FrameFault) → a ++ x ≡ b ++ y → Faulty d a f → Faulty d b g →
       (a ≡ b) × (f ≡ g)
   pub apart : (v : Value) (f : FrameFault) → a ++ x ≡ b ++ y → Good d a v → Faulty d b f → ⊥
+
+-- bytes that go on to where a fault shows
+pub record Completion (d : ℕ) (b : List ℕ) : Type 0 where
+  pub more : List ℕ
+  pub fault : FrameFault
+  pub faulty : Faulty d (b ++ more) fault

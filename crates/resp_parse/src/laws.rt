@@ -4,7 +4,8 @@ ghost use Rattle.std.specs.Prelude.{ℕ, List, length, ◌*◌, ◌≤◌};
 ghost use Rattle.resp_value.specs.declared.value.Value.{Value};
 ghost use Rattle.resp_parse.specs.Built.{built};
 ghost use Rattle.resp_parse.specs.Grammar.{Good};
-ghost use Rattle.resp_parse.specs.Laws.{LawOfPrefixes};
+ghost use Rattle.resp_parse.specs.Laws.{Completion, LawOfPrefixes};
+ghost use Rattle.resp_parse.specs.Prefixes.{IsUnfinished};
 
 /// Bytes have at most one reading, however they go on.
 ///
@@ -12,6 +13,12 @@ ghost use Rattle.resp_parse.specs.Laws.{LawOfPrefixes};
 /// fault, both are one prefix, and have the same value or the same fault.
 pub fn law_of_prefixes()
     ensures law { (d : ℕ) (a x b y : List ℕ) → LawOfPrefixes d a x b y }
+{}
+
+/// Unfinished bytes never stay unfinished whatever follows: of any that are, at each number of
+/// levels, some go on to where a fault shows. So a parser that waits for more waits for something.
+pub fn law_of_completion()
+    ensures law { (d : ℕ) (b : List ℕ) → IsUnfinished d b → Completion d b }
 {}
 
 /// A value is built of at most one third as many values as it has bytes, itself among them,
