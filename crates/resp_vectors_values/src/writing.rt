@@ -97,12 +97,14 @@ fn a_length_gains_digits(rt: HostRuntime) {
     writer.write_all(b"0").expect(&rt, "no refusal");
     drop(writer);
     packs(&rt, &command, "*1\r\n$10\r\n1234567890\r\n");
-    command.extend_arg(&[b'x'; 89]).expect(&rt, "no refusal");
-    command.extend_arg(b"y").expect(&rt, "no refusal");
+    let mut writer = command.writer_for_next_arg().expect(&rt, "no refusal");
+    writer.write_all(&[b'x'; 99]).expect(&rt, "no refusal");
+    writer.write_all(b"y").expect(&rt, "no refusal");
+    drop(writer);
     let packed = command.get_packed_command().expect(&rt, "no refusal");
-    assert_eq!(rt; packed.len(), 112);
-    assert!(rt; packed.starts_with(b"*1\r\n$100\r\n1234567890x"));
-    assert!(rt; packed.ends_with(b"xy\r\n"));
+    assert_eq!(rt; packed.len(), 129);
+    assert!(rt; packed.starts_with(b"*2\r\n$10\r\n1234567890\r\n$100\r\nxx"));
+    assert!(rt; packed.ends_with(b"xxy\r\n"));
 }
 
 #[test]
