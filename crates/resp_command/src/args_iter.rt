@@ -24,7 +24,8 @@ pub struct ArgsIter<'a> {
 }
 
 impl<'a> ArgsIter<'a> {
-    ghost use Rattle.std.specs.Prelude.{◌+◌, ◌<◌, ◌∷◌, [], ℕ, List, IsTrue, not, length, None, Some};
+    ghost use Rattle.std.specs.Prelude.{◌+◌, ◌<◌, ◌∷◌, [], ℕ, List, IsTrue, not, length};
+    ghost use Rattle.std.specs.Prelude.{None, Some};
     ghost use Rattle.resp_command.specs.declared.args_iter.Arg.TheVariants.{Cursor, Simple};
     ghost use Rattle.resp_command.specs.Pieces.{woven};
     ghost use Rattle.resp_command.specs.ShownArgs.{args_left};
