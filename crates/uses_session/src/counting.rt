@@ -1,10 +1,11 @@
 //! A number that several clients may raise: a transaction that is tried again where another client
 //! was faster.
 
-ghost use Rattle.std.specs.Prelude.{◌≡◌, ◌+ℤ◌, pos, IfOk, IfSome, IsTrue};
+ghost use Rattle.std.specs.Prelude.{◌≡◌, ◌+ℤ◌, pos, IfOk, IfSome, IsTrue, OnOk, codes};
 ghost use Rattle.resp_core.specs.Connections.{CommandQuery};
 ghost use Rattle.resp_core.specs.PipelineQuery.{PipelineQuery};
-ghost use Rattle.uses_session.specs.Counting.{CountedUp, getting, or_zero, setting};
+ghost use Rattle.uses_session.specs.Counting.{CountedUp, WatchedAndRead, of_key, or_zero};
+ghost use Rattle.uses_session.specs.Counting.{setting};
 
 use resp_core::{
     ConnectionLike, ErrorKind, FromRedisValue, Pipeline, RedisError, RedisResult, cmd, pipe,
@@ -14,8 +15,8 @@ use std::alloc::Global;
 /// Raises the number of a key by one and answers what it is then; `None` where other clients
 /// changed it during each of so many attempts.
 ///
-/// A number that is answered is one more than was read last, and was set by the last request, a
-/// transaction that was not aborted.
+/// A number that is answered is one more than was read after the key was watched, and was set by
+/// the last request, a transaction that was not aborted.
 pub fn count_up(
     alloc: Global,
     con: &mut dyn ConnectionLike,
@@ -23,7 +24,7 @@ pub fn count_up(
     attempts: u32,
 ) -> RedisResult<Option<i64>>
     ensures { IfOk result (λ found. IfSome found (λ number.
-        CountedUp (⟦<Option<i64> as FromRedisValue>⟧.of_value)
+        CountedUp (⟦<() as FromRedisValue>⟧.of_value) (⟦<Option<i64> as FromRedisValue>⟧.of_value)
         (⟦<Option<()> as FromRedisValue>⟧.of_value) (connection con.new) key.now number)) }
 {
     for _ in 0..attempts {
@@ -38,11 +39,10 @@ pub fn count_up(
 /// was aborted, since another client was in between.
 fn attempt(alloc: Global, con: &mut dyn ConnectionLike, key: &str) -> RedisResult<Option<i64>>
     ensures { IfOk result (λ found. IfSome found (λ number.
-        CountedUp (⟦<Option<i64> as FromRedisValue>⟧.of_value)
+        CountedUp (⟦<() as FromRedisValue>⟧.of_value) (⟦<Option<i64> as FromRedisValue>⟧.of_value)
         (⟦<Option<()> as FromRedisValue>⟧.of_value) (connection con.new) key.now number)) }
 {
-    cmd(alloc, "WATCH")?.arg(key)?.exec(con)?;
-    let number = one_more(number_of(alloc, con, key)?)?;
+    let number = one_more(watch_and_read(alloc, con, key)?)?;
     if set_watched(alloc, con, key, number)? {
         Ok(Some(number))
     } else {
@@ -50,14 +50,40 @@ fn attempt(alloc: Global, con: &mut dyn ConnectionLike, key: &str) -> RedisResul
     }
 }
 
-/// The number of a key, where it has one.
-fn number_of(alloc: Global, con: &mut dyn ConnectionLike, key: &str) -> RedisResult<Option<i64>>
-    ensures { IfOk result (λ held. CommandQuery (connection con.old) (connection con.new)
-        (getting key.now) (⟦<Option<i64> as FromRedisValue>⟧.of_value) (Ok held)) }
+/// Watches the key, and reads its number, where it has one.
+fn watch_and_read(
+    alloc: Global,
+    con: &mut dyn ConnectionLike,
+    key: &str,
+) -> RedisResult<Option<i64>>
+    ensures { IfOk result (λ held. WatchedAndRead (⟦<() as FromRedisValue>⟧.of_value)
+        (⟦<Option<i64> as FromRedisValue>⟧.of_value) (connection con.new) key.now held) }
 {
-    let mut get = cmd(alloc, "GET")?;
-    get.push_arg(key)?;
-    get.query(con)
+    watch(alloc, con, key)?;
+    ask(alloc, con, "GET", key)
+}
+
+/// Watches the key: a transaction is aborted where another client changes it.
+fn watch(alloc: Global, con: &mut dyn ConnectionLike, key: &str) -> RedisResult<()>
+    ensures { OnOk result (CommandQuery (connection con.old) (connection con.new)
+        (of_key (codes "WATCH") key.now) (⟦<() as FromRedisValue>⟧.of_value) (Ok tt)) }
+{
+    ask(alloc, con, "WATCH", key)
+}
+
+/// Sends the command of this name with a key, and converts its reply.
+fn ask<T: FromRedisValue>(
+    alloc: Global,
+    con: &mut dyn ConnectionLike,
+    name: &str,
+    key: &str,
+) -> RedisResult<T>
+    ensures { IfOk result (λ answer. CommandQuery (connection con.old) (connection con.new)
+        (of_key name.now key.now) T.of_value (Ok answer)) }
+{
+    let mut command = cmd(alloc, name)?;
+    command.push_arg(key)?;
+    command.query(con)
 }
 
 /// One more than a number, or than 0 where none is held. Fails with kind `Client` where it would be

@@ -37,11 +37,11 @@ pub struct Learned {
 
 /// Greets the server, leaves a name there, looks at it, and counts a visit.
 ///
-/// Visits that are answered are one more than were read last, and were set by the last request, a
-/// transaction that was not aborted.
+/// Visits that are answered are one more than were read after their key was watched, and were set
+/// by the last request, a transaction that was not aborted.
 pub fn session(alloc: Global, con: &mut dyn ConnectionLike, name: &str) -> RedisResult<Learned>
     ensures { IfOk result (λ learned. IfSome learned.visits (λ visits.
-        CountedUp (⟦<Option<i64> as FromRedisValue>⟧.of_value)
+        CountedUp (⟦<() as FromRedisValue>⟧.of_value) (⟦<Option<i64> as FromRedisValue>⟧.of_value)
         (⟦<Option<()> as FromRedisValue>⟧.of_value) (connection con.new) (codes "visits") visits)) }
 {
     Ok(Learned {
