@@ -11,7 +11,7 @@ ghost use Rattle.resp_command.specs.Frames.{IsFramed, args_at};
 
 use crate::framing::{FRAME, append_frame, extend_frame};
 use resp_args::RedisWrite;
-use resp_value::RedisResult;
+use resp_value::{RedisError, RedisResult};
 use std::alloc::{AllocError, Global};
 use std::marker::Model;
 
@@ -208,6 +208,20 @@ impl RedisWrite for Frames {
 
     fn extend_arg(&mut self, more: &[u8]) -> RedisResult<()> {
         self.extend_last(more)?;
+        Ok(())
+    }
+
+    fn reserve_space_for_args<I: IntoIterator<Item = usize> + Drop>(
+        &mut self,
+        additional: I,
+    ) -> RedisResult<()> {
+        let mut count = 0usize;
+        let mut size = 0usize;
+        for length in additional {
+            count = count.saturating_add(1);
+            size = size.checked_add(length).ok_or(RedisError::OutOfMemory)?;
+        }
+        self.reserve(count, size)?;
         Ok(())
     }
 }
