@@ -43,7 +43,8 @@ pub fn set<K: ToRedisArgs + Drop, V: ToRedisArgs + Drop>(
 ) -> RedisResult<()>
     ensures { Asks (connection con.old) (connection con.new) (codes "SET")
         (⟦<(K, V) as ToRedisArgs>⟧.gives (key, value))
-        (⟦<(K, V) as ToRedisArgs>⟧.refuses (key, value)) (⟦<() as FromRedisValue>⟧.of_value) result }
+        (⟦<(K, V) as ToRedisArgs>⟧.refuses (key, value))
+        (⟦<() as FromRedisValue>⟧.of_value) result }
 {
     ask(alloc, con, "SET", (key, value))
 }
