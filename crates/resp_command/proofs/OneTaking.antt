@@ -10,7 +10,7 @@ use Rattle.resp_parse.specs.Reads.{Reads}
 use Rattle.resp_parse.specs.PlainReading as reading
 use Rattle.resp_parse.specs.PlainReading.{ReadOutcome, read}
 use Rattle.resp_parse.proofs.Prefixes.{law_of_prefixes}
-use Rattle.resp_parse.proofs.PrefixReads.{HasGoodPrefix-from_read, HasFaultyPrefix-from_fault_read, IsUnfinished-from_read}
+use Rattle.resp_parse.proofs.PrefixReads.{HasGoodPrefix-from_read, HasFaultyPrefix-from_read, IsUnfinished-from_read}
 use Rattle.resp_command.specs.Taken.{as_push, pushes_in, replies_in, PrefixReads, Taking, took, met_fault, ended_early, TakesAll, TakesFewer, Taken, TakesOneThing}
 use Rattle.resp_command.proofs.PackedReadsBack.{good_some}
 use Rattle.resp_command.proofs.Values.{reads_nothing, reads_one, reads_both, count-append, ends_at_nothing}
@@ -187,7 +187,7 @@ some_taking (suc size) (suc n) b l = next (some_taking size) (read 100 b) refl
           | inl push ↦ (let t = deeper (suc n) rest (omega arith) in value_before (suc n) (suc n) b rest v g (omega arith) (omega arith) t.0 t.1)
           | inr reply ↦ (let t = deeper n rest (omega arith) in value_before (suc n) n b rest v g (omega arith) (omega arith) t.0 t.1)
         ]
-    next deeper (reading.fault f rest) e = (met_fault f [], record { values = []; rest = b; prefix = reads_nothing b; few = omega arith; pushes_are = refl; follows = HasFaultyPrefix-from_fault_read 100 b f (reading.fault f rest) e refl })
+    next deeper (reading.fault f rest) e = (met_fault f [], record { values = []; rest = b; prefix = reads_nothing b; few = omega arith; pushes_are = refl; follows = HasFaultyPrefix-from_read 100 b rest f e })
     next deeper reading.unfinished e = (ended_early [], record { values = []; rest = b; prefix = reads_nothing b; few = omega arith; pushes_are = refl; follows = IsUnfinished-from_read 100 b e })
 
 pub takes_one_thing : (n : ℕ) (b : List ℕ) → TakesOneThing n b

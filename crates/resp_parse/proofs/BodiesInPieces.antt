@@ -3,17 +3,17 @@ use Rattle.std.proofs.Common.{◌≡◌, ℕ, zero, suc, ◌+◌, ◌-◌, ◌<�
 use Rattle.std.proofs.lemmas.List.{append-nil}
 use Rattle.std.proofs.lemmas.Grind.{common_steps}
 use Rattle.resp_value.specs.declared.value.Value.{Value}
-use Rattle.resp_errors.specs.declared.kinds.FrameFault.{FrameFault}
+use Rattle.resp_errors.specs.declared.kinds.FrameFault.TheVariants.{BodyEnd}
 use Rattle.resp_parse.specs.declared.stop.Stop.{Stop}
 use Rattle.resp_parse.specs.declared.stop.Stop.TheVariants.{Memory, Fault}
+use Rattle.resp_parse.specs.declared.stop.Refused.TheVariants as refused
 use Rattle.resp_parse.specs.declared.machine.Body.{Body}
 use Rattle.resp_parse.specs.declared.machine.Machine.{Machine}
 use Rattle.resp_parse.specs.declared.machine.Step.TheVariants as step
 use Rattle.resp_parse.specs.PlainReading.{ReadOutcome, got, fault, unfinished, then, end_of_body, read_body, made}
 use Rattle.resp_parse.specs.Shapes.{body_value}
-use Rattle.resp_parse.specs.Computes.{Computes, fault_read}
-use Rattle.resp_parse.proofs.ReadingsInSequence.{fault-then}
-use Rattle.resp_parse.specs.Resume.{value_of, place, resume, levels_left, IsScanned, EndsBody, FillsBody, Steps}
+use Rattle.resp_parse.specs.Computes.{Computes}
+use Rattle.resp_parse.specs.Resume.{value_of, place, resume, levels_left, IsScanned, EndsBody, FillsBody, Steps, refused_after}
 
 pub drop-all : (n : ℕ) (xs : List ℕ) → length xs ≤ n → drop n xs ≡ []
 drop-all zero [] l = refl
@@ -73,11 +73,11 @@ module _ (old new : Body) (bytes : List ℕ) (n : ℕ) (n_is : n ≡ min (length
       ∙ ap (λ s. in_body (λ x rest. made (body_value new.kind x) rest) new.bytes (suc k) s) none
 
   -- the byte after the body is a fault: nothing is missing
-  none_missing : (k : ℕ) → new.missing ≡ k → ((f : FrameFault) → ((more : List ℕ) → fault_read (end_of_body (drop n bytes ++ more)) ≡ Some f) → k ≡ 0)
-  none_missing zero e f h = refl
-  none_missing (suc k) e f h =
+  none_missing : (k j : ℕ) → new.missing ≡ k → EndsBody (drop n bytes) (Err j) → k ≡ 0
+  none_missing zero j e h = refl
+  none_missing (suc k) j e h =
       let none : drop n bytes ≡ [] = none_left (omega (arith, e)) in
-      absurd (let z : fault_read (end_of_body ([] ++ [])) ≡ Some f = ap (λ s. fault_read (end_of_body (s ++ []))) (sym none) ∙ h [] in cc)
+      absurd (let z : end_of_body ([] ++ []) ≡ fault BodyEnd (drop j (drop n bytes) ++ []) = ap (λ s. end_of_body (s ++ [])) (sym none) ∙ h.1 [] in cc)
 
   -- the body and its CR LF are there
   whole : (d : ℕ) (more : List ℕ) → 2 ≤ length (drop n bytes) → end_of_body (drop n bytes ++ more) ≡ got [] (drop 2 (drop n bytes) ++ more) →
@@ -89,11 +89,12 @@ module _ (old new : Body) (bytes : List ℕ) (n : ℕ) (n_is : n ≡ min (length
       ∙ ap (λ o. then o (λ x rest. made (body_value new.kind (new.bytes ++ x)) rest)) h
       ∙ ap (λ s. made (body_value new.kind s) (drop 2 (drop n bytes) ++ more)) (append-nil new.bytes)
 
-  faulty : (d : ℕ) (f : FrameFault) → ((more : List ℕ) → fault_read (end_of_body (drop n bytes ++ more)) ≡ Some f) → (more : List ℕ) → fault_read (value_of d (Some new) (drop n bytes ++ more)) ≡ Some f
-  faulty d f h more =
-      let z : new.missing ≡ 0 = none_missing new.missing refl f h in
-      ap (λ k. fault_read (in_body (λ x rest. made (body_value new.kind x) rest) new.bytes k (drop n bytes ++ more))) z
-      ∙ fault-then (end_of_body (drop n bytes ++ more)) (λ x rest. made (body_value new.kind (new.bytes ++ x)) rest) f (h more)
+  faulty : (d j : ℕ) → EndsBody (drop n bytes) (Err j) → (more : List ℕ) → value_of d (Some new) (drop n bytes ++ more) ≡ fault BodyEnd (drop (n + j) bytes ++ more)
+  faulty d j h more =
+      let z : new.missing ≡ 0 = none_missing new.missing j refl h in
+      ap (λ k. in_body (λ x rest. made (body_value new.kind x) rest) new.bytes k (drop n bytes ++ more)) z
+      ∙ ap (λ o. then o (λ x rest. made (body_value new.kind (new.bytes ++ x)) rest)) (h.1 more)
+      ∙ ap (λ s. fault BodyEnd (s ++ more)) (drop-drop n j bytes)
 
 -- a machine in a body that took n bytes
 module _ (m : Machine) (old new : Body) (bytes : List ℕ) (n : ℕ) (body_is : m.body ≡ Some old) (h : FillsBody {E = Unit {0}} old bytes new (Ok n)) where
@@ -115,15 +116,22 @@ module _ (m : Machine) (old new : Body) (bytes : List ℕ) (n : ℕ) (body_is : 
     begun = λ _. rw body_is refl;
   })
 
-  pub body-faulty : (m' : Machine) (f : FrameFault) → EndsBody (drop n bytes) (Err f) → Steps m bytes m' (Err (Fault f))
-  body-faulty m' f e = λ more. ap fault_read (resumes more) ∙ fault-then (value_of (levels_left m.frames) (Some new) (drop n bytes ++ more)) (place m.frames) f (faulty old new bytes n h.0 h.1 (levels_left m.frames) f e more)
+  pub body-faulty : (m' : Machine) (j : ℕ) → EndsBody (drop n bytes) (Err j) → Steps m bytes m' (Err (refused.Fault BodyEnd (n + j)))
+  body-faulty m' j e =
+      let r : length (drop n bytes) ≡ length bytes - n = grind (arith, common_steps) in
+      let l : j ≤ length (drop n bytes) = e.0 in
+      (omega (arith, r, l, within), λ more. resumes more ∙ ap (λ o. then o (place m.frames)) (faulty old new bytes n h.0 h.1 (levels_left m.frames) j e more))
 
   ended : EndsBody (drop n bytes) (Ok true) → (more : List ℕ) → resume m (bytes ++ more) ≡ then (made (body_value new.kind new.bytes) (drop 2 (drop n bytes) ++ more)) (place m.frames)
   ended e more = resumes more ∙ ap (λ o. then o (place m.frames)) (whole old new bytes n h.0 h.1 (levels_left m.frames) more e.0 (e.1 more))
 
-  pub body-refused : EndsBody (drop n bytes) (Ok true) → (m' : Machine) (e : Stop) → Computes (Err e) (body_value new.kind new.bytes) → Steps m bytes m' (Err e)
+  pub body-refused : EndsBody (drop n bytes) (Ok true) → (m' : Machine) (e : Stop) → Computes (Err e) (body_value new.kind new.bytes) → Steps m bytes m' (Err (refused_after (n + 2) e))
   body-refused e m' Memory c = tt
-  body-refused e m' (Fault f) c = λ more. ap fault_read (ended e more) ∙ rw c refl
+  body-refused e m' (Fault f) c =
+      let r : length (drop n bytes) ≡ length bytes - n = grind (arith, common_steps) in
+      let l : 2 ≤ length (drop n bytes) = e.0 in
+      let d : drop 2 (drop n bytes) ≡ drop (n + 2) bytes = drop-drop n 2 bytes in
+      (omega (arith, r, l, within), λ more. ended e more ∙ rw (c, d) refl)
 
   pub body-whole : m.scanned ≡ 0 → EndsBody (drop n bytes) (Ok true) → (m' : Machine) → m' ≡ record m { body = None } → (v : Value) → Computes (Ok v) (body_value new.kind new.bytes) → Steps m bytes m' (Ok (step.Whole (n + 2) v))
   body-whole s e m' i v c =

@@ -18,7 +18,7 @@ body-reads n b x rest l e =
     ap (λ k. read_body k (b ++ rest)) (sym l) ∙ ap (λ s. read_body (length x) (s ++ rest)) e
     ∙ ap (read_body (length x)) (append_assoc x crlf rest) ∙ body-spelled x rest
 
-end-other : (c : ℕ) (rest : List ℕ) → c ≢ 13 → end_of_body (c ∷ rest) ≡ fault BodyEnd rest
+pub end-other : (c : ℕ) (rest : List ℕ) → c ≢ 13 → end_of_body (c ∷ rest) ≡ fault BodyEnd rest
 end-other c [] n = rw (eq_false c 13 n) refl
 end-other c (d ∷ rest) n = rw (eq_false c 13 n) refl
 

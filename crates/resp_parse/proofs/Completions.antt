@@ -1,5 +1,5 @@
 -- Unfinished bytes go on to where a fault shows.
-use Rattle.std.proofs.Common.{◌≡◌, ℕ, zero, suc, ◌+◌, ◌<◌, Bool, true, false, cond, ◌&&◌, ◌==◌, List, [], ◌∷◌, ◌++◌, length, length-append, drop, Option, None, Some, Result, Ok, Err, refl, ap, sym, ◌∙◌, subst, append_assoc, arith}
+use Rattle.std.proofs.Common.{◌≡◌, ℕ, zero, suc, ◌+◌, Bool, true, false, cond, ◌&&◌, ◌==◌, List, [], ◌∷◌, ◌++◌, length, length-append, drop, Option, None, Some, Result, Ok, Err, refl, ap, sym, ◌∙◌, subst, append_assoc, arith}
 use Rattle.std.specs.Prelude.{get_or}
 use Rattle.std.specs.Str.{IsUtf8, chars, is_utf8}
 use Rattle.std.proofs.Math.Seq.{drop-append_seam, get_or-append_seam}
@@ -17,7 +17,7 @@ use Rattle.resp_parse.specs.Prefixes.{IsUnfinished}
 use Rattle.resp_parse.specs.Laws.{Completion}
 use Rattle.resp_parse.proofs.ByteTests.{not_true}
 use Rattle.resp_parse.proofs.LineReads.{line-got, line-later, line-reads}
-use Rattle.resp_parse.proofs.PrefixReads.{HasFaultyPrefix-from_fault_read, HasGoodPrefix-from_read}
+use Rattle.resp_parse.proofs.PrefixReads.{HasFaultyPrefix-from_read, HasGoodPrefix-from_read}
 use Rattle.resp_parse.proofs.ReadingMeetsGrammar.{good-reads, read-faulty, read-good}
 
 -- some bytes after these make a fault show, and are read to their end
@@ -163,7 +163,7 @@ read-ends (suc d) (c ∷ bs) e = by_type (read-ends d) (type_of c) refl e
 
 unfinished-read : (d : ℕ) (b : List ℕ) → IsUnfinished d b → (o : ReadOutcome Value) → read d b ≡ o → o ≡ unfinished
 unfinished-read d b h (got v rest) e = absurd (h.no_value v rest (HasGoodPrefix-from_read d b rest v e))
-unfinished-read d b h (fault f rest) e = absurd (h.no_fault f (HasFaultyPrefix-from_fault_read d b f (fault f rest) e refl))
+unfinished-read d b h (fault f rest) e = absurd (h.no_fault f (HasFaultyPrefix-from_read d b rest f e))
 unfinished-read d b h unfinished e = refl
 
 pub law_of_completion : (d : ℕ) (b : List ℕ) → IsUnfinished d b → Completion d b

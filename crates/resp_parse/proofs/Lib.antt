@@ -9,6 +9,7 @@ pub mod BodiesInPieces
 pub mod Completions
 pub mod Counting
 pub mod Driving
+pub mod FaultOffsets
 pub mod FewDigits
 pub mod FilledBodies
 pub mod HeadersInPieces

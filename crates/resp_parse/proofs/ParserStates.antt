@@ -14,7 +14,7 @@ pub StandsAfter-since : (s : State) (b : List ℕ) → StandsAfter s b → b ≡
 unfolding StandsAfter
 StandsAfter-since s b h = h.1
 
-FailedAfter-since : (s : State) (b : List ℕ) → FailedAfter s b → b ≡ s.since
+pub FailedAfter-since : (s : State) (b : List ℕ) → FailedAfter s b → b ≡ s.since
 unfolding FailedAfter
 FailedAfter-since s b h = h.1
 

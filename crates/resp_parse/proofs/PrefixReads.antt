@@ -1,10 +1,11 @@
 -- What reading gives is what stands at the start.
-use Rattle.std.proofs.Common.{◌≡◌, ℕ, List, Some, ap, sym, ◌∙◌}
+use Rattle.std.proofs.Common.{◌≡◌, ℕ, ◌+◌, ◌≤◌, List, ◌++◌, length, take, ap, sym, ◌∙◌, subst, arith}
+use Rattle.std.proofs.lemmas.Grind.{common_steps}
 use Rattle.resp_value.specs.declared.value.Value.{Value}
 use Rattle.resp_errors.specs.declared.kinds.FrameFault.{FrameFault}
-use Rattle.resp_parse.specs.PlainReading.{ReadOutcome, got, fault, unfinished, read}
-use Rattle.resp_parse.specs.Prefixes.{HasGoodPrefix, HasFaultyPrefix, IsUnfinished}
-use Rattle.resp_parse.specs.Computes.{fault_read}
+use Rattle.resp_parse.specs.PlainReading.{got, fault, unfinished, read}
+use Rattle.resp_parse.specs.Grammar.{Faulty}
+use Rattle.resp_parse.specs.Prefixes.{HasGoodPrefix, HasFaultyPrefix, FaultShownBy, IsUnfinished}
 use Rattle.resp_parse.proofs.ReadingMeetsGrammar.{read-good, read-faulty, good-reads, faulty-reads}
 
 pub HasGoodPrefix-from_read : (d : ℕ) (b rest : List ℕ) (v : Value) → read d b ≡ got v rest → HasGoodPrefix d b v rest
@@ -13,13 +14,29 @@ HasGoodPrefix-from_read d b rest v e = let h = read-good d b rest v e in record 
 pub read-from_HasGood : (d : ℕ) (b rest : List ℕ) (v : Value) → HasGoodPrefix d b v rest → read d b ≡ got v rest
 read-from_HasGood d b rest v h = ap (read d) h.whole ∙ good-reads d h.prefix rest v h.good
 
-HasFaultyPrefix-from_read : (d : ℕ) (b rest : List ℕ) (f : FrameFault) → read d b ≡ fault f rest → HasFaultyPrefix d b f
+pub HasFaultyPrefix-from_read : (d : ℕ) (b rest : List ℕ) (f : FrameFault) → read d b ≡ fault f rest → HasFaultyPrefix d b f
 HasFaultyPrefix-from_read d b rest f e = let h = read-faulty d b rest f e in record { prefix = h.prefix; rest = rest; whole = h.whole; faulty = h.is }
 
-pub HasFaultyPrefix-from_fault_read : (d : ℕ) (b : List ℕ) (f : FrameFault) (o : ReadOutcome Value) → read d b ≡ o → fault_read o ≡ Some f → HasFaultyPrefix d b f
-HasFaultyPrefix-from_fault_read d b f (got v r) e k = absurd (cc)
-HasFaultyPrefix-from_fault_read d b f (fault g r) e k = let i : g ≡ f = cc in HasFaultyPrefix-from_read d b r f (e ∙ ap (λ z. fault z r) i)
-HasFaultyPrefix-from_fault_read d b f unfinished e k = absurd (cc)
+-- the bytes before those that follow the fault show it
+pub FaultShownBy-from_read : (d : ℕ) (b rest : List ℕ) (f : FrameFault) (n : ℕ) → read d b ≡ fault f rest → n + length rest ≡ length b → FaultShownBy d b n
+FaultShownBy-from_read d b rest f n e l =
+    let h = read-faulty d b rest f e in
+    let whole : b ≡ h.prefix ++ rest = h.whole in
+    let size : length b ≡ length h.prefix + length rest = ap length whole ∙ grind (arith, common_steps) in
+    let n_is : n ≡ length h.prefix = omega (arith, l, size) in
+    let front : take (length h.prefix) (h.prefix ++ rest) ≡ h.prefix = grind (arith, common_steps) in
+    record {
+      within = omega (arith, l);
+      fault = f;
+      faulty = subst (λ x. Faulty d x f) (sym (ap (λ k. take k b) n_is ∙ ap (take (length h.prefix)) whole ∙ front)) h.is;
+    }
+
+-- bytes that come after show it too
+pub FaultShownBy-longer : (d : ℕ) (b more : List ℕ) (n : ℕ) → FaultShownBy d b n → FaultShownBy d (b ++ more) n
+FaultShownBy-longer d b more n h =
+    let l : n ≤ length b = h.within in
+    let same : take n (b ++ more) ≡ take n b = grind (arith, common_steps) in
+    record { within = grind (arith, common_steps); fault = h.fault; faulty = subst (λ x. Faulty d x h.fault) (sym same) h.faulty }
 
 no_value : (d : ℕ) (b : List ℕ) → read d b ≡ unfinished → (v : Value) (rest : List ℕ) → HasGoodPrefix d b v rest → ⊥
 no_value d b e v rest h = let k : unfinished ≡ got v rest = sym e ∙ read-from_HasGood d b rest v h in cc

@@ -1,7 +1,6 @@
 -- One reading after another: what comes of the whole comes of a step.
-use Rattle.std.proofs.Common.{◌≡◌, List, ℕ, Some, refl}
+use Rattle.std.proofs.Common.{◌≡◌, List, ℕ, refl}
 use Rattle.resp_errors.specs.declared.kinds.FrameFault.{FrameFault}
-use Rattle.resp_parse.specs.Computes.{fault_read}
 use Rattle.resp_parse.specs.PlainReading.{ReadOutcome, got, fault, unfinished, then}
 
 -- the first reading has given something, and the second, from where it ended, this outcome
@@ -25,9 +24,3 @@ pub then-fault : {A B : Type 0} (o : ReadOutcome A) (more : A → List ℕ → R
 then-fault (got x mid) more f rest e = at_next (record { first = x; mid = mid; got_first = refl; next = e })
 then-fault (fault g mid) more f rest e = at_first (let k : g ≡ f = cc in let l : mid ≡ rest = cc in cc)
 then-fault unfinished more f rest e = absurd (cc)
-
--- a reading that is at fault at a step is at fault as a whole
-pub fault-then : {A B : Type 0} (o : ReadOutcome A) (more : A → List ℕ → ReadOutcome B) (f : FrameFault) → fault_read o ≡ Some f → fault_read (then o more) ≡ Some f
-fault-then (got x rest) more f e = absurd (cc)
-fault-then (fault g rest) more f e = e
-fault-then unfinished more f e = absurd (cc)

@@ -13,7 +13,7 @@ use Rattle.resp_parse.specs.OpenFrames.{Adds, KeptIn, ClosedBy}
 use Rattle.resp_parse.specs.declared.machine.Machine.{Machine}
 use Rattle.resp_parse.specs.Shapes.{elements_value}
 use Rattle.resp_parse.specs.PlainReading.{then, made}
-use Rattle.resp_parse.specs.Computes.{Computes, fault_read}
+use Rattle.resp_parse.specs.Computes.{Computes}
 use Rattle.resp_parse.specs.Resume.{place, Ends}
 use Rattle.resp_parse.specs.Built.{built}
 use Rattle.resp_parse.specs.Weights.{built_of, frames_weight, frames_credit}
@@ -40,7 +40,7 @@ module _ (gs : List Frame) (w : Value) (now : List Frame) (v : Value) (same : (m
   -- all elements are there, and make none
   pub settle-refused : (m : Machine) (e : Stop) → f.after ≡ 0 → Computes (Err e) (elements_value f.kind vs) → Ends (place gs w) m (Err e)
   settle-refused m Memory a c = tt
-  settle-refused m (Fault g) a c = λ more. ap fault_read (closed a more) ∙ rw c refl
+  settle-refused m (Fault g) a c = λ more. closed a more ∙ rw c refl
 
 -- what the frames have taken and saved, where the innermost has one element more
 module _ (now : List Frame) (f : Frame) (fs : List Frame) (now_is : now ≡ f ∷ fs) (v : Value) (vs : List Value) (vs_is : vs ≡ f.elements ++ (v ∷ [])) where

@@ -1,19 +1,12 @@
 -- What a function of the parser answers: what a definition computes, or out of memory, which says
 -- nothing of the bytes.
-use Rattle.std.specs.Prelude.{◌≡◌, Result, Ok, Err, Option, Some, None}
+use Rattle.std.specs.Prelude.{◌≡◌, Result, Ok, Err}
 use Rattle.resp_errors.specs.declared.kinds.FrameFault.{FrameFault}
 use Rattle.resp_parse.specs.declared.stop.Stop.{Stop}
 use Rattle.resp_parse.specs.declared.stop.Stop.TheVariants.{Memory, Fault}
-use Rattle.resp_parse.specs.PlainReading.{ReadOutcome, got, fault, unfinished}
 
 -- of something that is made: the same, or the same fault
 abbrev pub Computes : {X : Type 0} → Result X Stop → Result X FrameFault → Type 0
 Computes (Ok x) r = r ≡ Ok x
 Computes (Err Memory) r = Unit {0}
 Computes (Err (Fault f)) r = r ≡ Err f
-
--- the fault that reading met, if it met one
-abbrev pub fault_read : {A : Type 0} → ReadOutcome A → Option FrameFault
-fault_read (got x rest) = None
-fault_read (fault f rest) = Some f
-fault_read unfinished = None

@@ -1,11 +1,12 @@
 -- What a parser keeps of itself.
-use Rattle.std.specs.Prelude.{◌≡◌, ◌↔◌, ◌<◌, ◌≤◌, ◌+◌, ◌*◌, ◌^◌, ℕ, Bool, true, false, List, [], ◌++◌, length, drop}
+use Rattle.std.specs.Prelude.{◌≡◌, ◌↔◌, ◌<◌, ◌≤◌, ◌+◌, ◌*◌, ◌^◌, ℕ, Bool, true, false, List, [], ◌++◌, length, drop, Option, None, IfSome}
 use Rattle.resp_parse.specs.declared.machine.Machine.{Machine}
 use Rattle.resp_parse.specs.declared.parser.Parser.TheInside.{Inside}
 use Rattle.resp_parse.specs.Tally.{Tally}
 use Rattle.resp_parse.specs.Weights.{weight, credit}
 use Rattle.resp_parse.specs.PlainReading.{read}
 use Rattle.resp_parse.specs.Resume.{resume, fresh_of, IsScanned}
+use Rattle.resp_parse.specs.Prefixes.{FaultShownBy}
 
 -- what reads on in the unparsed bytes reads on in the bytes since the last value
 pub record Resumes (m : Machine) (unparsed since : List ℕ) : Type 0 where
@@ -43,6 +44,11 @@ pub record Spelled (m : Machine) (unparsed since : List ℕ) (count : ℕ) : Typ
   pub counted : count + length unparsed ≡ length since
   pub few : count + m.scanned < 2 ^ 63
 
+-- where a fault was met, bytes since the last value show it; a parser that works has met none
+pub record Placed (offset : Option ℕ) (since : List ℕ) (failed : Bool) : Type 0 where
+  pub works : failed ≡ false → offset ≡ None
+  pub shows : IfSome offset (FaultShownBy 100 since)
+
 pub record Kept (p : Inside) : Type 0 where
   pub consumed : p.consumed ≤ length p.buffer.items
   pub levels : length p.machine.frames ≤ 100
@@ -50,3 +56,4 @@ pub record Kept (p : Inside) : Type 0 where
   pub counted : Counted p.machine (drop p.consumed p.buffer.items) p.counts p.failed
   pub spelled : p.failed ≡ false →
       Spelled p.machine (drop p.consumed p.buffer.items) p.since p.spelled
+  pub placed : Placed p.fault_offset p.since p.failed

@@ -1,5 +1,5 @@
 -- What stands at the start of bytes.
-use Rattle.std.specs.Prelude.{◌≡◌, ◌<◌, ◌+◌, ◌^◌, ℕ, List, ◌++◌, length}
+use Rattle.std.specs.Prelude.{◌≡◌, ◌<◌, ◌≤◌, ◌+◌, ◌^◌, ℕ, List, ◌++◌, length, take}
 use Rattle.resp_value.specs.declared.value.Value.{Value}
 use Rattle.resp_errors.specs.declared.kinds.FrameFault.{FrameFault}
 use Rattle.resp_parse.specs.Grammar.{Good, Faulty}
@@ -16,6 +16,12 @@ pub record HasFaultyPrefix (d : ℕ) (b : List ℕ) (f : FrameFault) : Type 0 wh
   pub rest : List ℕ
   pub whole : b ≡ prefix ++ rest
   pub faulty : Faulty d prefix f
+
+-- the first n bytes end where a fault shows
+pub record FaultShownBy (d : ℕ) (b : List ℕ) (n : ℕ) : Type 0 where
+  pub within : n ≤ length b
+  pub fault : FrameFault
+  pub faulty : Faulty d (take n b) fault
 
 -- no prefix spells a value, and none ends in a fault: more bytes are awaited
 pub record IsUnfinished (d : ℕ) (b : List ℕ) : Type 0 where

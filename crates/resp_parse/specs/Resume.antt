@@ -2,9 +2,11 @@
 -- from one place to another.
 use Rattle.std.specs.Prelude.{◌≡◌, ℕ, ◌+◌, ◌-◌, ◌<◌, ◌≤◌, Bool, true, false, List, [], ◌∷◌, ◌++◌, length, take, drop, min, Option, None, Some, Result, Ok, Err}
 use Rattle.resp_value.specs.declared.value.Value.{Value}
-use Rattle.resp_errors.specs.declared.kinds.FrameFault.{FrameFault}
+use Rattle.resp_errors.specs.declared.kinds.FrameFault.TheVariants.{BodyEnd}
 use Rattle.resp_parse.specs.declared.stop.Stop.{Stop}
 use Rattle.resp_parse.specs.declared.stop.Stop.TheVariants.{Memory, Fault}
+use Rattle.resp_parse.specs.declared.stop.Refused.{Refused}
+use Rattle.resp_parse.specs.declared.stop.Refused.TheVariants as refused
 use Rattle.resp_parse.specs.declared.frames.Frame.{Frame}
 use Rattle.resp_parse.specs.declared.machine.Body.{Body}
 use Rattle.resp_parse.specs.declared.machine.Machine.{Machine}
@@ -12,8 +14,7 @@ use Rattle.resp_parse.specs.declared.machine.Step.{Step}
 use Rattle.resp_parse.specs.declared.machine.Step.TheVariants as step
 use Rattle.resp_parse.specs.Lines.{NoneBefore, Scanned}
 use Rattle.resp_parse.specs.Shapes.{body_value, elements_value}
-use Rattle.resp_parse.specs.PlainReading.{ReadOutcome, got, unfinished, then, line, end_of_body, read_body, read_elements, made, read}
-use Rattle.resp_parse.specs.Computes.{fault_read}
+use Rattle.resp_parse.specs.PlainReading.{ReadOutcome, got, fault, unfinished, then, line, end_of_body, read_body, read_elements, made, read}
 
 -- how many levels are left inside these frames
 abbrev pub levels_left : List Frame → ℕ
@@ -50,10 +51,21 @@ abbrev pub IsScanned : Option Body → ℕ → List ℕ → Type 0
 IsScanned None n bytes = IsLooked bytes n
 IsScanned (Some b) n bytes = n ≡ 0
 
--- reading is at fault, whatever bytes come; memory aside
-abbrev pub FaultsAlways : (List ℕ → ReadOutcome Value) → Stop → Type 0
-FaultsAlways before Memory = Unit {0}
-FaultsAlways before (Fault f) = (more : List ℕ) → fault_read (before more) ≡ Some f
+-- reading is at fault at once, whatever bytes come; memory aside
+abbrev pub FaultsAtOnce : (List ℕ → ReadOutcome Value) → Stop → Type 0
+FaultsAtOnce before Memory = Unit {0}
+FaultsAtOnce before (Fault f) = (more : List ℕ) → before more ≡ fault f more
+
+-- the first n bytes show a fault, whatever bytes come after; memory aside
+abbrev pub FaultsWithin : (List ℕ → ReadOutcome Value) → List ℕ → Refused → Type 0
+FaultsWithin before bytes refused.Memory = Unit {0}
+FaultsWithin before bytes (refused.Fault f n) = (n ≤ length bytes)
+    × ((more : List ℕ) → before (bytes ++ more) ≡ fault f (drop n bytes ++ more))
+
+-- why nothing is read, where n bytes were taken before that showed
+abbrev pub refused_after : ℕ → Stop → Refused
+refused_after n Memory = refused.Memory
+refused_after n (Fault f) = refused.Fault f n
 
 -- from `before`, by the bytes that come, the machine has come to `new`, and a body or a frame is
 -- open; with Some, the value in progress is whole
@@ -62,7 +74,7 @@ Goes before new (Ok None) =
     ((more : List ℕ) → before more ≡ resume new more) × (fresh_of new.body new.frames ≡ false)
 Goes before new (Ok (Some v)) =
     ((more : List ℕ) → before more ≡ place new.frames v more) × (new.body ≡ None)
-Goes before new (Err e) = FaultsAlways before e
+Goes before new (Err e) = FaultsAtOnce before e
 
 -- the same, with Some where the outermost value is whole
 abbrev pub Ends : (List ℕ → ReadOutcome Value) → Machine → Result (Option Value) Stop → Type 0
@@ -70,7 +82,7 @@ Ends before new (Ok None) =
     ((more : List ℕ) → before more ≡ resume new more) × (fresh_of new.body new.frames ≡ false)
 Ends before new (Ok (Some v)) =
     ((more : List ℕ) → before more ≡ got v more) × (fresh_of new.body new.frames ≡ true)
-Ends before new (Err e) = FaultsAlways before e
+Ends before new (Err e) = FaultsAtOnce before e
 
 -- the length of the first line's text, or none
 abbrev pub FindsLine : List ℕ → Option ℕ → Type 0
@@ -78,12 +90,13 @@ FindsLine bs (Some n) =
     (n + 2 ≤ length bs) × (line bs ≡ got (take n bs) (drop (n + 2) bs))
 FindsLine bs None = NoneBefore bs (length bs)
 
--- whether the CR LF of a body stands at the start
-abbrev pub EndsBody : List ℕ → Result Bool FrameFault → Type 0
+-- whether the CR LF of a body stands at the start, or the first n bytes show that it doesn't
+abbrev pub EndsBody : List ℕ → Result Bool ℕ → Type 0
 EndsBody bs (Ok true) =
     (2 ≤ length bs) × ((more : List ℕ) → end_of_body (bs ++ more) ≡ got [] (drop 2 bs ++ more))
 EndsBody bs (Ok false) = end_of_body bs ≡ unfinished
-EndsBody bs (Err f) = (more : List ℕ) → fault_read (end_of_body (bs ++ more)) ≡ Some f
+EndsBody bs (Err n) = (n ≤ length bs)
+    × ((more : List ℕ) → end_of_body (bs ++ more) ≡ fault BodyEnd (drop n bs ++ more))
 
 -- a body took n bytes: all, or as many as it lacked
 abbrev pub FillsBody : {E : Type 0} → Body → List ℕ → Body → Result ℕ E → Type 0
@@ -109,13 +122,13 @@ pub record Takes (old : Machine) (bytes : List ℕ) (new : Machine)
   pub scanned : new.scanned ≡ 0
 
 -- what one step does
-abbrev pub Steps : Machine → List ℕ → Machine → Result Step Stop → Type 0
+abbrev pub Steps : Machine → List ℕ → Machine → Result Step Refused → Type 0
 Steps old bytes new (Ok (step.Waits n)) = Waits old bytes new n
 Steps old bytes new (Ok (step.Goes n)) =
     Takes old bytes new (resume new) n × (fresh_of new.body new.frames ≡ false)
 Steps old bytes new (Ok (step.Whole n v)) =
     Takes old bytes new (place new.frames v) n × (new.body ≡ None)
-Steps old bytes new (Err e) = FaultsAlways (λ more. resume old (bytes ++ more)) e
+Steps old bytes new (Err e) = FaultsWithin (resume old) bytes e
 
 -- a value was read, and n bytes taken
 pub record Reads (old : Machine) (bytes : List ℕ) (new : Machine) (n : ℕ) (v : Value) : Type 0 where
@@ -125,8 +138,7 @@ pub record Reads (old : Machine) (bytes : List ℕ) (new : Machine) (n : ℕ) (v
   pub scanned : new.scanned ≡ 0
 
 -- what all steps do until a value is whole or more bytes are needed
-abbrev pub Drives : Machine → List ℕ → Machine → Result (ℕ × Option Value) Stop → Type 0
+abbrev pub Drives : Machine → List ℕ → Machine → Result (ℕ × Option Value) Refused → Type 0
 Drives old bytes new (Ok (n, Some v)) = Reads old bytes new n v
 Drives old bytes new (Ok (n, None)) = Waits old bytes new n
-Drives old bytes new (Err e) =
-    FaultsAlways (λ more. resume old (bytes ++ more)) e × (0 < length bytes)
+Drives old bytes new (Err e) = FaultsWithin (resume old) bytes e × (0 < length bytes)

@@ -1,5 +1,5 @@
 -- What a parser holds.
-use Rattle.std.specs.Prelude.{◌≡◌, ℕ, Bool, true, false, List, codes}
+use Rattle.std.specs.Prelude.{◌≡◌, ℕ, Bool, true, false, List, codes, Option, None, IsSome, Result, Ok, Err}
 use Rattle.std.proofs.Props.{props}
 use Rattle.resp_parse.specs.Tally.{Tally}
 use Rattle.resp_errors.specs.declared.parsing_error.ParsingError.TheVariants as parsing
@@ -7,7 +7,8 @@ use Rattle.resp_errors.specs.declared.redis_error.RedisError.{RedisError}
 use Rattle.resp_errors.specs.declared.redis_error.RedisError.TheVariants as form
 
 -- the bytes that are buffered and not yet parsed, and how many of them were looked at; those since
--- the last value that was handed out; whether the parser has failed; how many frames are open, of
+-- the last value that was handed out; whether the parser has failed, and after how many of these
+-- bytes a fault showed, if one was answered; how many frames are open, of
 -- aggregates whose header was read and whose elements aren't all there; of how many values these
 -- elements are built; and what the parser has done
 pub record State : Type 0 where
@@ -15,6 +16,7 @@ pub record State : Type 0 where
   pub looked : ℕ
   pub since : List ℕ
   pub failed : Bool
+  pub fault_offset : Option ℕ
   pub frames : ℕ
   pub built : ℕ
   pub counts : Tally
@@ -32,6 +34,16 @@ FailedAfter s b = (s.failed ≡ true) × (b ≡ s.since)
 pub record IsBetweenValues (s : State) : Type 0 where
   pub stands : StandsAfter s s.unparsed
   pub only : (b : List ℕ) → StandsAfter s b → b ≡ s.unparsed
+
+-- a fault has a place, and no other error has one
+abbrev pub HasOffset : RedisError → Option ℕ → Type 0
+HasOffset (form.Parse (parsing.Fault f)) offset = IsSome offset
+HasOffset _ offset = offset ≡ None
+
+-- the place of a fault is kept exactly where a fault is answered
+abbrev pub KeepsFaultOffset : {X : Type 0} → State → Result X RedisError → Type 0
+KeepsFaultOffset s (Ok x) = s.fault_offset ≡ None
+KeepsFaultOffset s (Err e) = HasOffset e s.fault_offset
 
 -- what a parser that has failed answers
 abbrev pub has_failed : RedisError

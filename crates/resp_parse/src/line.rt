@@ -5,7 +5,6 @@ ghost use Rattle.resp_parse.specs.Resume.{FindsLine, EndsBody};
 ghost use Rattle.resp_parse.specs.Weights.{LooksAt};
 
 use crate::counts::Counts;
-use resp_value::FrameFault;
 
 /// The length of the text up to the first CR LF, where so many bytes hold none.
 pub(crate) fn line_end(bytes: &[u8], scanned: usize, counts: &mut Counts) -> Option<usize>
@@ -22,22 +21,23 @@ pub(crate) fn line_end(bytes: &[u8], scanned: usize, counts: &mut Counts) -> Opt
     None
 }
 
-/// Whether the CR LF after a body is there; a byte in its place is a fault.
+/// Whether the CR LF after a body is there. Err where another byte is in its place: so many bytes
+/// show it.
 #[tactic(auto, using(crate::proofs::BodyEnds::ends))]
-pub(crate) fn body_ends(bytes: &[u8]) -> Result<bool, FrameFault>
+pub(crate) fn body_ends(bytes: &[u8]) -> Result<bool, usize>
     ensures end { EndsBody bytes.now result }
 {
     if bytes.is_empty() {
         return Ok(false);
     }
     if bytes[0] != b'\r' {
-        return Err(FrameFault::BodyEnd);
+        return Err(1);
     }
     if bytes.len() == 1 {
         return Ok(false);
     }
     if bytes[1] != b'\n' {
-        return Err(FrameFault::BodyEnd);
+        return Err(2);
     }
     Ok(true)
 }

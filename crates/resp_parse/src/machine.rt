@@ -2,6 +2,7 @@
 
 ghost use Rattle.std.specs.Prelude.{◌≡◌, ◌<◌, ◌≤◌, ◌+◌, ◌-◌, ◌*◌, [], length, true, IfOk};
 ghost use Rattle.resp_parse.specs.declared.stop.Stop.{Stop};
+ghost use Rattle.resp_parse.specs.declared.stop.Refused.{Refused};
 ghost use Rattle.std.specs.Prelude.{None};
 ghost use Rattle.resp_parse.specs.Grammar.{announced};
 ghost use Rattle.resp_parse.specs.PlainReading.{then, read_announced, read};
@@ -18,7 +19,7 @@ use crate::counts::Counts;
 use crate::frames::{Added, Frame, Frames};
 use crate::line::{body_ends, line_end};
 use crate::shape::{BodyKind, Shape, shape_of};
-use crate::stop::Stop;
+use crate::stop::{Refused, Stop};
 use crate::type_byte::TypeByte;
 use resp_value::{FrameFault, Items, Value};
 use std::alloc::{AllocError, Global};
@@ -158,7 +159,7 @@ impl Machine {
     }
 
     /// Reads the header at the start of the bytes.
-    fn header(&mut self, alloc: Global, bytes: &[u8], counts: &mut Counts) -> Result<Step, Stop>
+    fn header(&mut self, alloc: Global, bytes: &[u8], counts: &mut Counts) -> Result<Step, Refused>
         requires no_body { self.old.body ≡ None }
         requires levels { length self.old.frames ≤ 100 }
         requires scanned { IsScanned self.old.body self.old.scanned bytes.now }
@@ -171,10 +172,10 @@ impl Machine {
             return Ok(Step::Waits(0));
         };
         if self.frames.len() == LEVELS {
-            return Err(Stop::Fault(FrameFault::TooDeep));
+            return Err(Refused::Fault(FrameFault::TooDeep, 1));
         }
         let Some(kind) = TypeByte::from_byte(*first) else {
-            return Err(Stop::Fault(FrameFault::UnknownType));
+            return Err(Refused::Fault(FrameFault::UnknownType, 1));
         };
         let Some(len) = line_end(after, self.scanned.saturating_sub(1), counts) else {
             counts.take(bytes.len() - self.scanned);
@@ -184,17 +185,18 @@ impl Machine {
         counts.take(len + 3 - self.scanned);
         self.scanned = 0;
         let Ok(text) = std::str::from_utf8(&after[..len]) else {
-            return Err(Stop::Fault(FrameFault::LineNotUtf8));
+            return Err(Refused::Fault(FrameFault::LineNotUtf8, len + 3));
         };
         let at_hand = after.len() - (len + 2);
-        match self.begin(alloc, kind, text, at_hand, counts)? {
-            Some(value) => Ok(Step::Whole(len + 3, value)),
-            None => Ok(Step::Goes(len + 3)),
+        match self.begin(alloc, kind, text, at_hand, counts) {
+            Ok(Some(value)) => Ok(Step::Whole(len + 3, value)),
+            Ok(None) => Ok(Step::Goes(len + 3)),
+            Err(stop) => Err(stop.after(len + 3)),
         }
     }
 
     /// Takes a header, or goes on in a body.
-    fn step(&mut self, alloc: Global, bytes: &[u8], counts: &mut Counts) -> Result<Step, Stop>
+    fn step(&mut self, alloc: Global, bytes: &[u8], counts: &mut Counts) -> Result<Step, Refused>
         requires levels { length self.old.frames ≤ 100 }
         requires scanned { IsScanned self.old.body self.old.scanned bytes.now }
         ensures steps { Steps self.old bytes.now self.new result }
@@ -208,12 +210,19 @@ impl Machine {
         };
         let taken = body.fill(bytes)?;
         counts.take(taken);
-        if !body_ends(&bytes[taken..])? {
-            self.body = Some(body);
-            return Ok(Step::Waits(taken));
+        match body_ends(&bytes[taken..]) {
+            Ok(true) => {}
+            Ok(false) => {
+                self.body = Some(body);
+                return Ok(Step::Waits(taken));
+            }
+            Err(shown) => return Err(Refused::Fault(FrameFault::BodyEnd, taken + shown)),
         }
         counts.take(2);
-        Ok(Step::Whole(taken + 2, body.value(alloc)?))
+        match body.value(alloc) {
+            Ok(value) => Ok(Step::Whole(taken + 2, value)),
+            Err(stop) => Err(stop.after(taken + 2)),
+        }
     }
 
     /// How many bytes the open body lacks, its CR LF aside; 0 if none is open.
@@ -278,7 +287,7 @@ impl Machine {
         alloc: Global,
         bytes: &[u8],
         counts: &mut Counts,
-    ) -> Result<(usize, Option<Value>), Stop>
+    ) -> Result<(usize, Option<Value>), Refused>
         requires levels { length self.old.frames ≤ 100 }
         requires scanned { IsScanned self.old.body self.old.scanned bytes.now }
         ensures drives { Drives self.old bytes.now self.new result }
@@ -288,15 +297,19 @@ impl Machine {
     {
         let mut at = 0;
         while at < bytes.len() {
-            match self.step(alloc, &bytes[at..], counts)? {
-                Step::Waits(taken) => return Ok((at + taken, None)),
-                Step::Goes(taken) => at += taken,
-                Step::Whole(taken, value) => {
+            match self.step(alloc, &bytes[at..], counts) {
+                Ok(Step::Waits(taken)) => return Ok((at + taken, None)),
+                Ok(Step::Goes(taken)) => at += taken,
+                Ok(Step::Whole(taken, value)) => {
                     at += taken;
-                    if let Some(value) = self.settle(alloc, value, counts)? {
-                        return Ok((at, Some(value)));
+                    match self.settle(alloc, value, counts) {
+                        Ok(Some(value)) => return Ok((at, Some(value))),
+                        Ok(None) => {}
+                        Err(stop) => return Err(stop.after(at)),
                     }
                 }
+                Err(Refused::Memory) => return Err(Refused::Memory),
+                Err(Refused::Fault(fault, shown)) => return Err(Refused::Fault(fault, at + shown)),
             }
         }
         Ok((at, None))

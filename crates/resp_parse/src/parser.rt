@@ -1,9 +1,10 @@
 //! A parser of bytes that come in pieces.
 
 ghost use Rattle.std.specs.Prelude.{◌≡◌, ◌≢◌, ◌↔◌, ◌++◌, ◌⊎◌, [], true, false, Err, List, ℕ};
-ghost use Rattle.std.specs.Prelude.{length, IsTrue, OnOk};
+ghost use Rattle.std.specs.Prelude.{length, IsTrue, OnOk, IfSome, None};
 ghost use Rattle.resp_parse.specs.State.{StandsAfter, FailedAfter, IsBetweenValues, has_failed};
-ghost use Rattle.resp_parse.specs.Prefixes.{SpelledWithin};
+ghost use Rattle.resp_parse.specs.State.{KeepsFaultOffset};
+ghost use Rattle.resp_parse.specs.Prefixes.{SpelledWithin, FaultShownBy};
 ghost use Rattle.resp_parse.specs.Calls.{Feeds, Takes, Asks, Parses, ParsesReader};
 ghost use Rattle.resp_parse.specs.Bounds.{Bounded, FedBy, OneCall, CallsWithin, AskedFor};
 
@@ -12,7 +13,7 @@ use crate::machine::Machine;
 use crate::reading::Reading;
 use crate::since::Since;
 use crate::source::ReplySource;
-use crate::stop::Stop;
+use crate::stop::Refused;
 use resp_value::{IoKind, ParsingError, RedisError, RedisResult, Value};
 use std::alloc::Global;
 use std::io::Read;
@@ -49,6 +50,8 @@ pub struct Parser {
     spelled: usize,
     machine: Machine,
     failed: bool,
+    /// How many bytes since the last value show the fault that was answered.
+    fault_offset: Option<usize>,
     since: Since,
     counts: Counts,
 }
@@ -66,6 +69,7 @@ impl Model for Parser {
       looked = p.machine.scanned;
       since = p.since;
       failed = p.failed;
+      fault_offset = p.fault_offset;
       frames = length p.machine.frames;
       built = built_in p.machine.frames;
       counts = p.counts;
@@ -87,6 +91,7 @@ impl Parser {
             spelled: 0,
             machine: Machine::new(alloc),
             failed: false,
+            fault_offset: None,
             since: Since::new(),
             counts: Counts::new(),
         }
@@ -135,6 +140,7 @@ impl Parser {
         ensures spelled { (b : List ℕ) → StandsAfter self.old b →
             OnOk result (SpelledWithin b self.new.unparsed) }
         ensures bounds { Bounded self.new }
+        ensures offset { self.old.failed ≡ false → KeepsFaultOffset self.new result }
         ensures counts { self.old.failed ≡ false → OneCall self.old.counts self.new.counts }
     {
         if self.failed {
@@ -164,11 +170,12 @@ impl Parser {
                 self.spelled += taken;
                 Ok(None)
             }
-            Err(Stop::Fault(fault)) => {
+            Err(Refused::Fault(fault, shown)) => {
                 self.failed = true;
+                self.fault_offset = Some(self.spelled + shown);
                 Err(RedisError::Parse(ParsingError::Fault(fault)))
             }
-            Err(Stop::Memory) => {
+            Err(Refused::Memory) => {
                 self.failed = true;
                 Err(RedisError::OutOfMemory)
             }
@@ -188,6 +195,7 @@ impl Parser {
             × (S.source source.new ≡ S.source source.old) }
         ensures parses { (b : List ℕ) → StandsAfter self.old b →
             Parses b self.new (S.source source.old) (S.source source.new) result }
+        ensures offset { self.old.failed ≡ false → KeepsFaultOffset self.new result }
         ensures bounds { Bounded self.new }
         ensures calls { CallsWithin self.old.counts self.new.counts }
         ensures observable { (S.source source.old).observable ≡ true →
@@ -215,6 +223,7 @@ impl Parser {
             × (self.new ≡ self.old) }
         ensures parses { (b : List ℕ) → StandsAfter self.old b →
             ParsesReader R.remaining b self.new reader result }
+        ensures offset { self.old.failed ≡ false → KeepsFaultOffset self.new result }
         ensures bounds { Bounded self.new }
         ensures calls { CallsWithin self.old.counts self.new.counts }
     {
@@ -227,6 +236,17 @@ impl Parser {
         ensures failed { IsTrue result ↔ (self.now.failed ≡ true) }
     {
         self.failed
+    }
+
+    /// Where the fault stands that a call answered: the number of bytes after the last value up to
+    /// and with the byte that shows it. None while no fault was answered.
+    pub fn fault_offset(&self) -> Option<usize>
+        ensures offset { result ≡ self.now.fault_offset }
+        ensures works { self.now.failed ≡ false → result ≡ None }
+        ensures shows { (b : List ℕ) → FailedAfter self.now b →
+            IfSome result (FaultShownBy 100 b) }
+    {
+        self.fault_offset
     }
 
     /// Whether bytes stand after the last value that was handed out. A parser that has failed
@@ -242,6 +262,7 @@ impl Parser {
     fn ask<S: ReplySource>(&mut self, source: &mut S) -> RedisResult<()>
         ensures asks { (b : List ℕ) → StandsAfter self.old b →
             Asks b self.new (S.source source.old) (S.source source.new) result }
+        ensures offset { self.new.fault_offset ≡ self.old.fault_offset }
         ensures bounds { Bounded self.new }
         ensures asked { AskedFor self.old.counts self.new.counts result }
         ensures observable { (S.source source.old).observable ≡ true →
@@ -272,6 +293,7 @@ impl Parser {
     fn fail(&mut self)
         ensures fails { (b : List ℕ) → StandsAfter self.old b → FailedAfter self.new b }
         ensures bounds { Bounded self.new }
+        ensures offset { self.new.fault_offset ≡ self.old.fault_offset }
         ensures counts { self.new.counts ≡ self.old.counts }
     {
         self.failed = true;

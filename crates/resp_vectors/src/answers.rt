@@ -10,7 +10,7 @@ pub type Example = (&'static [u8], &'static str);
 /// What a parser or a link answered: the Debug form of the value, or what the refusal shows.
 pub fn shown_reply(rt: &(impl Abort + AllocGlobal), reply: RedisResult<Value>) -> String {
     match reply {
-        Ok(value) => format!(in rt.alloc(); "{value:?}").expect(rt, "no refusal"),
+        Ok(value) => debug_text(rt, value),
         Err(error) => shown_refusal(rt, error),
     }
 }
@@ -18,18 +18,18 @@ pub fn shown_reply(rt: &(impl Abort + AllocGlobal), reply: RedisResult<Value>) -
 /// The fault of the refused bytes, else the kind of the device's fault, else the Debug form.
 pub fn shown_refusal(rt: &(impl Abort + AllocGlobal), error: RedisError) -> String {
     if let Some(fault) = error.frame_fault() {
-        return format!(in rt.alloc(); "{fault:?}").expect(rt, "no refusal");
+        return debug_text(rt, fault);
     }
-    if let Some(kind) = error.io_kind() {
-        return format!(in rt.alloc(); "{kind:?}").expect(rt, "no refusal");
+    match error.io_kind() {
+        Some(kind) => debug_text(rt, kind),
+        None => debug_text(rt, error),
     }
-    format!(in rt.alloc(); "{error:?}").expect(rt, "no refusal")
 }
 
 /// What the parser answers next, or `none` where bytes are awaited.
 pub fn next_shown(rt: &(impl Abort + AllocGlobal), parser: &mut Parser) -> String {
     match parser.take_value() {
-        Ok(Some(value)) => format!(in rt.alloc(); "{value:?}").expect(rt, "no refusal"),
+        Ok(Some(value)) => debug_text(rt, value),
         Ok(None) => String::from_str(rt.alloc(), "none").expect(rt, "no refusal"),
         Err(error) => shown_refusal(rt, error),
     }

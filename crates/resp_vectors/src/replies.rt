@@ -14,9 +14,11 @@ fn faults(rt: &(impl Abort + AllocGlobal), bytes: &[u8], wanted: &str) {
     };
     parser.feed(prefix).expect(rt, "no refusal");
     assert_eq!(rt; next_shown(rt, &mut parser).as_str(), "none");
+    assert_eq!(rt; parser.fault_offset(), None);
     parser.feed(&[*last]).expect(rt, "no refusal");
     assert_eq!(rt; next_shown(rt, &mut parser).as_str(), wanted);
     assert!(rt; parser.is_failed());
+    assert_eq!(rt; parser.fault_offset(), Some(bytes.len()));
 }
 
 /// Bytes that end exactly where a fault shows.
@@ -41,6 +43,19 @@ fn faults_show_at_their_byte(rt: HostRuntime) {
 }
 
 #[test]
+fn a_fault_is_placed_after_the_last_value(rt: HostRuntime) {
+    let mut parser = Parser::new(rt.alloc());
+    parser
+        .feed(b"*1\r\n:1\r\n*2\r\n$2\r\na")
+        .expect(&rt, "no refusal");
+    assert_eq!(rt; next_shown(&rt, &mut parser).as_str(), "array([int(1)])");
+    assert_eq!(rt; next_shown(&rt, &mut parser).as_str(), "none");
+    parser.feed(b"b\r\n?\r\n+x\r\n").expect(&rt, "no refusal");
+    assert_eq!(rt; next_shown(&rt, &mut parser).as_str(), "UnknownType");
+    assert_eq!(rt; parser.fault_offset(), Some(13));
+}
+
+#[test]
 fn early_end(rt: HostRuntime) {
     for bytes in [
         "",
@@ -53,6 +68,7 @@ fn early_end(rt: HostRuntime) {
         let reply = shown_reply(&rt, parser.parse_from(&mut source));
         assert_eq!(rt; reply.as_str(), "UnexpectedEof");
         assert!(rt; parser.is_failed());
+        assert_eq!(rt; parser.fault_offset(), None);
         let reply = shown_reply(&rt, parse_redis_value(rt.alloc(), bytes.as_bytes()));
         assert_eq!(rt; reply.as_str(), "UnexpectedEof");
     }

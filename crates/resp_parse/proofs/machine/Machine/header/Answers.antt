@@ -1,5 +1,4 @@
 use Rattle.std.proofs.Common.{◌≡◌, ◌<◌, ◌-◌, [], List, ℕ, length, arith, refl, sym, subst, Err}
-use Rattle.std.proofs.lemmas.Result.{err_from_is_err_and}
 use Rattle.std.proofs.lemmas.Grind.{common_steps}
 use Rattle.resp_parse.specs.Grammar.{announced}
 use Rattle.resp_parse.specs.PlainReading.{then, read_announced, read}
@@ -21,44 +20,43 @@ returns-in_default-from_utf8-clause-steps c =
     (line-not_utf8 c.args.self.now c.in-Some.first.now c.in-Some.after.now c.requires.no_body l c.in-Some-from_byte.kind (sym c.in-Some-from_byte.ensures.kind) c.in-Some-line_end.len c.in-Some-line_end.ensures.line
     c.args.self.now c.in_default-from_utf8.ensures.cases.0)
 
-pub returns-in_err-value-clause-steps : goal.returns-in_err-value-clause-steps
-returns-in_err-value-clause-steps c =
+pub returns-in-Err-clause-steps : goal.returns-in-Err-clause-steps
+returns-in-Err-clause-steps c =
     let l : length c.args.self.now.frames < 100 = omega arith in
-    let p = err_from_is_err_and c.from_residual.result c.from_residual.ensures.1 in
-    rw (p.1, p.2, c.in-Some.ensures.cases.0)
+    rw (c.after.ensures, c.in-Some.ensures.cases.0)
     (header-stops c.args.self.now c.in-Some.first.now c.in-Some.after.now c.requires.no_body l c.in-Some-from_byte.kind (sym c.in-Some-from_byte.ensures.kind) c.in-Some-line_end.len c.in-Some-line_end.ensures.line
-    c.in-Ok.ensures.cases.1 c.begin.new.self c.in_err-value.field-0.0
-    (subst (λ (t : List ℕ). Goes (λ more. then (read_announced (read (99 - length c.args.self.now.frames)) (announced c.in-Some-from_byte.kind t) more) (place c.args.self.now.frames)) c.begin.new.self (Err c.in_err-value.field-0.0)) c.in-Ok.ensures.cases.0 c.in_err-value.ensures.goes))
+    c.in-Ok.ensures.cases.1 c.begin.new.self c.in-Err.stop
+    (subst (λ (t : List ℕ). Goes (λ more. then (read_announced (read (99 - length c.args.self.now.frames)) (announced c.in-Some-from_byte.kind t) more) (place c.args.self.now.frames)) c.begin.new.self (Err c.in-Err.stop)) c.in-Ok.ensures.cases.0 c.in-Err.ensures.goes))
 
-pub returns-in-Some-2-clause-steps : goal.returns-in-Some-2-clause-steps
-returns-in-Some-2-clause-steps c =
+pub returns-in-Ok-Some-clause-steps : goal.returns-in-Ok-Some-clause-steps
+returns-in-Ok-Some-clause-steps c =
     let l : length c.args.self.now.frames < 100 = omega arith in
     rw c.in-Some.ensures.cases.0
     (header-whole c.args.self.now c.in-Some.first.now c.in-Some.after.now c.requires.no_body l c.in-Some-from_byte.kind (sym c.in-Some-from_byte.ensures.kind) c.in-Some-line_end.len c.in-Some-line_end.ensures.line
-    c.in-Ok.ensures.cases.1 c.begin.new.self c.in-Some-2.value c.in_ok-value.ensures.scanned (rw (← c.in-Ok.ensures.cases.0) (rw c.in-Some-2.is at c.in_ok-value.ensures.goes)))
+    c.in-Ok.ensures.cases.1 c.begin.new.self c.in-Ok-Some.value c.in-Ok-Some.ensures.scanned (rw (← c.in-Ok.ensures.cases.0) (rw c.in-Ok-Some.field-0-is at c.in-Ok-Some.ensures.goes)))
 
-pub returns-in-None-clause-steps : goal.returns-in-None-clause-steps
-returns-in-None-clause-steps c =
+pub returns-in-Ok-None-clause-steps : goal.returns-in-Ok-None-clause-steps
+returns-in-Ok-None-clause-steps c =
     let l : length c.args.self.now.frames < 100 = omega arith in
     rw c.in-Some.ensures.cases.0
     (header-goes c.args.self.now c.in-Some.first.now c.in-Some.after.now c.requires.no_body l c.in-Some-from_byte.kind (sym c.in-Some-from_byte.ensures.kind) c.in-Some-line_end.len c.in-Some-line_end.ensures.line
-    c.in-Ok.ensures.cases.1 c.begin.new.self c.in_ok-value.ensures.scanned (rw (← c.in-Ok.ensures.cases.0) (rw c.in-None.is at c.in_ok-value.ensures.goes)))
+    c.in-Ok.ensures.cases.1 c.begin.new.self c.in-Ok-None.ensures.scanned (rw (← c.in-Ok.ensures.cases.0) (rw c.in-Ok-None.field-0-is at c.in-Ok-None.ensures.goes)))
 
 pub overflow_sub-len : goal.overflow_sub-len
 overflow_sub-len c = omega (arith, c.in-Some-line_end.ensures.looks.2, c.saturating_sub.ensures)
 
-pub returns-in-Some-2-clause-pays : goal.returns-in-Some-2-clause-pays
-returns-in-Some-2-clause-pays c =
-    let p = c.in_ok-value.ensures.places in (
-      header-looks c.args.self.now c.begin.new.self c.args.counts.now c.line_end.new.counts c.take-2.new.self c.begin.new.counts c.in-Some-line_end.len c.saturating_sub.result c.in-Some.after.now c.saturating_sub.ensures c.in-Some-line_end.ensures.looks c.take-2.ensures c.in_ok-value.ensures.turns c.in_ok-value.ensures.scanned,
-      header-pays c.args.self.now c.begin.new.self c.args.counts.now c.line_end.new.counts c.take-2.new.self c.begin.new.counts c.in-Some-line_end.len c.saturating_sub.result c.in-Some.after.now c.saturating_sub.ensures c.in-Some-line_end.ensures.looks c.take-2.ensures c.in_ok-value.ensures.turns (omega (arith, p, c.in_ok-value.ensures.scanned)) c.in_ok-value.ensures.scanned,
+pub returns-in-Ok-Some-clause-pays : goal.returns-in-Ok-Some-clause-pays
+returns-in-Ok-Some-clause-pays c =
+    let p = c.in-Ok-Some.ensures.places in (
+      header-looks c.args.self.now c.begin.new.self c.args.counts.now c.line_end.new.counts c.take-2.new.self c.begin.new.counts c.in-Some-line_end.len c.saturating_sub.result c.in-Some.after.now c.saturating_sub.ensures c.in-Some-line_end.ensures.looks c.take-2.ensures c.in-Ok-Some.ensures.turns c.in-Ok-Some.ensures.scanned,
+      header-pays c.args.self.now c.begin.new.self c.args.counts.now c.line_end.new.counts c.take-2.new.self c.begin.new.counts c.in-Some-line_end.len c.saturating_sub.result c.in-Some.after.now c.saturating_sub.ensures c.in-Some-line_end.ensures.looks c.take-2.ensures c.in-Ok-Some.ensures.turns (omega (arith, p, c.in-Ok-Some.ensures.scanned)) c.in-Ok-Some.ensures.scanned,
     )
 
-pub returns-in-None-clause-pays : goal.returns-in-None-clause-pays
-returns-in-None-clause-pays c =
-    let p = c.in_ok-value.ensures.places in
-    let q = header-pays c.args.self.now c.begin.new.self c.args.counts.now c.line_end.new.counts c.take-2.new.self c.begin.new.counts c.in-Some-line_end.len c.saturating_sub.result c.in-Some.after.now c.saturating_sub.ensures c.in-Some-line_end.ensures.looks c.take-2.ensures c.in_ok-value.ensures.turns (omega (arith, p, c.in_ok-value.ensures.scanned)) c.in_ok-value.ensures.scanned in (
-      header-looks c.args.self.now c.begin.new.self c.args.counts.now c.line_end.new.counts c.take-2.new.self c.begin.new.counts c.in-Some-line_end.len c.saturating_sub.result c.in-Some.after.now c.saturating_sub.ensures c.in-Some-line_end.ensures.looks c.take-2.ensures c.in_ok-value.ensures.turns c.in_ok-value.ensures.scanned,
+pub returns-in-Ok-None-clause-pays : goal.returns-in-Ok-None-clause-pays
+returns-in-Ok-None-clause-pays c =
+    let p = c.in-Ok-None.ensures.places in
+    let q = header-pays c.args.self.now c.begin.new.self c.args.counts.now c.line_end.new.counts c.take-2.new.self c.begin.new.counts c.in-Some-line_end.len c.saturating_sub.result c.in-Some.after.now c.saturating_sub.ensures c.in-Some-line_end.ensures.looks c.take-2.ensures c.in-Ok-None.ensures.turns (omega (arith, p, c.in-Ok-None.ensures.scanned)) c.in-Ok-None.ensures.scanned in (
+      header-looks c.args.self.now c.begin.new.self c.args.counts.now c.line_end.new.counts c.take-2.new.self c.begin.new.counts c.in-Some-line_end.len c.saturating_sub.result c.in-Some.after.now c.saturating_sub.ensures c.in-Some-line_end.ensures.looks c.take-2.ensures c.in-Ok-None.ensures.turns c.in-Ok-None.ensures.scanned,
       omega (arith, q),
     )
 

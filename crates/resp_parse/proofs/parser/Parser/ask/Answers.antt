@@ -3,6 +3,7 @@ use Rattle.std.proofs.lemmas.Grind.{common_steps}
 use Rattle.resp_parse.specs.State.{State}
 use Rattle.resp_parse.proofs.Asking.{Asks-out_of_memory, Asks-early_end, Asks-source_failed, Asks-filled, take-some}
 use Rattle.resp_parse.proofs.Holding.{Holds-asked, fed-fits, fed-length}
+use Rattle.resp_parse.proofs.FaultOffsets.{Placed-longer}
 use Rattle.resp_parse.proofs.Spelling.{Spelled-asked}
 use Rattle.resp_parse.proofs.Counting.{Counted-asked, Bounded-from_kept}
 use Rattle.resp_parse.proofs.parser.Parser.ask.Goals as goal
@@ -37,6 +38,7 @@ invariant_of-self-in-Ok g c =
     record {
       consumed = fed-fits c.self.inside.buffer.items c.extend_from_slice.new.self.items bytes c.self.inside.consumed c.self.invariant.consumed e;
       levels = c.self.invariant.levels;
+      placed = Placed-longer c.self.inside.fault_offset c.self.inside.since c.append.new.self bytes c.self.inside.failed c.append.ensures c.self.invariant.placed;
       counted = (let l : length bytes ≡ c.in-Ok.n = grind (arith, common_steps) in
           Counted-asked c.self.inside.machine (drop c.self.inside.consumed c.self.inside.buffer.items) (drop c.self.inside.consumed c.extend_from_slice.new.self.items) c.in-Ok.n c.self.inside.counts c.come.new.self c.self.inside.failed
           c.self.invariant.counted c.come.ensures (fed-length c.self.inside.buffer.items c.extend_from_slice.new.self.items bytes c.self.inside.consumed c.self.invariant.consumed e ∙ ap (λ (k : ℕ). length (drop c.self.inside.consumed c.self.inside.buffer.items) + k) l));

@@ -1,6 +1,7 @@
-use Rattle.std.proofs.Common.{false, drop, arith, refl, sym, ◌∙◌}
+use Rattle.std.proofs.Common.{false, drop, arith, refl, sym, ◌∙◌, None}
 use Rattle.resp_parse.proofs.ParserStates.{IsBetweenValues-from_same}
 use Rattle.resp_parse.proofs.Holding.{Holds-new}
+use Rattle.resp_parse.proofs.FaultOffsets.{Placed-none}
 use Rattle.resp_parse.proofs.Spelling.{Spelled-new}
 use Rattle.resp_parse.proofs.Counting.{Counted-new, levels-fresh, Bounded-from_kept}
 use Rattle.resp_parse.proofs.parser.Parser.new.Goals as goal
@@ -10,6 +11,7 @@ invariant_of-result c = record {
   consumed = omega arith;
   levels = levels-fresh c.new-2.result c.new-2.ensures.fresh;
   holds = Holds-new c.new-2.result c.new.result.items c.new-3.result c.new.ensures.items c.new-3.ensures c.new-2.ensures.fresh c.new-2.ensures.scanned;
+  placed = Placed-none None _ false refl;
   counted = Counted-new c.new-2.result c.new.result.items c.new-4.result c.new-4.ensures c.new-2.ensures.fresh c.new-2.ensures.scanned c.new.ensures.items;
   spelled = λ _. Spelled-new c.new-2.result (drop 0 c.new.result.items) c.new-3.result c.new-2.ensures.scanned c.new.ensures.items c.new-3.ensures;
 }

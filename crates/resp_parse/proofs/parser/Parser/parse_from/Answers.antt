@@ -1,9 +1,10 @@
-use Rattle.std.proofs.Common.{◌++◌, ap, sym, ◌∙◌, refl, arith, Ok, Some, None}
+use Rattle.std.proofs.Common.{◌≡◌, ◌++◌, ap, sym, ◌∙◌, refl, arith, Ok, Some, None}
 use Rattle.resp_parse.proofs.Counting.{came-same, calls-most}
 use Rattle.std.proofs.lemmas.Result.{err_from_is_err_and}
 use Rattle.resp_parse.specs.State.{State}
 use Rattle.resp_parse.specs.Calls.{Takes}
-use Rattle.resp_parse.proofs.ParserStates.{StandsAfter-not_failed}
+use Rattle.resp_parse.proofs.ParserStates.{StandsAfter-not_failed, StandsAfter-from_since, StandsAfter-works}
+use Rattle.resp_parse.proofs.FaultOffsets.{HasOffset-unfilled}
 use Rattle.resp_parse.proofs.Parsing.{FilledAsNeeded-none, FilledAsNeeded-asked, Parsed-taken, CannotParse-taken, CannotParse-asked, CannotParse-failed}
 use Rattle.resp_parse.proofs.parser.Parser.parse_from.Goals as goal
 
@@ -11,6 +12,7 @@ pub loop-init : goal.loop-init
 loop-init g c = record {
   observable = λ obs. obs;
   calls = omega arith;
+  offset = λ w. sym (ap (λ (s : State). s.fault_offset) c.self.view_is) ∙ c.self.invariant.placed.works (ap (λ (s : State). s.failed) c.self.view_is ∙ w);
   filled = λ b h. FilledAsNeeded-none b c.args.self.now (g.S.ReplySource.source c.args.source.now) h;
 }
 
@@ -20,6 +22,10 @@ loop-preserved g c =
     record {
       observable = λ obs. c.ask.ensures.observable (c.loop.invariant.observable obs);
       calls = omega (arith, c.loop.invariant.calls, c.in_ok-ask.ensures.asked.0, c.in_ok-ask.ensures.asked.1, came-same c.loop.self c.take_value.new.self (λ e. (c.take_value.ensures.failed e).1) c.take_value.ensures.counts, calls-most c.loop.self c.take_value.new.self (λ e. (c.take_value.ensures.failed e).1) c.take_value.ensures.counts);
+      offset = λ w.
+          let k = c.loop.invariant.filled c.args.self.now.since (StandsAfter-from_since c.args.self.now c.args.self.now.since w refl) in
+          let h : c.take_value.new.self.fault_offset ≡ None = c.in_ok-value.ensures.offset (StandsAfter-works c.loop.self _ k.more.stands) in
+          c.ask.ensures.offset ∙ h;
       filled = λ b h.
           let k = c.loop.invariant.filled b h in
           let w : Takes (b ++ k.more.filled) c.take_value.new.self (Ok None) = rw c.in_default.is at (c.in_ok-value.ensures.takes (b ++ k.more.filled) k.more.stands) in
@@ -73,3 +79,27 @@ returns-in_err-ask-clause-calls g c =
 
 pub returns-clause-calls : goal.returns-clause-calls
 returns-clause-calls g c = rw c.fail.ensures.counts (omega (arith, c.loop.invariant.calls))
+
+pub returns-in_err-value-clause-offset : goal.returns-in_err-value-clause-offset
+returns-in_err-value-clause-offset g c = λ w.
+    let p = err_from_is_err_and c.from_residual.result c.from_residual.ensures.1 in
+    let k = c.loop.invariant.filled c.args.self.now.since (StandsAfter-from_since c.args.self.now c.args.self.now.since w refl) in
+    rw (p.1, p.2) (c.in_err-value.ensures.offset (StandsAfter-works c.loop.self _ k.more.stands))
+
+pub returns-in-Some-clause-offset : goal.returns-in-Some-clause-offset
+returns-in-Some-clause-offset g c = λ w.
+    let k = c.loop.invariant.filled c.args.self.now.since (StandsAfter-from_since c.args.self.now c.args.self.now.since w refl) in
+    c.in_ok-value.ensures.offset (StandsAfter-works c.loop.self _ k.more.stands)
+
+pub returns-in_err-ask-clause-offset : goal.returns-in_err-ask-clause-offset
+returns-in_err-ask-clause-offset g c = λ u.
+    let source = g.S.ReplySource.source in
+    let p = err_from_is_err_and c.from_residual-in_err-ask.result c.from_residual-in_err-ask.ensures.1 in
+    let b = c.args.self.now.since in
+    let k = c.loop.invariant.filled b (StandsAfter-from_since c.args.self.now b u refl) in
+    let h : c.take_value.new.self.fault_offset ≡ None = c.in_ok-value.ensures.offset (StandsAfter-works c.loop.self _ k.more.stands) in
+    let w : Takes (b ++ k.more.filled) c.take_value.new.self (Ok None) = rw c.in_default.is at (c.in_ok-value.ensures.takes (b ++ k.more.filled) k.more.stands) in
+    rw (p.1, p.2) (HasOffset-unfilled (b ++ k.more.filled) c.in_err-ask.field-0.0 c.ask.new.self (source c.loop.source) (source c.ask.new.source) c.ask.new.self.fault_offset (c.in_err-ask.ensures.asks (b ++ k.more.filled) w.1) (c.ask.ensures.offset ∙ h))
+
+pub returns-clause-offset : goal.returns-clause-offset
+returns-clause-offset g c = λ w. c.fail.ensures.offset ∙ c.loop.invariant.offset w

@@ -1,4 +1,4 @@
-use Rattle.std.proofs.Common.{◌≡◌, ◌≤◌, ◌+◌, true, List, ℕ}
+use Rattle.std.proofs.Common.{◌≡◌, ◌≤◌, ◌+◌, true, false, List, ℕ, None}
 use Rattle.resp_parse.specs.State.{StandsAfter}
 use Rattle.resp_parse.proofs.Parsing.{FilledAsNeeded}
 use Rattle.resp_parse.proofs.parser.Parser.parse_from.Given as goal
@@ -10,5 +10,6 @@ invariant-loop g l =
     record {
       observable : (source l.fn.source).observable ≡ true → (source l.source).observable ≡ true;
       calls : l.self.counts.calls + l.fn.self.counts.came ≤ l.fn.self.counts.calls + l.self.counts.came;
+      offset : l.fn.self.failed ≡ false → l.self.fault_offset ≡ None;
       filled : (b : List ℕ) → StandsAfter l.fn.self b → FilledAsNeeded b l.self (source l.fn.source) (source l.source);
     }

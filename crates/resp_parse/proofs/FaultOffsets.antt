@@ -1,0 +1,47 @@
+-- Where the fault stands that a parser answered.
+use Rattle.std.proofs.Common.{◌≡◌, ℕ, ◌+◌, Bool, true, false, List, ◌++◌, length, ap, arith, Option, None, Some, IfSome, Err}
+use Rattle.resp_errors.specs.declared.kinds.FrameFault.{FrameFault}
+use Rattle.resp_errors.specs.declared.redis_error.RedisError.{RedisError}
+use Rattle.resp_parse.specs.declared.stop.Refused.TheVariants as refused
+use Rattle.resp_parse.specs.declared.machine.Machine.{Machine}
+use Rattle.resp_parse.specs.Prefixes.{FaultShownBy}
+use Rattle.resp_parse.specs.State.{State, HasOffset}
+use Rattle.resp_parse.specs.Source.{Source}
+use Rattle.resp_parse.specs.Calls.{CannotFill, early_end, source_failed, out_of_memory}
+use Rattle.resp_parse.specs.Resume.{Drives}
+use Rattle.resp_parse.specs.Kept.{Resumes, Spelled, Placed}
+use Rattle.resp_parse.proofs.Holding.{shown-from_drives}
+use Rattle.resp_parse.proofs.PrefixReads.{FaultShownBy-longer}
+
+-- no fault was met
+pub Placed-none : (offset : Option ℕ) (since : List ℕ) (failed : Bool) → offset ≡ None → Placed offset since failed
+Placed-none offset since failed e = record { works = λ _. e; shows = rw e tt }
+
+-- a parser that works may hand out a value, or be given bytes
+pub Placed-working : (offset : Option ℕ) (since now : List ℕ) (failed : Bool) → failed ≡ false → Placed offset since failed → Placed offset now failed
+Placed-working offset since now failed w h = Placed-none offset now failed (h.works w)
+
+longer : (offset : Option ℕ) (since bytes : List ℕ) → IfSome offset (FaultShownBy 100 since) → IfSome offset (FaultShownBy 100 (since ++ bytes))
+longer None since bytes h = tt
+longer (Some n) since bytes h = FaultShownBy-longer 100 since bytes n h
+
+-- bytes came
+pub Placed-longer : (offset : Option ℕ) (since now bytes : List ℕ) (failed : Bool) → now ≡ since ++ bytes → Placed offset since failed → Placed offset now failed
+Placed-longer offset since now bytes failed e h = rw e (record { works = h.works; shows = longer offset since bytes h.shows })
+
+-- the parser has failed
+pub Placed-failing : (offset : Option ℕ) (since : List ℕ) (failed : Bool) → Placed offset since failed → Placed offset since true
+Placed-failing offset since failed h = record { works = λ e. absurd (let z : true ≡ false = e in cc); shows = h.shows }
+
+-- the machine went on in the unparsed bytes, and met a fault
+pub Placed-fault : (m new : Machine) (u unparsed since : List ℕ) (count n : ℕ) (f : FrameFault) → Resumes m u since → u ≡ unparsed → Spelled m unparsed since count → Drives m u new (Err (refused.Fault f n)) → Placed (Some (count + n)) since true
+Placed-fault m new u unparsed since count n f h e k d = record {
+  works = λ e. absurd (let z : true ≡ false = e in cc);
+  shows = shown-from_drives m new u since h f n count d (omega (arith, ap length e, k.counted));
+}
+
+-- a source that gave nothing makes no fault
+pub HasOffset-unfilled : (b : List ℕ) (e : RedisError) (new : State) (s t : Source) (offset : Option ℕ) → CannotFill b e new s t → offset ≡ None → HasOffset e offset
+HasOffset-unfilled b e new s t offset (early_end i came none failures failed) z = rw i z
+HasOffset-unfilled b e new s t offset (source_failed kind i came failures stands) z = rw i z
+HasOffset-unfilled b e new s t offset (out_of_memory i came failures failed) z = rw i z
