@@ -6,14 +6,13 @@ use Rattle.resp_value.specs.declared.value.Value.{Value}
 use Rattle.resp_errors.specs.declared.kinds.FrameFault.TheVariants.{BodyEnd}
 use Rattle.resp_parse.specs.declared.stop.Stop.{Stop}
 use Rattle.resp_parse.specs.declared.stop.Stop.TheVariants.{Memory, Fault}
-use Rattle.resp_parse.specs.declared.stop.Refused.TheVariants as refused
 use Rattle.resp_parse.specs.declared.machine.Body.{Body}
 use Rattle.resp_parse.specs.declared.machine.Machine.{Machine}
 use Rattle.resp_parse.specs.declared.machine.Step.TheVariants as step
 use Rattle.resp_parse.specs.PlainReading.{ReadOutcome, got, fault, unfinished, then, end_of_body, read_body, made}
 use Rattle.resp_parse.specs.Shapes.{body_value}
 use Rattle.resp_parse.specs.Computes.{Computes}
-use Rattle.resp_parse.specs.Resume.{value_of, place, resume, levels_left, IsScanned, EndsBody, FillsBody, Steps, refused_after}
+use Rattle.resp_parse.specs.Resume.{value_of, place, resume, levels_left, IsScanned, EndsBody, FillsBody, Steps}
 
 pub drop-all : (n : ℕ) (xs : List ℕ) → length xs ≤ n → drop n xs ≡ []
 drop-all zero [] l = refl
@@ -116,22 +115,22 @@ module _ (m : Machine) (old new : Body) (bytes : List ℕ) (n : ℕ) (body_is : 
     begun = λ _. rw body_is refl;
   })
 
-  pub body-faulty : (m' : Machine) (j : ℕ) → EndsBody (drop n bytes) (Err j) → Steps m bytes m' (Err (refused.Fault BodyEnd (n + j)))
-  body-faulty m' j e =
+  pub body-faulty : (m' : Machine) (j : ℕ) → m'.shown ≡ n + j → EndsBody (drop n bytes) (Err j) → Steps m bytes m' (Err (Fault BodyEnd))
+  body-faulty m' j i e =
       let r : length (drop n bytes) ≡ length bytes - n = grind (arith, common_steps) in
       let l : j ≤ length (drop n bytes) = e.0 in
-      (omega (arith, r, l, within), λ more. resumes more ∙ ap (λ o. then o (place m.frames)) (faulty old new bytes n h.0 h.1 (levels_left m.frames) j e more))
+      rw i (omega (arith, r, l, within), λ more. resumes more ∙ ap (λ o. then o (place m.frames)) (faulty old new bytes n h.0 h.1 (levels_left m.frames) j e more))
 
   ended : EndsBody (drop n bytes) (Ok true) → (more : List ℕ) → resume m (bytes ++ more) ≡ then (made (body_value new.kind new.bytes) (drop 2 (drop n bytes) ++ more)) (place m.frames)
   ended e more = resumes more ∙ ap (λ o. then o (place m.frames)) (whole old new bytes n h.0 h.1 (levels_left m.frames) more e.0 (e.1 more))
 
-  pub body-refused : EndsBody (drop n bytes) (Ok true) → (m' : Machine) (e : Stop) → Computes (Err e) (body_value new.kind new.bytes) → Steps m bytes m' (Err (refused_after (n + 2) e))
-  body-refused e m' Memory c = tt
-  body-refused e m' (Fault f) c =
+  pub body-refused : EndsBody (drop n bytes) (Ok true) → (m' : Machine) (e : Stop) → m'.shown ≡ n + 2 → Computes (Err e) (body_value new.kind new.bytes) → Steps m bytes m' (Err e)
+  body-refused e m' Memory i c = tt
+  body-refused e m' (Fault f) i c =
       let r : length (drop n bytes) ≡ length bytes - n = grind (arith, common_steps) in
       let l : 2 ≤ length (drop n bytes) = e.0 in
       let d : drop 2 (drop n bytes) ≡ drop (n + 2) bytes = drop-drop n 2 bytes in
-      (omega (arith, r, l, within), λ more. ended e more ∙ rw (c, d) refl)
+      rw i (omega (arith, r, l, within), λ more. ended e more ∙ rw (c, d) refl)
 
   pub body-whole : m.scanned ≡ 0 → EndsBody (drop n bytes) (Ok true) → (m' : Machine) → m' ≡ record m { body = None } → (v : Value) → Computes (Ok v) (body_value new.kind new.bytes) → Steps m bytes m' (Ok (step.Whole (n + 2) v))
   body-whole s e m' i v c =

@@ -2,7 +2,7 @@
 use Rattle.std.proofs.Common.{◌≡◌, ℕ, ◌+◌, ◌-◌, ◌*◌, ◌≤◌, Bool, true, false, List, [], ◌∷◌, length, drop, refl, ap, arith, Option, Some, None, Ok, Err}
 use Rattle.std.proofs.lemmas.Grind.{common_steps}
 use Rattle.resp_value.specs.declared.value.Value.{Value}
-use Rattle.resp_parse.specs.declared.stop.Refused.{Refused}
+use Rattle.resp_parse.specs.declared.stop.Stop.{Stop}
 use Rattle.resp_parse.specs.declared.frames.Frame.{Frame}
 use Rattle.resp_parse.specs.declared.machine.Body.{Body}
 use Rattle.resp_parse.specs.declared.machine.Machine.{Machine}
@@ -47,7 +47,7 @@ module _ (m new : Machine) (u : List ℕ) (c t e : Tally) (failed : Bool) where
         works = λ _. record { pays = omega (arith, b.pays, p.1, g.turns, g.taken, g.calls); held = omega (arith, b.held, p.0.taken, g.taken, g.came, l, r) };
       }
 
-  pub Counted-stopped : (x : Refused) → Counted m u c failed → failed ≡ false → t ≡ record c { calls = c.calls + 1 } → DrivePays m new u t e (Err x) → (v : List ℕ) → Counted new v e true
+  pub Counted-stopped : (x : Stop) → Counted m u c failed → failed ≡ false → t ≡ record c { calls = c.calls + 1 } → DrivePays m new u t e (Err x) → (v : List ℕ) → Counted new v e true
   Counted-stopped x k w i p v =
       let b = k.works w in
       let g = begun c t e i p.0.same in

@@ -4,12 +4,11 @@ use Rattle.std.proofs.lemmas.Grind.{common_steps}
 use Rattle.resp_value.specs.declared.value.Value.{Value}
 use Rattle.resp_parse.specs.declared.stop.Stop.{Stop}
 use Rattle.resp_parse.specs.declared.stop.Stop.TheVariants.{Memory, Fault}
-use Rattle.resp_parse.specs.declared.stop.Refused.TheVariants as refused
 use Rattle.resp_parse.specs.declared.machine.Machine.{Machine}
 use Rattle.resp_parse.specs.declared.machine.Step.TheVariants as step
 use Rattle.resp_errors.specs.declared.kinds.FrameFault.{FrameFault}
 use Rattle.resp_parse.specs.PlainReading.{got, fault}
-use Rattle.resp_parse.specs.Resume.{place, resume, fresh_of, IsScanned, Ends, Steps, Drives, refused_after}
+use Rattle.resp_parse.specs.Resume.{place, resume, fresh_of, IsScanned, Ends, Steps, Drives}
 use Rattle.resp_parse.proofs.BodiesInPieces.{drop-all, drop-drop}
 use Rattle.resp_parse.proofs.HeadersInPieces.{resume-nothing, IsScanned-zero}
 
@@ -43,8 +42,8 @@ module _ (old m : Machine) (bytes : List ℕ) (at : ℕ) (h : Driven old m bytes
   within : (n : ℕ) → n ≤ length (drop at bytes) → at + n ≤ length bytes
   within n l = let w : at ≤ length bytes = h.within in grind (arith, common_steps)
 
-  pub Driven-faulty : (new : Machine) (f : FrameFault) (n : ℕ) → at < length bytes → Steps m (drop at bytes) new (Err (refused.Fault f n)) → Drives old bytes new (Err (refused.Fault f (at + n)))
-  Driven-faulty new f n l s = ((within n s.0, λ more. h.same more ∙ s.1 more ∙ ap (λ x. fault f (x ++ more)) (dropped n)), omega arith)
+  pub Driven-faulty : (new end : Machine) (f : FrameFault) → end.shown ≡ at + new.shown → at < length bytes → Steps m (drop at bytes) new (Err (Fault f)) → Drives old bytes end (Err (Fault f))
+  Driven-faulty new end f e l s = (rw e (within new.shown s.0, λ more. h.same more ∙ s.1 more ∙ ap (λ x. fault f (x ++ more)) (dropped new.shown)), omega arith)
 
   pub Driven-waits : (new : Machine) (n : ℕ) → Steps m (drop at bytes) new (Ok (step.Waits n)) → Drives old bytes new (Ok (at + n, None))
   Driven-waits new n s = record {
@@ -85,9 +84,9 @@ module _ (old m : Machine) (bytes : List ℕ) (at : ℕ) (h : Driven old m bytes
       scanned = z ∙ s.0.scanned;
     }
 
-    pub Driven-refused : (e : Stop) → at < length bytes → Ends (place mid.frames v) new (Err e) → Drives old bytes new (Err (refused_after (at + n) e))
-    Driven-refused Memory l k = (tt, omega arith)
-    Driven-refused (Fault f) l k = (
-      (within n s.0.within, λ more. h.same more ∙ s.0.same more ∙ k (drop n (drop at bytes) ++ more) ∙ ap (λ x. fault f (x ++ more)) (dropped n)),
+    pub Driven-refused : (end : Machine) (e : Stop) → end.shown ≡ at + n → at < length bytes → Ends (place mid.frames v) new (Err e) → Drives old bytes end (Err e)
+    Driven-refused end Memory i l k = (tt, omega arith)
+    Driven-refused end (Fault f) i l k = (
+      rw i (within n s.0.within, λ more. h.same more ∙ s.0.same more ∙ k (drop n (drop at bytes) ++ more) ∙ ap (λ x. fault f (x ++ more)) (dropped n)),
       omega arith,
     )

@@ -2,7 +2,7 @@
 use Rattle.std.proofs.Common.{◌≡◌, ℕ, ◌+◌, Bool, true, false, List, ◌++◌, length, ap, arith, Option, None, Some, IfSome, Err}
 use Rattle.resp_errors.specs.declared.kinds.FrameFault.{FrameFault}
 use Rattle.resp_errors.specs.declared.redis_error.RedisError.{RedisError}
-use Rattle.resp_parse.specs.declared.stop.Refused.TheVariants as refused
+use Rattle.resp_parse.specs.declared.stop.Stop.TheVariants.{Fault}
 use Rattle.resp_parse.specs.declared.machine.Machine.{Machine}
 use Rattle.resp_parse.specs.Prefixes.{FaultShownBy}
 use Rattle.resp_parse.specs.State.{State, HasOffset}
@@ -34,10 +34,10 @@ pub Placed-failing : (offset : Option ℕ) (since : List ℕ) (failed : Bool) �
 Placed-failing offset since failed h = record { works = λ e. absurd (let z : true ≡ false = e in cc); shows = h.shows }
 
 -- the machine went on in the unparsed bytes, and met a fault
-pub Placed-fault : (m new : Machine) (u unparsed since : List ℕ) (count n : ℕ) (f : FrameFault) → Resumes m u since → u ≡ unparsed → Spelled m unparsed since count → Drives m u new (Err (refused.Fault f n)) → Placed (Some (count + n)) since true
-Placed-fault m new u unparsed since count n f h e k d = record {
+pub Placed-fault : (m new : Machine) (u unparsed since : List ℕ) (count : ℕ) (f : FrameFault) → Resumes m u since → u ≡ unparsed → Spelled m unparsed since count → Drives m u new (Err (Fault f)) → Placed (Some (count + new.shown)) since true
+Placed-fault m new u unparsed since count f h e k d = record {
   works = λ e. absurd (let z : true ≡ false = e in cc);
-  shows = shown-from_drives m new u since h f n count d (omega (arith, ap length e, k.counted));
+  shows = shown-from_drives m new u since h f count d (omega (arith, ap length e, k.counted));
 }
 
 -- a source that gave nothing makes no fault

@@ -6,7 +6,6 @@ use Rattle.resp_value.specs.declared.value.Value.{Value}
 use Rattle.resp_errors.specs.declared.kinds.FrameFault.TheVariants.{TooDeep, UnknownType, LineNotUtf8}
 use Rattle.resp_parse.specs.declared.stop.Stop.{Stop}
 use Rattle.resp_parse.specs.declared.stop.Stop.TheVariants.{Memory, Fault}
-use Rattle.resp_parse.specs.declared.stop.Refused.TheVariants as refused
 use Rattle.resp_parse.specs.declared.type_byte.TypeByte.{TypeByte}
 use Rattle.resp_parse.specs.declared.machine.Body.{Body}
 use Rattle.resp_parse.specs.declared.machine.Machine.{Machine}
@@ -15,7 +14,7 @@ use Rattle.resp_parse.specs.TypeBytes.{type_of}
 use Rattle.resp_parse.specs.Lines.{NoneBefore, Scanned}
 use Rattle.resp_parse.specs.Grammar.{announced}
 use Rattle.resp_parse.specs.PlainReading.{ReadOutcome, fault, unfinished, then, read_body, read_announced, read_line, read}
-use Rattle.resp_parse.specs.Resume.{value_of, place, resume, levels_left, IsLooked, IsScanned, FindsLine, Goes, Steps, refused_after}
+use Rattle.resp_parse.specs.Resume.{value_of, place, resume, levels_left, IsLooked, IsScanned, FindsLine, Goes, Steps}
 use Rattle.resp_parse.proofs.ByteTests.{not_true}
 use Rattle.resp_parse.proofs.LineAt.{line-none}
 use Rattle.resp_parse.proofs.LineReads.{line-longer}
@@ -61,10 +60,10 @@ module _ (m : Machine) (c : ℕ) (after : List ℕ) (body_is : m.body ≡ None) 
   before : (bs : List ℕ) → resume m bs ≡ then (read (levels_left m.frames) bs) (place m.frames)
   before bs = ap (λ o. then (value_of (levels_left m.frames) o bs) (place m.frames)) body_is
 
-  pub too_deep : (m' : Machine) → length m.frames ≡ 100 → Steps m (c ∷ after) m' (Err (refused.Fault TooDeep 1))
-  too_deep m' l =
+  pub too_deep : (m' : Machine) → m'.shown ≡ 1 → length m.frames ≡ 100 → Steps m (c ∷ after) m' (Err (Fault TooDeep))
+  too_deep m' i l =
       let z : levels_left m.frames ≡ 0 = omega arith in
-      (omega arith, λ more. before (c ∷ (after ++ more)) ∙ ap (λ d. then (read d (c ∷ (after ++ more))) (place m.frames)) z)
+      rw i (omega arith, λ more. before (c ∷ (after ++ more)) ∙ ap (λ d. then (read d (c ∷ (after ++ more))) (place m.frames)) z)
 
   module _ (l : length m.frames < 100) where
     level : levels_left m.frames ≡ suc (99 - length m.frames)
@@ -73,8 +72,8 @@ module _ (m : Machine) (c : ℕ) (after : List ℕ) (body_is : m.body ≡ None) 
     leveled : (bs : List ℕ) → resume m bs ≡ then (read (suc (99 - length m.frames)) bs) (place m.frames)
     leveled bs = before bs ∙ ap (λ d. then (read d bs) (place m.frames)) level
 
-    pub unknown_type : (m' : Machine) → type_of c ≡ None → Steps m (c ∷ after) m' (Err (refused.Fault UnknownType 1))
-    unknown_type m' k = (omega arith, λ more. leveled (c ∷ (after ++ more)) ∙ rw k refl)
+    pub unknown_type : (m' : Machine) → m'.shown ≡ 1 → type_of c ≡ None → Steps m (c ∷ after) m' (Err (Fault UnknownType))
+    unknown_type m' i k = rw i (omega arith, λ more. leveled (c ∷ (after ++ more)) ∙ rw k refl)
 
     module _ (kind : TypeByte) (kind_is : type_of c ≡ Some kind) where
       pub line-waits : FindsLine after None → (m' : Machine) → m' ≡ record m { scanned = suc (length after) } → Steps m (c ∷ after) m' (Ok (step.Waits 0))
@@ -103,10 +102,10 @@ module _ (m : Machine) (c : ℕ) (after : List ℕ) (body_is : m.body ≡ None) 
         within : len + 3 ≤ length (c ∷ after)
         within = let l : len + 2 ≤ length after = found.0 in omega arith
 
-        pub line-not_utf8 : (m' : Machine) → (IsUtf8 (take len after) → ⊥) → Steps m (c ∷ after) m' (Err (refused.Fault LineNotUtf8 (len + 3)))
-        line-not_utf8 m' u =
+        pub line-not_utf8 : (m' : Machine) → m'.shown ≡ len + 3 → (IsUtf8 (take len after) → ⊥) → Steps m (c ∷ after) m' (Err (Fault LineNotUtf8))
+        line-not_utf8 m' i u =
             let w : is_utf8 (take len after) ≡ false = not_true _ (λ t. u (IsUtf8-from_is_utf8 (take len after) t)) in
-            (within, λ more. header-reads more ∙ rw (w, dropped) refl)
+            rw i (within, λ more. header-reads more ∙ rw (w, dropped) refl)
 
         module _ (u : IsUtf8 (take len after)) where
           announced-reads : (more : List ℕ) → resume m (c ∷ (after ++ more)) ≡ then (read_announced (read (99 - length m.frames)) (announced kind (take len after)) (drop (len + 2) after ++ more)) (place m.frames)
@@ -115,9 +114,9 @@ module _ (m : Machine) (c : ℕ) (after : List ℕ) (body_is : m.body ≡ None) 
           abbrev begins : List ℕ → ReadOutcome Value
           begins more = then (read_announced (read (99 - length m.frames)) (announced kind (take len after)) more) (place m.frames)
 
-          pub header-stops : (m' : Machine) (e : Stop) → Goes begins m' (Err e) → Steps m (c ∷ after) m' (Err (refused_after (len + 3) e))
-          header-stops m' Memory g = tt
-          header-stops m' (Fault f) g = (within, λ more. announced-reads more ∙ g (drop (len + 2) after ++ more) ∙ ap (λ x. fault f (x ++ more)) (sym dropped))
+          pub header-stops : (m' end : Machine) (e : Stop) → end.shown ≡ len + 3 → Goes begins m' (Err e) → Steps m (c ∷ after) end (Err e)
+          header-stops m' end Memory i g = tt
+          header-stops m' end (Fault f) i g = rw i (within, λ more. announced-reads more ∙ g (drop (len + 2) after ++ more) ∙ ap (λ x. fault f (x ++ more)) (sym dropped))
 
           pub header-goes : (m' : Machine) → m'.scanned ≡ 0 → Goes begins m' (Ok None) → Steps m (c ∷ after) m' (Ok (step.Goes (len + 3)))
           header-goes m' s g = (

@@ -4,7 +4,7 @@ use Rattle.std.proofs.lemmas.List.{append-nil}
 use Rattle.std.proofs.lemmas.Grind.{common_steps}
 use Rattle.resp_value.specs.declared.value.Value.{Value}
 use Rattle.resp_errors.specs.declared.kinds.FrameFault.{FrameFault}
-use Rattle.resp_parse.specs.declared.stop.Refused.TheVariants as refused
+use Rattle.resp_parse.specs.declared.stop.Stop.TheVariants.{Fault}
 use Rattle.resp_parse.specs.declared.frames.Frame.{Frame}
 use Rattle.resp_parse.specs.declared.machine.Body.{Body}
 use Rattle.resp_parse.specs.declared.machine.Machine.{Machine}
@@ -123,17 +123,17 @@ module _ (m new : Machine) (u since : List ℕ) (h : Resumes m u since) where
   pub good-from_reads : (n : ℕ) (v : Value) → Reads m u new n v → HasGoodPrefix 100 since v (drop n u)
   good-from_reads n v d = HasGoodPrefix-from_read 100 since (drop n u) v (at_end ∙ d.same [] ∙ ap (λ r. got v r) (append-nil (drop n u)))
 
-  read-fault : (f : FrameFault) (n : ℕ) → Drives m u new (Err (refused.Fault f n)) → read 100 since ≡ fault f (drop n u)
-  read-fault f n d = at_end ∙ d.0.1 [] ∙ ap (λ r. fault f r) (append-nil (drop n u))
+  read-fault : (f : FrameFault) → Drives m u new (Err (Fault f)) → read 100 since ≡ fault f (drop new.shown u)
+  read-fault f d = at_end ∙ d.0.1 [] ∙ ap (λ r. fault f r) (append-nil (drop new.shown u))
 
-  pub faulty-from_drives : (f : FrameFault) (n : ℕ) → Drives m u new (Err (refused.Fault f n)) → HasFaultyPrefix 100 since f
-  faulty-from_drives f n d = HasFaultyPrefix-from_read 100 since (drop n u) f (read-fault f n d)
+  pub faulty-from_drives : (f : FrameFault) → Drives m u new (Err (Fault f)) → HasFaultyPrefix 100 since f
+  faulty-from_drives f d = HasFaultyPrefix-from_read 100 since (drop new.shown u) f (read-fault f d)
 
-  pub shown-from_drives : (f : FrameFault) (n count : ℕ) → Drives m u new (Err (refused.Fault f n)) → count + length u ≡ length since → FaultShownBy 100 since (count + n)
-  shown-from_drives f n count d l =
-      let w : n ≤ length u = d.0.0 in
-      let r : length (drop n u) ≡ length u - n = grind (arith, common_steps) in
-      FaultShownBy-from_read 100 since (drop n u) f (count + n) (read-fault f n d) (omega (arith, l, w, r))
+  pub shown-from_drives : (f : FrameFault) (count : ℕ) → Drives m u new (Err (Fault f)) → count + length u ≡ length since → FaultShownBy 100 since (count + new.shown)
+  shown-from_drives f count d l =
+      let w : new.shown ≤ length u = d.0.0 in
+      let r : length (drop new.shown u) ≡ length u - new.shown = grind (arith, common_steps) in
+      FaultShownBy-from_read 100 since (drop new.shown u) f (count + new.shown) (read-fault f d) (omega (arith, l, w, r))
 
   pub unfinished-from_waits : (n : ℕ) → Waits m u new n → IsUnfinished 100 since
   unfinished-from_waits n d = IsUnfinished-from_read 100 since (at_end ∙ d.same [] ∙ ap (resume new) (append-nil (drop n u)) ∙ d.waits)

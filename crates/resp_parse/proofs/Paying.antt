@@ -1,7 +1,7 @@
 -- The bytes taken pay for the turns.
 use Rattle.std.proofs.Common.{◌≡◌, ℕ, ◌+◌, ◌-◌, ◌*◌, ◌≤◌, List, length, ap, arith, refl, Some, None, Ok, Err}
 use Rattle.resp_value.specs.declared.value.Value.{Value}
-use Rattle.resp_parse.specs.declared.stop.Refused.{Refused}
+use Rattle.resp_parse.specs.declared.stop.Stop.{Stop}
 use Rattle.resp_parse.specs.declared.machine.Machine.{Machine}
 use Rattle.resp_parse.specs.Tally.{Tally}
 use Rattle.resp_parse.specs.declared.machine.Step.TheVariants as step
@@ -66,7 +66,7 @@ module _ (old m : Machine) (c d : Tally) (at : ℕ) (h : Spent old m c d at) whe
   pub Spent-goes : (new : Machine) (e : Tally) (rest : List ℕ) (n : ℕ) → StepPays m new rest d e (Ok (step.Goes n)) → StepWeighs m new (Ok (step.Goes n)) → Spent old new c e (at + n)
   Spent-goes new e rest n s w = record { looks = looks-on new e n s.0; pays = omega (arith, h.pays, s.1); weighs = omega (arith, h.weighs, w) }
 
-  pub Spent-stops : (new : Machine) (e : Tally) (rest bytes : List ℕ) (x : Refused) → length rest + at ≡ length bytes → StepPays m new rest d e (Err x) → DrivePays old new bytes c e (Err x)
+  pub Spent-stops : (new : Machine) (e : Tally) (rest bytes : List ℕ) (x : Stop) → length rest + at ≡ length bytes → StepPays m new rest d e (Err x) → DrivePays old new bytes c e (Err x)
   Spent-stops new e rest bytes x l s = (
     record {
       same = taken-both c d e h.looks.same s.0.same;
@@ -92,7 +92,7 @@ module _ (old m : Machine) (c d : Tally) (at : ℕ) (h : Spent old m c d at) whe
     pub Spent-weighs : (u : Value) → Weighs new (weight mid + 3 * built v) (Ok (Some u)) → weight new + 3 * built u ≤ weight old + (at + n)
     Spent-weighs u k = omega (arith, h.weighs, w, k)
 
-    pub Spent-refused : (x : Refused) (bytes : List ℕ) → at + n ≤ length bytes → mid.scanned ≡ 0 → f.turns ≤ e.turns + credit mid + 2 → DrivePays old new bytes c f (Err x)
+    pub Spent-refused : (x : Stop) (bytes : List ℕ) → at + n ≤ length bytes → mid.scanned ≡ 0 → f.turns ≤ e.turns + credit mid + 2 → DrivePays old new bytes c f (Err x)
     Spent-refused x bytes l z p = (
       record {
         same = taken-both c d f h.looks.same (taken-both d e f s.0.same (taken-turns e f turns));

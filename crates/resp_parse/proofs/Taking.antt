@@ -5,8 +5,8 @@ use Rattle.resp_value.specs.declared.value.Value.{Value}
 use Rattle.resp_errors.specs.declared.kinds.FrameFault.{FrameFault}
 use Rattle.resp_errors.specs.declared.parsing_error.ParsingError.TheVariants as parsing
 use Rattle.resp_errors.specs.declared.redis_error.RedisError.TheVariants as form
-use Rattle.resp_parse.specs.declared.stop.Refused.{Refused}
-use Rattle.resp_parse.specs.declared.stop.Refused.TheVariants as refused
+use Rattle.resp_parse.specs.declared.stop.Stop.{Stop}
+use Rattle.resp_parse.specs.declared.stop.Stop.TheVariants as stop
 use Rattle.resp_parse.specs.declared.machine.Machine.{Machine}
 use Rattle.resp_parse.specs.Prefixes.{HasGoodPrefix, HasFaultyPrefix, IsUnfinished}
 use Rattle.resp_parse.specs.State.{State}
@@ -64,7 +64,7 @@ module _ (buffer since : List ℕ) (consumed : ℕ) (failed : Bool) (m new : Mac
     )
 
   -- no value can be read
-  pub stops-holds : (e : Refused) → Drives m u new (Err e) → Holds new (drop consumed buffer) since true
+  pub stops-holds : (e : Stop) → Drives m u new (Err e) → Holds new (drop consumed buffer) since true
   stops-holds e d = Holds-failed m new (drop consumed buffer) since failed h (subst (λ (x : List ℕ). 0 < length x) u_is d.1)
 
   -- the value in progress is longer than one may be
@@ -76,11 +76,11 @@ module _ (buffer since : List ℕ) (consumed : ℕ) (failed : Bool) (m new : Mac
       let now = Counted-taken m new u c t e failed n o l s (subst (λ x. Counted m x c failed) (sym u_is) k) w i p in
       record { turns = now.turns; taken = now.taken; works = λ z. absurd (let y : true ≡ false = z in cc) }
 
-  pub stops-counted : (x : Refused) (c t e : Tally) → Counted m (drop consumed buffer) c failed → t ≡ record c { calls = c.calls + 1 } → DrivePays m new u t e (Err x) → Counted new (drop consumed buffer) e true
+  pub stops-counted : (x : Stop) (c t e : Tally) → Counted m (drop consumed buffer) c failed → t ≡ record c { calls = c.calls + 1 } → DrivePays m new u t e (Err x) → Counted new (drop consumed buffer) e true
   stops-counted x c t e k i p = Counted-stopped m new u c t e failed x (subst (λ y. Counted m y c failed) (sym u_is) k) w i p (drop consumed buffer)
 
-  pub stops-fault : (s : State) → s.failed ≡ true → s.since ≡ since → (f : FrameFault) (n : ℕ) → Drives m u new (Err (refused.Fault f n)) → (b : List ℕ) → b ≡ since → Takes b s (Err (form.Parse (parsing.Fault f)))
-  stops-fault s k y f n d b e = (CannotTake.faulty f refl (subst (λ x. HasFaultyPrefix 100 x f) (sym e) (faulty-from_drives m new u since resumes f n d)), FailedAfter-from_since s b k (e ∙ sym y))
+  pub stops-fault : (s : State) → s.failed ≡ true → s.since ≡ since → (f : FrameFault) → Drives m u new (Err (stop.Fault f)) → (b : List ℕ) → b ≡ since → Takes b s (Err (form.Parse (parsing.Fault f)))
+  stops-fault s k y f d b e = (CannotTake.faulty f refl (subst (λ x. HasFaultyPrefix 100 x f) (sym e) (faulty-from_drives m new u since resumes f d)), FailedAfter-from_since s b k (e ∙ sym y))
 
   pub stops-memory : (s : State) → s.failed ≡ true → s.since ≡ since → (b : List ℕ) → b ≡ since → Takes b s (Err form.OutOfMemory)
   stops-memory s k y b e = (CannotTake.out_of_memory refl, FailedAfter-from_since s b k (e ∙ sym y))

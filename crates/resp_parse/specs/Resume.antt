@@ -5,8 +5,6 @@ use Rattle.resp_value.specs.declared.value.Value.{Value}
 use Rattle.resp_errors.specs.declared.kinds.FrameFault.TheVariants.{BodyEnd}
 use Rattle.resp_parse.specs.declared.stop.Stop.{Stop}
 use Rattle.resp_parse.specs.declared.stop.Stop.TheVariants.{Memory, Fault}
-use Rattle.resp_parse.specs.declared.stop.Refused.{Refused}
-use Rattle.resp_parse.specs.declared.stop.Refused.TheVariants as refused
 use Rattle.resp_parse.specs.declared.frames.Frame.{Frame}
 use Rattle.resp_parse.specs.declared.machine.Body.{Body}
 use Rattle.resp_parse.specs.declared.machine.Machine.{Machine}
@@ -57,15 +55,10 @@ FaultsAtOnce before Memory = Unit {0}
 FaultsAtOnce before (Fault f) = (more : List ℕ) → before more ≡ fault f more
 
 -- the first n bytes show a fault, whatever bytes come after; memory aside
-abbrev pub FaultsWithin : (List ℕ → ReadOutcome Value) → List ℕ → Refused → Type 0
-FaultsWithin before bytes refused.Memory = Unit {0}
-FaultsWithin before bytes (refused.Fault f n) = (n ≤ length bytes)
+abbrev pub FaultsWithin : (List ℕ → ReadOutcome Value) → List ℕ → ℕ → Stop → Type 0
+FaultsWithin before bytes n Memory = Unit {0}
+FaultsWithin before bytes n (Fault f) = (n ≤ length bytes)
     × ((more : List ℕ) → before (bytes ++ more) ≡ fault f (drop n bytes ++ more))
-
--- why nothing is read, where n bytes were taken before that showed
-abbrev pub refused_after : ℕ → Stop → Refused
-refused_after n Memory = refused.Memory
-refused_after n (Fault f) = refused.Fault f n
 
 -- from `before`, by the bytes that come, the machine has come to `new`, and a body or a frame is
 -- open; with Some, the value in progress is whole
@@ -122,13 +115,13 @@ pub record Takes (old : Machine) (bytes : List ℕ) (new : Machine)
   pub scanned : new.scanned ≡ 0
 
 -- what one step does
-abbrev pub Steps : Machine → List ℕ → Machine → Result Step Refused → Type 0
+abbrev pub Steps : Machine → List ℕ → Machine → Result Step Stop → Type 0
 Steps old bytes new (Ok (step.Waits n)) = Waits old bytes new n
 Steps old bytes new (Ok (step.Goes n)) =
     Takes old bytes new (resume new) n × (fresh_of new.body new.frames ≡ false)
 Steps old bytes new (Ok (step.Whole n v)) =
     Takes old bytes new (place new.frames v) n × (new.body ≡ None)
-Steps old bytes new (Err e) = FaultsWithin (resume old) bytes e
+Steps old bytes new (Err e) = FaultsWithin (resume old) bytes new.shown e
 
 -- a value was read, and n bytes taken
 pub record Reads (old : Machine) (bytes : List ℕ) (new : Machine) (n : ℕ) (v : Value) : Type 0 where
@@ -138,7 +131,8 @@ pub record Reads (old : Machine) (bytes : List ℕ) (new : Machine) (n : ℕ) (v
   pub scanned : new.scanned ≡ 0
 
 -- what all steps do until a value is whole or more bytes are needed
-abbrev pub Drives : Machine → List ℕ → Machine → Result (ℕ × Option Value) Refused → Type 0
+abbrev pub Drives : Machine → List ℕ → Machine → Result (ℕ × Option Value) Stop → Type 0
 Drives old bytes new (Ok (n, Some v)) = Reads old bytes new n v
 Drives old bytes new (Ok (n, None)) = Waits old bytes new n
-Drives old bytes new (Err e) = FaultsWithin (resume old) bytes e × (0 < length bytes)
+Drives old bytes new (Err e) =
+    FaultsWithin (resume old) bytes new.shown e × (0 < length bytes)

@@ -3,7 +3,6 @@ use Rattle.std.specs.Prelude.{◌≡◌, ℕ, ◌+◌, ◌*◌, ◌≤◌, List,
 use Rattle.std.specs.List.{sum_by}
 use Rattle.resp_value.specs.declared.value.Value.{Value}
 use Rattle.resp_parse.specs.declared.stop.Stop.{Stop}
-use Rattle.resp_parse.specs.declared.stop.Refused.{Refused}
 use Rattle.resp_parse.specs.declared.frames.Frame.{Frame}
 use Rattle.resp_parse.specs.declared.machine.Body.{Body}
 use Rattle.resp_parse.specs.declared.machine.Machine.{Machine}
@@ -39,13 +38,13 @@ Weighs new n (Ok None) = weight new ≤ n
 Weighs new n (Ok (Some v)) = weight new + 3 * built v ≤ n
 Weighs new n (Err e) = Unit {0}
 
-abbrev pub StepWeighs : Machine → Machine → Result Step Refused → Type 0
+abbrev pub StepWeighs : Machine → Machine → Result Step Stop → Type 0
 StepWeighs old new (Ok (step.Waits n)) = weight new ≤ weight old + n
 StepWeighs old new (Ok (step.Goes n)) = weight new ≤ weight old + n
 StepWeighs old new (Ok (step.Whole n v)) = weight new + 3 * built v ≤ weight old + n
 StepWeighs old new (Err e) = Unit {0}
 
-abbrev pub DriveWeighs : Machine → Machine → Result (ℕ × Option Value) Refused → Type 0
+abbrev pub DriveWeighs : Machine → Machine → Result (ℕ × Option Value) Stop → Type 0
 DriveWeighs old new (Ok (n, o)) = Weighs new (weight old + n) (Ok o)
 DriveWeighs old new (Err e) = Unit {0}
 
@@ -90,7 +89,7 @@ pub record Stopped (old : Machine) (c d : Tally) (n : ℕ) : Type 0 where
   pub most : d.taken + old.scanned ≤ c.taken + n
 
 -- the bytes taken and one call pay for the turns; a whole value keeps two
-abbrev pub StepPays : Machine → Machine → List ℕ → Tally → Tally → Result Step Refused → Type 0
+abbrev pub StepPays : Machine → Machine → List ℕ → Tally → Tally → Result Step Stop → Type 0
 StepPays old new bytes c d (Ok (step.Waits n)) = Looks old new c d n
     × (d.turns + credit new + 3 * c.taken ≤ c.turns + credit old + 3 * d.taken + 1)
 StepPays old new bytes c d (Ok (step.Goes n)) = Looks old new c d n
@@ -101,7 +100,7 @@ StepPays old new bytes c d (Err e) = Stopped old c d (length bytes)
     × (d.turns + 3 * c.taken ≤ c.turns + credit old + 3 * d.taken + 1)
 
 -- the same but for the step's own turn
-abbrev pub HeaderPays : Machine → Machine → List ℕ → Tally → Tally → Result Step Refused → Type 0
+abbrev pub HeaderPays : Machine → Machine → List ℕ → Tally → Tally → Result Step Stop → Type 0
 HeaderPays old new bytes c d (Ok (step.Waits n)) = Looks old new c d n
     × (d.turns + credit new + 3 * c.taken ≤ c.turns + credit old + 3 * d.taken)
 HeaderPays old new bytes c d (Ok (step.Goes n)) = Looks old new c d n
@@ -112,7 +111,7 @@ HeaderPays old new bytes c d (Err e) = Stopped old c d (length bytes)
     × (d.turns + 3 * c.taken ≤ c.turns + credit old + 3 * d.taken)
 
 abbrev pub DrivePays : Machine → Machine → List ℕ → Tally → Tally →
-    Result (ℕ × Option Value) Refused → Type 0
+    Result (ℕ × Option Value) Stop → Type 0
 DrivePays old new bytes c d (Ok (n, o)) = Looks old new c d n
     × (d.turns + credit new + 3 * c.taken ≤ c.turns + credit old + 3 * d.taken + 1)
 DrivePays old new bytes c d (Err e) = Stopped old c d (length bytes)

@@ -2,7 +2,6 @@
 
 ghost use Rattle.std.specs.Prelude.{◌≡◌, ◌<◌, ◌≤◌, ◌+◌, ◌-◌, ◌*◌, [], length, true, IfOk};
 ghost use Rattle.resp_parse.specs.declared.stop.Stop.{Stop};
-ghost use Rattle.resp_parse.specs.declared.stop.Refused.{Refused};
 ghost use Rattle.std.specs.Prelude.{None};
 ghost use Rattle.resp_parse.specs.Grammar.{announced};
 ghost use Rattle.resp_parse.specs.PlainReading.{then, read_announced, read};
@@ -19,7 +18,7 @@ use crate::counts::Counts;
 use crate::frames::{Added, Frame, Frames};
 use crate::line::{body_ends, line_end};
 use crate::shape::{BodyKind, Shape, shape_of};
-use crate::stop::{Refused, Stop};
+use crate::stop::Stop;
 use crate::type_byte::TypeByte;
 use resp_value::{FrameFault, Items, Value};
 use std::alloc::{AllocError, Global};
@@ -94,6 +93,8 @@ pub(crate) struct Machine {
     pub(crate) body: Option<Body>,
     /// So many bytes of the line in progress were looked at and hold no CR LF.
     pub(crate) scanned: usize,
+    /// So many bytes of the call that met a fault show it.
+    pub(crate) shown: usize,
 }
 
 impl Machine {
@@ -106,6 +107,7 @@ impl Machine {
             frames: Frames::new(alloc),
             body: None,
             scanned: 0,
+            shown: 0,
         }
     }
 
@@ -114,6 +116,15 @@ impl Machine {
         ensures { result ≡ fresh_of self.now.body self.now.frames }
     {
         self.body.is_none() && self.frames.len() == 0
+    }
+
+    /// Says why reading stops, and keeps how many bytes show it.
+    fn stop(&mut self, why: Stop, shown: usize) -> Stop
+        ensures why { result ≡ why }
+        ensures shown { self.new ≡ record self.old { shown = shown } }
+    {
+        self.shown = shown;
+        why
     }
 
     /// Begins what a header announces; Some is a value that is whole with it. So many bytes are at
@@ -159,7 +170,7 @@ impl Machine {
     }
 
     /// Reads the header at the start of the bytes.
-    fn header(&mut self, alloc: Global, bytes: &[u8], counts: &mut Counts) -> Result<Step, Refused>
+    fn header(&mut self, alloc: Global, bytes: &[u8], counts: &mut Counts) -> Result<Step, Stop>
         requires no_body { self.old.body ≡ None }
         requires levels { length self.old.frames ≤ 100 }
         requires scanned { IsScanned self.old.body self.old.scanned bytes.now }
@@ -172,10 +183,10 @@ impl Machine {
             return Ok(Step::Waits(0));
         };
         if self.frames.len() == LEVELS {
-            return Err(Refused::Fault(FrameFault::TooDeep, 1));
+            return Err(self.stop(Stop::Fault(FrameFault::TooDeep), 1));
         }
         let Some(kind) = TypeByte::from_byte(*first) else {
-            return Err(Refused::Fault(FrameFault::UnknownType, 1));
+            return Err(self.stop(Stop::Fault(FrameFault::UnknownType), 1));
         };
         let Some(len) = line_end(after, self.scanned.saturating_sub(1), counts) else {
             counts.take(bytes.len() - self.scanned);
@@ -185,18 +196,18 @@ impl Machine {
         counts.take(len + 3 - self.scanned);
         self.scanned = 0;
         let Ok(text) = std::str::from_utf8(&after[..len]) else {
-            return Err(Refused::Fault(FrameFault::LineNotUtf8, len + 3));
+            return Err(self.stop(Stop::Fault(FrameFault::LineNotUtf8), len + 3));
         };
         let at_hand = after.len() - (len + 2);
         match self.begin(alloc, kind, text, at_hand, counts) {
             Ok(Some(value)) => Ok(Step::Whole(len + 3, value)),
             Ok(None) => Ok(Step::Goes(len + 3)),
-            Err(stop) => Err(stop.after(len + 3)),
+            Err(why) => Err(self.stop(why, len + 3)),
         }
     }
 
     /// Takes a header, or goes on in a body.
-    fn step(&mut self, alloc: Global, bytes: &[u8], counts: &mut Counts) -> Result<Step, Refused>
+    fn step(&mut self, alloc: Global, bytes: &[u8], counts: &mut Counts) -> Result<Step, Stop>
         requires levels { length self.old.frames ≤ 100 }
         requires scanned { IsScanned self.old.body self.old.scanned bytes.now }
         ensures steps { Steps self.old bytes.now self.new result }
@@ -216,12 +227,12 @@ impl Machine {
                 self.body = Some(body);
                 return Ok(Step::Waits(taken));
             }
-            Err(shown) => return Err(Refused::Fault(FrameFault::BodyEnd, taken + shown)),
+            Err(shown) => return Err(self.stop(Stop::Fault(FrameFault::BodyEnd), taken + shown)),
         }
         counts.take(2);
         match body.value(alloc) {
             Ok(value) => Ok(Step::Whole(taken + 2, value)),
-            Err(stop) => Err(stop.after(taken + 2)),
+            Err(why) => Err(self.stop(why, taken + 2)),
         }
     }
 
@@ -287,7 +298,7 @@ impl Machine {
         alloc: Global,
         bytes: &[u8],
         counts: &mut Counts,
-    ) -> Result<(usize, Option<Value>), Refused>
+    ) -> Result<(usize, Option<Value>), Stop>
         requires levels { length self.old.frames ≤ 100 }
         requires scanned { IsScanned self.old.body self.old.scanned bytes.now }
         ensures drives { Drives self.old bytes.now self.new result }
@@ -305,11 +316,14 @@ impl Machine {
                     match self.settle(alloc, value, counts) {
                         Ok(Some(value)) => return Ok((at, Some(value))),
                         Ok(None) => {}
-                        Err(stop) => return Err(stop.after(at)),
+                        Err(why) => return Err(self.stop(why, at)),
                     }
                 }
-                Err(Refused::Memory) => return Err(Refused::Memory),
-                Err(Refused::Fault(fault, shown)) => return Err(Refused::Fault(fault, at + shown)),
+                Err(Stop::Memory) => return Err(Stop::Memory),
+                Err(Stop::Fault(fault)) => {
+                    let shown = at + self.shown;
+                    return Err(self.stop(Stop::Fault(fault), shown));
+                }
             }
         }
         Ok((at, None))

@@ -13,7 +13,7 @@ use crate::machine::Machine;
 use crate::reading::Reading;
 use crate::since::Since;
 use crate::source::ReplySource;
-use crate::stop::Refused;
+use crate::stop::Stop;
 use resp_value::{IoKind, ParsingError, RedisError, RedisResult, Value};
 use std::alloc::Global;
 use std::io::Read;
@@ -170,12 +170,12 @@ impl Parser {
                 self.spelled += taken;
                 Ok(None)
             }
-            Err(Refused::Fault(fault, shown)) => {
+            Err(Stop::Fault(fault)) => {
                 self.failed = true;
-                self.fault_offset = Some(self.spelled + shown);
+                self.fault_offset = Some(self.spelled + self.machine.shown);
                 Err(RedisError::Parse(ParsingError::Fault(fault)))
             }
-            Err(Refused::Memory) => {
+            Err(Stop::Memory) => {
                 self.failed = true;
                 Err(RedisError::OutOfMemory)
             }

@@ -6,7 +6,7 @@ ghost use Rattle.resp_parse.specs.Prefixes.{SpelledWithin};
 
 use crate::counts::Counts;
 use crate::machine::Machine;
-use crate::stop::Refused;
+use crate::stop::Stop;
 use resp_value::{IoKind, ParsingError, RedisError, RedisResult, Value};
 use std::alloc::Global;
 
@@ -24,7 +24,7 @@ pub fn parse_redis_value(alloc: Global, bytes: &[u8]) -> RedisResult<Value>
     match machine.drive(alloc, bytes, &mut counts) {
         Ok((_, Some(value))) => Ok(value),
         Ok((_, None)) => Err(RedisError::Io(IoKind::UnexpectedEof)),
-        Err(Refused::Fault(fault, _)) => Err(RedisError::Parse(ParsingError::Fault(fault))),
-        Err(Refused::Memory) => Err(RedisError::OutOfMemory),
+        Err(Stop::Fault(fault)) => Err(RedisError::Parse(ParsingError::Fault(fault))),
+        Err(Stop::Memory) => Err(RedisError::OutOfMemory),
     }
 }

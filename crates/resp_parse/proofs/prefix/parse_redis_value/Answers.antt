@@ -1,5 +1,5 @@
 use Rattle.std.proofs.Common.{drop, refl, Ok, Err, Some, None}
-use Rattle.resp_parse.specs.declared.stop.Refused.TheVariants as refused
+use Rattle.resp_parse.specs.declared.stop.Stop.TheVariants as stop
 use Rattle.resp_parse.specs.FirstValue.{faulty, unfinished}
 use Rattle.resp_parse.specs.Resume.{Drives}
 use Rattle.resp_parse.proofs.Holding.{Resumes-fresh, good-from_reads, faulty-from_drives, unfinished-from_waits}
@@ -22,5 +22,5 @@ returns-in-Ok-default-None-clause-answers c =
 pub returns-in-Err-Fault-clause-answers : goal.returns-in-Err-Fault-clause-answers
 returns-in-Err-Fault-clause-answers c =
     let bytes = c.args.bytes.now in
-    let d : Drives c.new-machine.result bytes c.drive.new.self (Err (refused.Fault c.in-Err-Fault.fault c.in-Err-Fault.field-0-1)) = rw c.in-Err-Fault.field-0-is at c.in-Err-Fault.ensures.drives in
-    faulty c.in-Err-Fault.fault refl (faulty-from_drives c.new-machine.result c.drive.new.self bytes bytes (Resumes-fresh c.new-machine.result bytes c.new-machine.ensures.fresh c.new-machine.ensures.scanned) c.in-Err-Fault.fault c.in-Err-Fault.field-0-1 d)
+    let d : Drives c.new-machine.result bytes c.drive.new.self (Err (stop.Fault c.in-Err-Fault.fault)) = rw c.in-Err-Fault.field-0-is at c.in-Err-Fault.ensures.drives in
+    faulty c.in-Err-Fault.fault refl (faulty-from_drives c.new-machine.result c.drive.new.self bytes bytes (Resumes-fresh c.new-machine.result bytes c.new-machine.ensures.fresh c.new-machine.ensures.scanned) c.in-Err-Fault.fault d)

@@ -9,7 +9,7 @@ use Rattle.resp_parse.proofs.machine.Machine.begin.Goals as goal
 
 pub returns-in_ok-push-in-Elements-clause-goes : goal.returns-in_ok-push-in-Elements-clause-goes
 returns-in_ok-push-in-Elements-clause-goes c =
-    announced-frame c.args.self.now.frames (announced c.args.kind c.args.text.now) (record { frames = c.push.new.self; body = c.args.self.now.body; scanned = c.args.self.now.scanned }) c.in-Elements.kind c.in-Elements.count (c.in-Elements.count - 1) _
+    announced-frame c.args.self.now.frames (announced c.args.kind c.args.text.now) (record { frames = c.push.new.self; body = c.args.self.now.body; scanned = c.args.self.now.scanned; shown = c.args.self.now.shown }) c.in-Elements.kind c.in-Elements.count (c.in-Elements.count - 1) _
     (rw c.in-Elements.is at c.in_ok-value.ensures.announced) (omega arith) (rw c.in_ok-room_for-in-Elements.ensures refl) c.in_ok-push-in-Elements.ensures.ok c.requires.no_body
 
 pub returns-in-Whole-clause-weighs : goal.returns-in-Whole-clause-weighs
@@ -30,7 +30,7 @@ returns-in-Whole-clause-goes c = announced-whole c.args.self.now.frames (announc
 
 pub returns-in_ok-room_for_bytes-in-Body-clause-goes : goal.returns-in_ok-room_for_bytes-in-Body-clause-goes
 returns-in_ok-room_for_bytes-in-Body-clause-goes c =
-    announced-body c.args.self.now.frames (announced c.args.kind c.args.text.now) (record { frames = c.args.self.now.frames; body = Some (record { kind = c.in-Body.kind; missing = c.in-Body.missing; bytes = c.in_ok-room_for_bytes-in-Body.field-0 }); scanned = c.args.self.now.scanned }) c.in-Body.kind c.in-Body.missing
+    announced-body c.args.self.now.frames (announced c.args.kind c.args.text.now) (record { frames = c.args.self.now.frames; body = Some (record { kind = c.in-Body.kind; missing = c.in-Body.missing; bytes = c.in_ok-room_for_bytes-in-Body.field-0 }); scanned = c.args.self.now.scanned; shown = c.args.self.now.shown }) c.in-Body.kind c.in-Body.missing
     (rw c.in-Body.is at c.in_ok-value.ensures.announced) refl (rw c.in_ok-room_for_bytes-in-Body.ensures refl)
 
 pub returns-in_ok-value-in-Elements-default-eq0-clause-goes : goal.returns-in_ok-value-in-Elements-default-eq0-clause-goes

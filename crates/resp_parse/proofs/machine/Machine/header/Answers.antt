@@ -1,5 +1,6 @@
-use Rattle.std.proofs.Common.{◌≡◌, ◌<◌, ◌-◌, [], List, ℕ, length, arith, refl, sym, subst, Err}
+use Rattle.std.proofs.Common.{◌≡◌, ◌<◌, ◌-◌, [], List, ℕ, length, ap, arith, refl, sym, subst, Err}
 use Rattle.std.proofs.lemmas.Grind.{common_steps}
+use Rattle.resp_parse.specs.declared.machine.Machine.{Machine}
 use Rattle.resp_parse.specs.Grammar.{announced}
 use Rattle.resp_parse.specs.PlainReading.{then, read_announced, read}
 use Rattle.resp_parse.specs.Resume.{place, Goes}
@@ -16,17 +17,17 @@ returns-in_default-line_end-clause-steps c =
 pub returns-in_default-from_utf8-clause-steps : goal.returns-in_default-from_utf8-clause-steps
 returns-in_default-from_utf8-clause-steps c =
     let l : length c.args.self.now.frames < 100 = omega arith in
-    rw c.in-Some.ensures.cases.0
+    rw (c.stop-in_default-from_utf8.ensures.why, c.in-Some.ensures.cases.0)
     (line-not_utf8 c.args.self.now c.in-Some.first.now c.in-Some.after.now c.requires.no_body l c.in-Some-from_byte.kind (sym c.in-Some-from_byte.ensures.kind) c.in-Some-line_end.len c.in-Some-line_end.ensures.line
-    c.args.self.now c.in_default-from_utf8.ensures.cases.0)
+    c.stop-in_default-from_utf8.new.self (ap (λ (m : Machine). m.shown) c.stop-in_default-from_utf8.ensures.shown) c.in_default-from_utf8.ensures.cases.0)
 
 pub returns-in-Err-clause-steps : goal.returns-in-Err-clause-steps
 returns-in-Err-clause-steps c =
     let l : length c.args.self.now.frames < 100 = omega arith in
-    rw (c.after.ensures, c.in-Some.ensures.cases.0)
+    rw (c.stop-in-Err.ensures.why, c.in-Some.ensures.cases.0)
     (header-stops c.args.self.now c.in-Some.first.now c.in-Some.after.now c.requires.no_body l c.in-Some-from_byte.kind (sym c.in-Some-from_byte.ensures.kind) c.in-Some-line_end.len c.in-Some-line_end.ensures.line
-    c.in-Ok.ensures.cases.1 c.begin.new.self c.in-Err.stop
-    (subst (λ (t : List ℕ). Goes (λ more. then (read_announced (read (99 - length c.args.self.now.frames)) (announced c.in-Some-from_byte.kind t) more) (place c.args.self.now.frames)) c.begin.new.self (Err c.in-Err.stop)) c.in-Ok.ensures.cases.0 c.in-Err.ensures.goes))
+    c.in-Ok.ensures.cases.1 c.begin.new.self c.stop-in-Err.new.self c.in-Err.why (ap (λ (m : Machine). m.shown) c.stop-in-Err.ensures.shown)
+    (subst (λ (t : List ℕ). Goes (λ more. then (read_announced (read (99 - length c.args.self.now.frames)) (announced c.in-Some-from_byte.kind t) more) (place c.args.self.now.frames)) c.begin.new.self (Err c.in-Err.why)) c.in-Ok.ensures.cases.0 c.in-Err.ensures.goes))
 
 pub returns-in-Ok-Some-clause-steps : goal.returns-in-Ok-Some-clause-steps
 returns-in-Ok-Some-clause-steps c =
@@ -68,5 +69,5 @@ returns-in_default-clause-steps c =
 pub returns-in_default-from_byte-clause-steps : goal.returns-in_default-from_byte-clause-steps
 returns-in_default-from_byte-clause-steps c =
     let l : length c.args.self.now.frames < 100 = omega arith in
-    rw c.in-Some.ensures.cases.0
-    (unknown_type c.args.self.now c.in-Some.first.now c.in-Some.after.now c.requires.no_body l c.args.self.now (sym c.in_default-from_byte.ensures.kind))
+    rw (c.stop-in_default-from_byte.ensures.why, c.in-Some.ensures.cases.0)
+    (unknown_type c.args.self.now c.in-Some.first.now c.in-Some.after.now c.requires.no_body l c.stop-in_default-from_byte.new.self (ap (λ (m : Machine). m.shown) c.stop-in_default-from_byte.ensures.shown) (sym c.in_default-from_byte.ensures.kind))

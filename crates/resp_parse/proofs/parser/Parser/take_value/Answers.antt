@@ -1,6 +1,6 @@
 use Rattle.std.proofs.Common.{◌≡◌, ◌+◌, ◌-◌, ℕ, length, take, drop, refl, ap, sym, subst, ◌∙◌, ◌<◌, ◌≤◌, true, false, arith, Ok, Err, Some, None}
 use Rattle.std.proofs.lemmas.Grind.{common_steps}
-use Rattle.resp_parse.specs.declared.stop.Refused.TheVariants as refused
+use Rattle.resp_parse.specs.declared.stop.Stop.TheVariants as stop
 use Rattle.resp_parse.specs.State.{State}
 use Rattle.resp_parse.specs.Resume.{Drives}
 use Rattle.resp_parse.specs.Kept.{Resumes}
@@ -71,9 +71,9 @@ pub returns-in-Err-Fault-clause-takes : goal.returns-in-Err-Fault-clause-takes
 returns-in-Err-Fault-clause-takes c = λ b h.
     let u = take (length c.deref.result.now - c.self.inside.consumed) (drop c.self.inside.consumed c.deref.result.now) in
     let f : u ≡ drop c.self.inside.consumed c.self.inside.buffer.items = grind (arith, common_steps, c.deref.ensures.value) in
-    let d : Drives c.self.inside.machine u c.drive.new.self (Err (refused.Fault c.in-Err-Fault.fault c.in-Err-Fault.shown)) = rw c.in-Err-Fault.field-0-is at c.in-Err-Fault.ensures.drives in
+    let d : Drives c.self.inside.machine u c.drive.new.self (Err (stop.Fault c.in-Err-Fault.fault)) = rw c.in-Err-Fault.field-0-is at c.in-Err-Fault.ensures.drives in
     stops-fault c.self.inside.buffer.items c.self.inside.since c.self.inside.consumed c.self.inside.failed c.self.inside.machine c.drive.new.self c.self.invariant.consumed c.self.invariant.holds c.if-self.false u f
-    _ refl refl c.in-Err-Fault.fault c.in-Err-Fault.shown d b (StandsAfter-since c.args.self.now b h ∙ sym (ap (λ (s : State). s.since) c.self.view_is))
+    _ refl refl c.in-Err-Fault.fault d b (StandsAfter-since c.args.self.now b h ∙ sym (ap (λ (s : State). s.since) c.self.view_is))
 
 pub returns-in-Err-Memory-clause-takes : goal.returns-in-Err-Memory-clause-takes
 returns-in-Err-Memory-clause-takes c = λ b h.
@@ -116,13 +116,13 @@ pub invariant_of-self-in-Err-Fault : goal.invariant_of-self-in-Err-Fault
 invariant_of-self-in-Err-Fault c =
     let u = take (length c.deref.result.now - c.self.inside.consumed) (drop c.self.inside.consumed c.deref.result.now) in
     let f : u ≡ drop c.self.inside.consumed c.self.inside.buffer.items = grind (arith, common_steps, c.deref.ensures.value) in
-    let d : Drives c.self.inside.machine u c.drive.new.self (Err (refused.Fault c.in-Err-Fault.fault c.in-Err-Fault.shown)) = rw c.in-Err-Fault.field-0-is at c.in-Err-Fault.ensures.drives in
+    let d : Drives c.self.inside.machine u c.drive.new.self (Err (stop.Fault c.in-Err-Fault.fault)) = rw c.in-Err-Fault.field-0-is at c.in-Err-Fault.ensures.drives in
     record {
       consumed = c.self.invariant.consumed;
       levels = c.in-Err-Fault.ensures.levels;
-      holds = stops-holds c.self.inside.buffer.items c.self.inside.since c.self.inside.consumed c.self.inside.failed c.self.inside.machine c.drive.new.self c.self.invariant.consumed c.self.invariant.holds c.if-self.false u f (refused.Fault c.in-Err-Fault.fault c.in-Err-Fault.shown) d;
-      counted = stops-counted c.self.inside.buffer.items c.self.inside.since c.self.inside.consumed c.self.inside.failed c.self.inside.machine c.drive.new.self c.self.invariant.consumed c.self.invariant.holds c.if-self.false u f (refused.Fault c.in-Err-Fault.fault c.in-Err-Fault.shown) c.self.inside.counts c.call.new.self c.drive.new.counts c.self.invariant.counted c.call.ensures c.in-Err-Fault.ensures.pays;
-      placed = Placed-fault c.self.inside.machine c.drive.new.self u (drop c.self.inside.consumed c.self.inside.buffer.items) c.self.inside.since c.self.inside.spelled c.in-Err-Fault.shown c.in-Err-Fault.fault (subst (λ x. Resumes c.self.inside.machine x c.self.inside.since) (sym f) (c.self.invariant.holds.resumes c.if-self.false)) f (c.self.invariant.spelled c.if-self.false) d;
+      holds = stops-holds c.self.inside.buffer.items c.self.inside.since c.self.inside.consumed c.self.inside.failed c.self.inside.machine c.drive.new.self c.self.invariant.consumed c.self.invariant.holds c.if-self.false u f (stop.Fault c.in-Err-Fault.fault) d;
+      counted = stops-counted c.self.inside.buffer.items c.self.inside.since c.self.inside.consumed c.self.inside.failed c.self.inside.machine c.drive.new.self c.self.invariant.consumed c.self.invariant.holds c.if-self.false u f (stop.Fault c.in-Err-Fault.fault) c.self.inside.counts c.call.new.self c.drive.new.counts c.self.invariant.counted c.call.ensures c.in-Err-Fault.ensures.pays;
+      placed = Placed-fault c.self.inside.machine c.drive.new.self u (drop c.self.inside.consumed c.self.inside.buffer.items) c.self.inside.since c.self.inside.spelled c.in-Err-Fault.fault (subst (λ x. Resumes c.self.inside.machine x c.self.inside.since) (sym f) (c.self.invariant.holds.resumes c.if-self.false)) f (c.self.invariant.spelled c.if-self.false) d;
       spelled = λ w. absurd (let z : true ≡ false = w in cc);
     }
 
@@ -133,12 +133,12 @@ pub invariant_of-self-in-Err-Memory : goal.invariant_of-self-in-Err-Memory
 invariant_of-self-in-Err-Memory c =
     let u = take (length c.deref.result.now - c.self.inside.consumed) (drop c.self.inside.consumed c.deref.result.now) in
     let f : u ≡ drop c.self.inside.consumed c.self.inside.buffer.items = grind (arith, common_steps, c.deref.ensures.value) in
-    let d : Drives c.self.inside.machine u c.drive.new.self (Err refused.Memory) = rw c.in-Err-Memory.field-0-is at c.in-Err-Memory.ensures.drives in
+    let d : Drives c.self.inside.machine u c.drive.new.self (Err stop.Memory) = rw c.in-Err-Memory.field-0-is at c.in-Err-Memory.ensures.drives in
     record {
       consumed = c.self.invariant.consumed;
       levels = c.in-Err-Memory.ensures.levels;
-      holds = stops-holds c.self.inside.buffer.items c.self.inside.since c.self.inside.consumed c.self.inside.failed c.self.inside.machine c.drive.new.self c.self.invariant.consumed c.self.invariant.holds c.if-self.false u f refused.Memory d;
-      counted = stops-counted c.self.inside.buffer.items c.self.inside.since c.self.inside.consumed c.self.inside.failed c.self.inside.machine c.drive.new.self c.self.invariant.consumed c.self.invariant.holds c.if-self.false u f refused.Memory c.self.inside.counts c.call.new.self c.drive.new.counts c.self.invariant.counted c.call.ensures c.in-Err-Memory.ensures.pays;
+      holds = stops-holds c.self.inside.buffer.items c.self.inside.since c.self.inside.consumed c.self.inside.failed c.self.inside.machine c.drive.new.self c.self.invariant.consumed c.self.invariant.holds c.if-self.false u f stop.Memory d;
+      counted = stops-counted c.self.inside.buffer.items c.self.inside.since c.self.inside.consumed c.self.inside.failed c.self.inside.machine c.drive.new.self c.self.invariant.consumed c.self.invariant.holds c.if-self.false u f stop.Memory c.self.inside.counts c.call.new.self c.drive.new.counts c.self.invariant.counted c.call.ensures c.in-Err-Memory.ensures.pays;
       placed = Placed-failing c.self.inside.fault_offset c.self.inside.since c.self.inside.failed c.self.invariant.placed;
       spelled = λ w. absurd (let z : true ≡ false = w in cc);
     }
