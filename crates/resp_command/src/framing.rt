@@ -4,7 +4,7 @@ ghost use Rattle.std.specs.Prelude.{◌≡◌, ◌+◌, ◌-◌, ◌≤◌, ◌<
 ghost use Rattle.std.specs.Prelude.{if◌then◌else◌, take, drop, decimal, OnOk, OnErr, IfOk, IsOk};
 ghost use Rattle.std.specs.Prelude.{vec_len, vec_capacity};
 ghost use Rattle.resp_command.specs.Frames.{longer};
-ghost use Rattle.resp_command.specs.Packed.{bulk};
+ghost use Rattle.resp_command.specs.Packed.{bulk, length_line};
 
 use itoa::Buffer;
 use std::alloc::AllocError;
@@ -32,17 +32,38 @@ pub fn append_frame(bytes: &mut Vec<u8>, arg: &[u8]) -> Result<usize, AllocError
 
 /// Appends an argument's frame; refused, it leaves more behind the old bytes.
 pub fn write_frame(bytes: &mut Vec<u8>, arg: &[u8]) -> Result<(), AllocError>
-    ensures ok { OnOk result (bytes.new.items ≡ bytes.old.items ++ bulk arg.now) }
-    ensures err { OnErr result (take (length bytes.old.items) bytes.new.items ≡ bytes.old.items) }
+    ensures written { OnOk result (bytes.new.items ≡ bytes.old.items ++ bulk arg.now) }
+    ensures prefix { take (length bytes.old.items) bytes.new.items ≡ bytes.old.items }
 {
     let spare = if bytes.is_empty() { SPARE } else { FRAME };
     bytes.reserve(arg.len() + spare)?;
-    bytes.push(b'$')?;
-    bytes.extend_from_slice(Buffer::new().format(arg.len()).as_bytes())?;
-    bytes.extend_from_slice(b"\r\n")?;
+    write_length_line(bytes, b'$', arg.len())?;
     bytes.extend_from_slice(arg)?;
-    bytes.extend_from_slice(b"\r\n")?;
-    Ok(())
+    bytes.extend_from_slice(b"\r\n")
+}
+
+/// Appends a mark, a length in decimal and CR LF; refused, it leaves more behind the old bytes.
+pub fn write_length_line(bytes: &mut Vec<u8>, mark: u8, len: usize) -> Result<(), AllocError>
+    ensures written { OnOk result (bytes.new.items ≡ bytes.old.items ++ length_line mark len) }
+    ensures prefix { take (length bytes.old.items) bytes.new.items ≡ bytes.old.items }
+{
+    if len < 10 {
+        return bytes.extend_from_slice(&[mark, digit(len), b'\r', b'\n']);
+    }
+    if len < 100 {
+        return bytes.extend_from_slice(&[mark, digit(len / 10), digit(len % 10), b'\r', b'\n']);
+    }
+    bytes.push(mark)?;
+    bytes.extend_from_slice(Buffer::new().format(len).as_bytes())?;
+    bytes.extend_from_slice(b"\r\n")
+}
+
+/// The digit of a number below ten.
+fn digit(number: usize) -> u8
+    requires { number < 10 }
+    ensures { result ≡ 48 + number }
+{
+    b'0' + number as u8
 }
 
 /// Appends bytes to the argument at the end, whose length starts at `start` and whose bytes start

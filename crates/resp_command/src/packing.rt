@@ -3,12 +3,11 @@
 ghost use Rattle.std.specs.Prelude.{◌≡◌, ◌++◌, length, map, take, IfOk, OnOk};
 ghost use Rattle.resp_errors.specs.Memory.{OnlyMemory};
 ghost use Rattle.resp_args.specs.Args.{args_of};
-ghost use Rattle.resp_command.specs.Packed.{length_line, bulk, packed};
+ghost use Rattle.resp_command.specs.Packed.{packed};
 ghost use Rattle.resp_command.specs.Pieces.{IsWoven, sent, woven};
 
 use crate::frames::Frames;
-use crate::framing::FRAME;
-use itoa::Buffer;
+use crate::framing::{FRAME, write_frame, write_length_line};
 use resp_value::RedisResult;
 use std::alloc::Global;
 
@@ -47,13 +46,13 @@ pub fn append_pieces(
             .saturating_add(room)
             .saturating_add(FRAME),
     )?;
-    append_length_line(out, b'*', frames.len() + cursors.len())?;
+    write_length_line(out, b'*', frames.len() + cursors.len())?;
     let mut done = 0;
     let mut passed = 0;
     for place in cursors {
         let next = *place - passed;
         out.extend_from_slice(frames.range(done, next))?;
-        append_bulk(out, text)?;
+        write_frame(out, text)?;
         done = next;
         passed += 1;
     }
@@ -66,31 +65,9 @@ fn append_packed(out: &mut Vec<u8>, args: &[Vec<u8>]) -> RedisResult<()>
     ensures prefix { take (length out.old.items) out.new.items ≡ out.old.items }
     ensures memory { OnlyMemory result }
 {
-    append_length_line(out, b'*', args.len())?;
+    write_length_line(out, b'*', args.len())?;
     for arg in args {
-        append_bulk(out, arg.as_slice())?;
+        write_frame(out, arg.as_slice())?;
     }
-    Ok(())
-}
-
-fn append_bulk(out: &mut Vec<u8>, arg: &[u8]) -> RedisResult<()>
-    ensures written { OnOk result (out.new.items ≡ out.old.items ++ bulk arg.now) }
-    ensures prefix { take (length out.old.items) out.new.items ≡ out.old.items }
-    ensures memory { OnlyMemory result }
-{
-    append_length_line(out, b'$', arg.len())?;
-    out.extend_from_slice(arg)?;
-    out.extend_from_slice(b"\r\n")?;
-    Ok(())
-}
-
-fn append_length_line(out: &mut Vec<u8>, mark: u8, len: usize) -> RedisResult<()>
-    ensures written { OnOk result (out.new.items ≡ out.old.items ++ length_line mark len) }
-    ensures prefix { take (length out.old.items) out.new.items ≡ out.old.items }
-    ensures memory { OnlyMemory result }
-{
-    out.push(mark)?;
-    out.extend_from_slice(Buffer::new().format(len).as_bytes())?;
-    out.extend_from_slice(b"\r\n")?;
     Ok(())
 }

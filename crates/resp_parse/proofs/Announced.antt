@@ -1,18 +1,23 @@
 -- What a header announces, as a machine begins it.
 use Rattle.std.proofs.Common.{◌≡◌, ℕ, suc, ◌-◌, List, [], ◌∷◌, length, refl, ap, ◌∙◌, arith, Some, None, Ok, Err}
+use Rattle.std.specs.Str.{IsUtf8, is_utf8}
+use Rattle.std.proofs.lemmas.Str.{IsUtf8-from_is_utf8, is_utf8-from_IsUtf8}
 use Rattle.resp_value.specs.declared.value.Value.{Value}
+use Rattle.resp_errors.specs.declared.kinds.FrameFault.TheVariants.{LineNotUtf8}
 use Rattle.resp_parse.specs.declared.stop.Stop.{Stop}
 use Rattle.resp_parse.specs.declared.stop.Stop.TheVariants.{Memory, Fault}
+use Rattle.resp_parse.specs.declared.type_byte.TypeByte.{TypeByte}
 use Rattle.resp_parse.specs.declared.shape.BodyKind.{BodyKind}
 use Rattle.resp_parse.specs.declared.shape.ElementsKind.{ElementsKind}
 use Rattle.resp_parse.specs.declared.shape.Shape.TheVariants as shape
 use Rattle.resp_parse.specs.declared.frames.Frame.{Frame}
 use Rattle.resp_parse.specs.declared.machine.Machine.{Machine}
-use Rattle.resp_parse.specs.Grammar.{Announcement}
-use Rattle.resp_parse.specs.Shapes.{Announces, elements_value}
+use Rattle.resp_parse.specs.Grammar.{Announcement, announced, invalid}
+use Rattle.resp_parse.specs.Shapes.{Announces, announced_in_line, elements_value}
 use Rattle.resp_parse.specs.PlainReading.{ReadOutcome, then, read_announced, read}
 use Rattle.resp_parse.specs.Computes.{Computes}
 use Rattle.resp_parse.specs.Resume.{place, Goes}
+use Rattle.resp_parse.proofs.ByteTests.{not_true}
 use Rattle.resp_parse.proofs.OpenFrames.{opens}
 
 -- a header of a value inside these frames
@@ -45,3 +50,11 @@ module _ (fs : List Frame) (a : Announcement) where
         (opens (99 - length fs) k kind fs more r ∙ ap (λ d. then (read d more) (place (record { kind = kind; after = k; elements = [] } ∷ fs))) r)),
     rw (e, b) refl,
   )
+
+-- a line that is text announces what its text does, and another is at fault
+module _ (kind : TypeByte) (line : List ℕ) where
+  pub in_line-text : IsUtf8 line → announced_in_line kind line ≡ announced kind line
+  in_line-text u = rw (is_utf8-from_IsUtf8 line u) refl
+
+  pub in_line-bytes : (IsUtf8 line → ⊥) → announced_in_line kind line ≡ invalid LineNotUtf8
+  in_line-bytes none = rw (not_true (is_utf8 line) (λ t. none (IsUtf8-from_is_utf8 line t))) refl

@@ -3,11 +3,11 @@ use Rattle.std.proofs.Common.{◌≡◌, ℕ, zero, suc, ◌+◌, ◌-◌, ◌<�
 use Rattle.std.proofs.lemmas.Bool.{and_parts, and_from, ltb-true, lt-ltb}
 use Rattle.std.proofs.lemmas.Bool.Decides.{nat_tests}
 use Rattle.std.proofs.lemmas.Grind.{common_steps}
-use Rattle.std.proofs.lemmas.Str.{chars-IsAscii, encodes-IsAscii}
+use Rattle.std.proofs.lemmas.Str.{IsUtf8-from_ascii, chars-IsAscii, encodes-IsAscii}
 use Rattle.std.proofs.lemmas.Str.Ascii.{IsAscii-from_all}
 use Rattle.std.specs.Char.{is_ascii_digit, is_whitespace, digit_value}
 use Rattle.std.specs.List.{list_all}
-use Rattle.std.specs.Str.{IsAscii, encode_utf8_all, skip_leading_whitespace, drop_trailing_whitespace, trim_start, trim_end, trim}
+use Rattle.std.specs.Str.{IsAscii, IsUtf8, encode_utf8_all, skip_leading_whitespace, drop_trailing_whitespace, trim_start, trim_end, trim}
 use Rattle.std.specs.Str.Parse.{without_leading_plus, without_leading_sign, signed_digits_value, digits_value, starts_with_minus}
 use Rattle.resp_parse.specs.Number.{is_digits, is_decimal, fits_i64, plain_number, number}
 use Rattle.resp_parse.proofs.ByteTests.{eq_false}
@@ -79,10 +79,16 @@ digit-next text at d h k l = by_place (nat_lt k at) refl
 take-all : (xs : List ℕ) (n : ℕ) → length xs ≤ n → take n xs ≡ xs
 take-all xs n l = grind (arith, common_steps)
 
--- all bytes of the text are digits
-pub number-of : (text bytes : List ℕ) (at value : ℕ) → bytes ≡ text → length bytes ≤ at → 0 < length bytes → ((k : ℕ) → k < at → is_ascii_digit (get_or bytes k 0) ≡ true) → value ≡ digits_value 10 (take at bytes) → value < 2 ^ 63 →
-    number text ≡ Some (pos value)
-number-of text bytes at value e l some d v b =
-    let w : value ≡ digits_value 10 bytes = v ∙ ap (digits_value 10) (take-all bytes at l) in
-    let n : number bytes ≡ Some (pos (digits_value 10 bytes)) = number-digits bytes some (all-digits bytes (λ k m. d k (omega (arith, m, l)))) (omega (arith, w, b)) in
-    ap number (sym e) ∙ n ∙ ap (λ x. Some (pos x)) (sym w)
+-- all bytes of the line are digits
+module _ (line : List ℕ) (at : ℕ) (all : length line ≤ at)
+    (digits : (k : ℕ) → k < at → is_ascii_digit (get_or line k 0) ≡ true) where
+  of-digits : Digits line
+  of-digits = all-digits line (λ k m. digits k (omega (arith, m, all)))
+
+  pub utf8-of : IsUtf8 line
+  utf8-of = IsUtf8-from_ascii line (IsAscii-from_all line (ascii-digits line of-digits))
+
+  pub number-of : (value : ℕ) → 0 < length line → value ≡ digits_value 10 (take at line) → value < 2 ^ 63 → number line ≡ Some (pos value)
+  number-of value some v b =
+      let w : value ≡ digits_value 10 line = v ∙ ap (digits_value 10) (take-all line at all) in
+      number-digits line some of-digits (omega (arith, w, b)) ∙ ap (λ x. Some (pos x)) (sym w)

@@ -1,7 +1,6 @@
 -- Headers whose bytes may not be all there.
-use Rattle.std.proofs.Common.{◌≡◌, ℕ, zero, suc, ◌+◌, ◌-◌, ◌<◌, ◌≤◌, false, List, [], ◌∷◌, ◌++◌, length, take, drop, refl, ap, sym, ◌∙◌, arith, Option, Some, None, Ok, Err}
-use Rattle.std.specs.Str.{IsUtf8, is_utf8}
-use Rattle.std.proofs.lemmas.Str.{IsUtf8-from_is_utf8, is_utf8-from_IsUtf8}
+use Rattle.std.proofs.Common.{◌≡◌, ℕ, zero, suc, ◌+◌, ◌-◌, ◌<◌, ◌≤◌, Bool, true, false, cond, List, [], ◌∷◌, ◌++◌, length, take, drop, refl, ap, sym, ◌∙◌, arith, Option, Some, None, Ok, Err}
+use Rattle.std.specs.Str.{is_utf8}
 use Rattle.resp_value.specs.declared.value.Value.{Value}
 use Rattle.resp_errors.specs.declared.kinds.FrameFault.TheVariants.{TooDeep, UnknownType, LineNotUtf8}
 use Rattle.resp_parse.specs.declared.stop.Stop.{Stop}
@@ -12,10 +11,10 @@ use Rattle.resp_parse.specs.declared.machine.Machine.{Machine}
 use Rattle.resp_parse.specs.declared.machine.Step.TheVariants as step
 use Rattle.resp_parse.specs.TypeBytes.{type_of}
 use Rattle.resp_parse.specs.Lines.{NoneBefore, Scanned}
-use Rattle.resp_parse.specs.Grammar.{announced}
+use Rattle.resp_parse.specs.Grammar.{announced, invalid}
+use Rattle.resp_parse.specs.Shapes.{announced_in_line}
 use Rattle.resp_parse.specs.PlainReading.{ReadOutcome, fault, unfinished, then, read_body, read_announced, read_line, read}
 use Rattle.resp_parse.specs.Resume.{value_of, place, resume, levels_left, IsLooked, IsScanned, FindsLine, Goes, Steps}
-use Rattle.resp_parse.proofs.ByteTests.{not_true}
 use Rattle.resp_parse.proofs.LineAt.{line-none}
 use Rattle.resp_parse.proofs.LineReads.{line-longer}
 
@@ -54,6 +53,14 @@ looked : (c : ℕ) (after : List ℕ) → NoneBefore after (length after) → Is
 looked c after none =
     let e : suc (length after) - 1 ≡ length after = omega arith in
     record { within = omega arith; rest = rw e (record { within = omega arith; none = none }) }
+
+-- a line is read as what it announces
+line-announces : (P : List ℕ → ReadOutcome Value) (kind : TypeByte) (text bs : List ℕ) → read_line P kind text bs ≡ read_announced P (announced_in_line kind text) bs
+line-announces P kind text bs = by_test (is_utf8 text)
+  where
+    by_test : (u : Bool) → cond u (read_announced P (announced kind text) bs) (fault LineNotUtf8 bs) ≡ read_announced P (cond u (announced kind text) (invalid LineNotUtf8)) bs
+    by_test true = refl
+    by_test false = refl
 
 -- a machine before a value, whose type byte is c
 module _ (m : Machine) (c : ℕ) (after : List ℕ) (body_is : m.body ≡ None) where
@@ -102,40 +109,34 @@ module _ (m : Machine) (c : ℕ) (after : List ℕ) (body_is : m.body ≡ None) 
         within : len + 3 ≤ length (c ∷ after)
         within = let l : len + 2 ≤ length after = found.0 in omega arith
 
-        pub line-not_utf8 : (m' : Machine) → m'.shown ≡ len + 3 → (IsUtf8 (take len after) → ⊥) → Steps m (c ∷ after) m' (Err (Fault LineNotUtf8))
-        line-not_utf8 m' i u =
-            let w : is_utf8 (take len after) ≡ false = not_true _ (λ t. u (IsUtf8-from_is_utf8 (take len after) t)) in
-            rw i (within, λ more. header-reads more ∙ rw (w, dropped) refl)
+        announced-reads : (more : List ℕ) → resume m (c ∷ (after ++ more)) ≡ then (read_announced (read (99 - length m.frames)) (announced_in_line kind (take len after)) (drop (len + 2) after ++ more)) (place m.frames)
+        announced-reads more = header-reads more ∙ ap (λ o. then o (place m.frames)) (line-announces (read (99 - length m.frames)) kind (take len after) (drop (len + 2) after ++ more))
 
-        module _ (u : IsUtf8 (take len after)) where
-          announced-reads : (more : List ℕ) → resume m (c ∷ (after ++ more)) ≡ then (read_announced (read (99 - length m.frames)) (announced kind (take len after)) (drop (len + 2) after ++ more)) (place m.frames)
-          announced-reads more = header-reads more ∙ rw (is_utf8-from_IsUtf8 (take len after) u) refl
+        abbrev begins : List ℕ → ReadOutcome Value
+        begins more = then (read_announced (read (99 - length m.frames)) (announced_in_line kind (take len after)) more) (place m.frames)
 
-          abbrev begins : List ℕ → ReadOutcome Value
-          begins more = then (read_announced (read (99 - length m.frames)) (announced kind (take len after)) more) (place m.frames)
+        pub header-stops : (m' end : Machine) (e : Stop) → end.shown ≡ len + 3 → Goes begins m' (Err e) → Steps m (c ∷ after) end (Err e)
+        header-stops m' end Memory i g = tt
+        header-stops m' end (Fault f) i g = rw i (within, λ more. announced-reads more ∙ g (drop (len + 2) after ++ more) ∙ ap (λ x. fault f (x ++ more)) (sym dropped))
 
-          pub header-stops : (m' end : Machine) (e : Stop) → end.shown ≡ len + 3 → Goes begins m' (Err e) → Steps m (c ∷ after) end (Err e)
-          header-stops m' end Memory i g = tt
-          header-stops m' end (Fault f) i g = rw i (within, λ more. announced-reads more ∙ g (drop (len + 2) after ++ more) ∙ ap (λ x. fault f (x ++ more)) (sym dropped))
+        pub header-goes : (m' : Machine) → m'.scanned ≡ 0 → Goes begins m' (Ok None) → Steps m (c ∷ after) m' (Ok (step.Goes (len + 3)))
+        header-goes m' s g = (
+          record {
+            some = omega arith;
+            within = within;
+            same = λ more. announced-reads more ∙ g.0 (drop (len + 2) after ++ more) ∙ ap (λ x. resume m' (x ++ more)) (sym dropped);
+            scanned = s;
+          },
+          g.1,
+        )
 
-          pub header-goes : (m' : Machine) → m'.scanned ≡ 0 → Goes begins m' (Ok None) → Steps m (c ∷ after) m' (Ok (step.Goes (len + 3)))
-          header-goes m' s g = (
-            record {
-              some = omega arith;
-              within = within;
-              same = λ more. announced-reads more ∙ g.0 (drop (len + 2) after ++ more) ∙ ap (λ x. resume m' (x ++ more)) (sym dropped);
-              scanned = s;
-            },
-            g.1,
-          )
-
-          pub header-whole : (m' : Machine) (v : Value) → m'.scanned ≡ 0 → Goes begins m' (Ok (Some v)) → Steps m (c ∷ after) m' (Ok (step.Whole (len + 3) v))
-          header-whole m' v s g = (
-            record {
-              some = omega arith;
-              within = within;
-              same = λ more. announced-reads more ∙ g.0 (drop (len + 2) after ++ more) ∙ ap (λ x. place m'.frames v (x ++ more)) (sym dropped);
-              scanned = s;
-            },
-            g.1,
-          )
+        pub header-whole : (m' : Machine) (v : Value) → m'.scanned ≡ 0 → Goes begins m' (Ok (Some v)) → Steps m (c ∷ after) m' (Ok (step.Whole (len + 3) v))
+        header-whole m' v s g = (
+          record {
+            some = omega arith;
+            within = within;
+            same = λ more. announced-reads more ∙ g.0 (drop (len + 2) after ++ more) ∙ ap (λ x. place m'.frames v (x ++ more)) (sym dropped);
+            scanned = s;
+          },
+          g.1,
+        )

@@ -1,10 +1,10 @@
 -- How many values a value is built of, by what its header announces.
 use Rattle.std.proofs.Common.{◌≡◌, ℕ, zero, suc, ◌+◌, ◌-◌, ◌*◌, ◌<◌, ◌≤◌, Bool, true, false, cond, List, [], ◌∷◌, length, take, map, refl, arith, Option, None, Some, Result, Ok, Err, ◌==◌, ℤ, pos, negsuc, codes}
-use Rattle.std.specs.Str.{bytes_eq, trim}
+use Rattle.std.specs.Str.{bytes_eq, is_utf8, trim}
 use Rattle.std.specs.List.{position_or_len, before_first, after_first}
 use Rattle.resp_value.specs.Names.{format_named, kind_named}
 use Rattle.resp_errors.specs.ServerErrors.{server_error}
-use Rattle.resp_errors.specs.declared.kinds.FrameFault.TheVariants.{NotDouble, NotBoolean, NoVerbatimFormat, BadPushKind}
+use Rattle.resp_errors.specs.declared.kinds.FrameFault.TheVariants.{LineNotUtf8, NotDouble, NotBoolean, NoVerbatimFormat, BadPushKind}
 use Rattle.resp_value.specs.declared.value.Value.{Value, Okay, Int, SimpleString, BulkString, Array, Map, Boolean, Set, VerbatimString, Push, Double}
 use Rattle.resp_value.specs.declared.names.PushKind.{PushKind}
 use Rattle.resp_errors.specs.declared.kinds.FrameFault.{FrameFault}
@@ -19,7 +19,7 @@ use Rattle.resp_parse.specs.Number.{integer_in, length_in}
 use Rattle.resp_parse.specs.Double.{double_in, is_double}
 use Rattle.resp_containers.specs.Lossy.{lossy}
 use Rattle.resp_parse.specs.Grammar.{Announcement, complete, body, elements, invalid, with_valid, or_nil, or_empty_push, simple, boolean_in, bulk_error, verbatim_text, verbatim, is_colon, last_element, attribute, push_kind, push, announced}
-use Rattle.resp_parse.specs.Shapes.{body_value, elements_value}
+use Rattle.resp_parse.specs.Shapes.{body_value, elements_value, announced_in_line}
 use Rattle.resp_parse.specs.Built.{sum_of_pairs, built}
 use Rattle.std.proofs.lemmas.List.Sums.{sum_by-cons, sum-map}
 use Rattle.resp_parse.proofs.BuiltOf.{built_pair, built-Nil, built-Okay, built-Int, built-SimpleString, built-BulkString, built-ServerError, built-Boolean, built-Double, built-BigNumber, built-VerbatimString, built-Array, built-Set, built-Push, built-Map, built-Attribute}
@@ -128,3 +128,10 @@ announced-small type_byte.Map text = valid-small (length_in text) (λ n. element
 announced-small type_byte.Attribute text = valid-small (length_in text) (λ n. elements (2 * n + 1) (λ values. Ok (attribute values))) (λ n _ vs v l e. elements-small elements_kind.Attribute vs v (omega arith) e)
 announced-small type_byte.Set text = valid-small (integer_in text) (or_nil (λ n. elements n (λ values. Ok (Set values)))) (λ n _. nil-small (λ n. elements n (λ values. Ok (Set values))) n (λ k vs v l e. let z : Set vs ≡ v = cc in rw (← z) (omega (arith, built-Set vs, sum-map built vs))))
 announced-small type_byte.Push text = valid-small (integer_in text) (or_empty_push (λ n. elements n push)) (λ n _. push-or-small (λ n. elements n push) n (λ k vs v l e. push-small vs v e))
+
+pub in_line-small : (kind : TypeByte) (line : List ℕ) → Small (announced_in_line kind line)
+in_line-small kind line = by_test (is_utf8 line)
+  where
+    by_test : (u : Bool) → Small (cond u (announced kind line) (invalid LineNotUtf8))
+    by_test true = announced-small kind line
+    by_test false = tt

@@ -1,7 +1,10 @@
 -- The parser's own form of what a header announces.
-use Rattle.std.specs.Prelude.{◌≡◌, ℕ, List, Result, Ok, Err}
+use Rattle.std.specs.Prelude.{◌≡◌, ℕ, cond, List, Result, Ok, Err}
+use Rattle.std.specs.Str.{is_utf8}
 use Rattle.resp_value.specs.declared.value.Value.{Value, BulkString, Array, Map, Set}
 use Rattle.resp_errors.specs.declared.kinds.FrameFault.{FrameFault}
+use Rattle.resp_errors.specs.declared.kinds.FrameFault.TheVariants.{LineNotUtf8}
+use Rattle.resp_parse.specs.declared.type_byte.TypeByte.{TypeByte}
 use Rattle.resp_parse.specs.declared.shape.BodyKind.{BodyKind}
 use Rattle.resp_parse.specs.declared.shape.BodyKind.TheVariants as body_kind
 use Rattle.resp_parse.specs.declared.shape.ElementsKind.{ElementsKind}
@@ -10,7 +13,7 @@ use Rattle.resp_parse.specs.declared.shape.Shape.{Shape}
 use Rattle.resp_parse.specs.declared.shape.Shape.TheVariants.{Whole, Body, Elements}
 use Rattle.resp_parse.specs.declared.stop.Stop.{Stop}
 use Rattle.resp_parse.specs.declared.stop.Stop.TheVariants.{Memory, Fault}
-use Rattle.resp_parse.specs.Grammar.{Announcement, complete, body, elements, invalid, bulk_error, verbatim, attribute, push}
+use Rattle.resp_parse.specs.Grammar.{Announcement, complete, body, elements, invalid, bulk_error, verbatim, attribute, push, announced}
 use Rattle.resp_value.specs.Views.{pairs}
 
 -- what a body makes
@@ -32,6 +35,10 @@ abbrev pub announcement_of : Shape → Announcement
 announcement_of (Whole v) = complete v
 announcement_of (Body kind n) = body n (body_value kind)
 announcement_of (Elements kind n) = elements n (elements_value kind)
+
+-- what a line announces, for a value of this type
+abbrev pub announced_in_line : TypeByte → List ℕ → Announcement
+announced_in_line kind line = cond (is_utf8 line) (announced kind line) (invalid LineNotUtf8)
 
 -- the shape is what the line announces, or the fault is; memory aside
 abbrev pub Announces : Result Shape Stop → Announcement → Type 0

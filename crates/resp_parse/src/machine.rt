@@ -3,9 +3,8 @@
 ghost use Rattle.std.specs.Prelude.{◌≡◌, ◌<◌, ◌≤◌, ◌+◌, ◌-◌, ◌*◌, [], length, true, IfOk};
 ghost use Rattle.resp_parse.specs.declared.stop.Stop.{Stop};
 ghost use Rattle.std.specs.Prelude.{None};
-ghost use Rattle.resp_parse.specs.Grammar.{announced};
 ghost use Rattle.resp_parse.specs.PlainReading.{then, read_announced, read};
-ghost use Rattle.resp_parse.specs.Shapes.{body_value};
+ghost use Rattle.resp_parse.specs.Shapes.{announced_in_line, body_value};
 ghost use Rattle.resp_parse.specs.Computes.{Computes};
 ghost use Rattle.resp_parse.specs.Resume.{place, resume, fresh_of, IsScanned, Goes, Ends, Steps};
 ghost use Rattle.resp_parse.specs.Resume.{Drives, FillsBody};
@@ -133,21 +132,21 @@ impl Machine {
         &mut self,
         alloc: Global,
         kind: TypeByte,
-        text: &str,
+        line: &[u8],
         at_hand: usize,
         counts: &mut Counts,
     ) -> Result<Option<Value>, Stop>
         requires no_body { self.old.body ≡ None }
         requires level { length self.old.frames < 100 }
         ensures goes { Goes (λ more. then (read_announced (read (99 - length self.old.frames))
-            (announced kind text.now) more) (place self.old.frames)) self.new result }
+            (announced_in_line kind line.now) more) (place self.old.frames)) self.new result }
         ensures levels { length self.new.frames ≤ 100 }
         ensures scanned { self.new.scanned ≡ self.old.scanned }
         ensures weighs { Weighs self.new (3 + weight self.old) result }
         ensures places { Places self.old self.new counts.old counts.new result }
         ensures turns { counts.new ≡ record counts.old { turns = counts.new.turns } }
     {
-        match shape_of(alloc, kind, text)? {
+        match shape_of(alloc, kind, line)? {
             Shape::Whole(value) => Ok(Some(value)),
             Shape::Body(kind, missing) => {
                 self.body = Some(Body {
@@ -195,11 +194,8 @@ impl Machine {
         };
         counts.take(len + 3 - self.scanned);
         self.scanned = 0;
-        let Ok(text) = std::str::from_utf8(&after[..len]) else {
-            return Err(self.stop(Stop::Fault(FrameFault::LineNotUtf8), len + 3));
-        };
         let at_hand = after.len() - (len + 2);
-        match self.begin(alloc, kind, text, at_hand, counts) {
+        match self.begin(alloc, kind, &after[..len], at_hand, counts) {
             Ok(Some(value)) => Ok(Step::Whole(len + 3, value)),
             Ok(None) => Ok(Step::Goes(len + 3)),
             Err(why) => Err(self.stop(why, len + 3)),

@@ -1,16 +1,18 @@
 //! What the line of a header announces.
 
-ghost use Rattle.std.specs.Prelude.{length};
+ghost use Rattle.std.specs.Prelude.{length, IfSome, Ok};
+ghost use Rattle.std.specs.Str.{IsUtf8};
 ghost use Rattle.resp_parse.specs.Weights.{Turns};
 ghost use Rattle.resp_parse.specs.Grammar.{announced, boolean_in, with_valid};
 ghost use Rattle.resp_parse.specs.Grammar.{or_nil, or_empty_push, complete, body as a_body};
 ghost use Rattle.resp_parse.specs.Grammar.{elements as some_elements, push};
 ghost use Rattle.resp_parse.specs.Number.{integer_in};
-ghost use Rattle.resp_parse.specs.Shapes.{Announces, body_value, elements_value};
+ghost use Rattle.resp_parse.specs.Shapes.{Announces, announced_in_line, body_value};
+ghost use Rattle.resp_parse.specs.Shapes.{elements_value};
 ghost use Rattle.resp_parse.specs.Computes.{Computes};
 
 use crate::counts::Counts;
-use crate::number::{integer_of, length_of};
+use crate::number::{few_digits, integer_of, length_of};
 use crate::stop::Stop;
 use crate::type_byte::TypeByte;
 use crate::value_of::{
@@ -83,8 +85,37 @@ pub(crate) enum Shape {
     Elements(ElementsKind, usize),
 }
 
+/// What a line announces, for a value of this type.
+pub(crate) fn shape_of(alloc: Global, kind: TypeByte, line: &[u8]) -> Result<Shape, Stop>
+    ensures announced { Announces result (announced_in_line kind line.now) }
+{
+    if let Some(shape) = shape_of_digits(kind, line) {
+        return Ok(shape);
+    }
+    let Ok(text) = std::str::from_utf8(line) else {
+        return Err(Stop::Fault(FrameFault::LineNotUtf8));
+    };
+    shape_of_text(alloc, kind, text)
+}
+
+/// What a line of few digits announces, for a value of a type whose values are many; None of any
+/// other line or type.
+fn shape_of_digits(kind: TypeByte, line: &[u8]) -> Option<Shape>
+    ensures text { IfSome result (λ shape. IsUtf8 line.now) }
+    ensures announced { IfSome result (λ shape.
+        Announces (Ok shape) (announced kind line.now)) }
+{
+    match kind {
+        TypeByte::Integer => Some(Shape::Whole(Value::Int(few_digits(line)? as i64))),
+        TypeByte::BulkString => Some(Shape::Body(BodyKind::Bulk, few_digits(line)? as usize)),
+        TypeByte::Array => Some(Shape::Elements(ElementsKind::Array, few_digits(line)? as usize)),
+        TypeByte::Map => Some(Shape::Elements(ElementsKind::Map, 2 * few_digits(line)? as usize)),
+        _ => None,
+    }
+}
+
 /// What the line of this text announces, for a value of this type.
-pub(crate) fn shape_of(alloc: Global, kind: TypeByte, text: &str) -> Result<Shape, Stop>
+fn shape_of_text(alloc: Global, kind: TypeByte, text: &str) -> Result<Shape, Stop>
     ensures announced { Announces result (announced kind text.now) }
 {
     match kind {

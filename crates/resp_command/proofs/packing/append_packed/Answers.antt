@@ -1,5 +1,5 @@
 use Rattle.resp_command.proofs.PrefixOfPrefix.{prefix_of_prefix}
 use Rattle.resp_command.proofs.packing.append_packed.Goals as goal
 
-pub returns-in_err-append_bulk-clause-prefix : goal.returns-in_err-append_bulk-clause-prefix
-returns-in_err-append_bulk-clause-prefix c = prefix_of_prefix _ _ _ _ c.loop-arg.invariant c.append_bulk.ensures.prefix
+pub returns-in_err-write_frame-clause-prefix : goal.returns-in_err-write_frame-clause-prefix
+returns-in_err-write_frame-clause-prefix c = prefix_of_prefix _ _ _ _ c.loop-arg.invariant c.write_frame.ensures.prefix

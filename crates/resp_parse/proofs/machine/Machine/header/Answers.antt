@@ -1,10 +1,7 @@
-use Rattle.std.proofs.Common.{◌≡◌, ◌<◌, ◌-◌, [], List, ℕ, length, ap, arith, refl, sym, subst, Err}
+use Rattle.std.proofs.Common.{◌≡◌, ◌<◌, [], length, ap, arith, refl, sym}
 use Rattle.std.proofs.lemmas.Grind.{common_steps}
 use Rattle.resp_parse.specs.declared.machine.Machine.{Machine}
-use Rattle.resp_parse.specs.Grammar.{announced}
-use Rattle.resp_parse.specs.PlainReading.{then, read_announced, read}
-use Rattle.resp_parse.specs.Resume.{place, Goes}
-use Rattle.resp_parse.proofs.HeadersInPieces.{empty-waits, unknown_type, line-waits, line-not_utf8, header-stops, header-goes, header-whole}
+use Rattle.resp_parse.proofs.HeadersInPieces.{empty-waits, unknown_type, line-waits, header-stops, header-goes, header-whole}
 use Rattle.resp_parse.proofs.Paying.{header-looks, header-pays}
 use Rattle.resp_parse.proofs.machine.Machine.header.Goals as goal
 
@@ -14,34 +11,26 @@ returns-in_default-line_end-clause-steps c =
     rw c.in-Some.ensures.cases.0
     (line-waits c.args.self.now c.in-Some.first.now c.in-Some.after.now c.requires.no_body l c.in-Some-from_byte.kind (sym c.in-Some-from_byte.ensures.kind) c.in_default-line_end.ensures.line _ refl)
 
-pub returns-in_default-from_utf8-clause-steps : goal.returns-in_default-from_utf8-clause-steps
-returns-in_default-from_utf8-clause-steps c =
-    let l : length c.args.self.now.frames < 100 = omega arith in
-    rw (c.stop-in_default-from_utf8.ensures.why, c.in-Some.ensures.cases.0)
-    (line-not_utf8 c.args.self.now c.in-Some.first.now c.in-Some.after.now c.requires.no_body l c.in-Some-from_byte.kind (sym c.in-Some-from_byte.ensures.kind) c.in-Some-line_end.len c.in-Some-line_end.ensures.line
-    c.stop-in_default-from_utf8.new.self (ap (λ (m : Machine). m.shown) c.stop-in_default-from_utf8.ensures.shown) c.in_default-from_utf8.ensures.cases.0)
-
 pub returns-in-Err-clause-steps : goal.returns-in-Err-clause-steps
 returns-in-Err-clause-steps c =
     let l : length c.args.self.now.frames < 100 = omega arith in
     rw (c.stop-in-Err.ensures.why, c.in-Some.ensures.cases.0)
     (header-stops c.args.self.now c.in-Some.first.now c.in-Some.after.now c.requires.no_body l c.in-Some-from_byte.kind (sym c.in-Some-from_byte.ensures.kind) c.in-Some-line_end.len c.in-Some-line_end.ensures.line
-    c.in-Ok.ensures.cases.1 c.begin.new.self c.stop-in-Err.new.self c.in-Err.why (ap (λ (m : Machine). m.shown) c.stop-in-Err.ensures.shown)
-    (subst (λ (t : List ℕ). Goes (λ more. then (read_announced (read (99 - length c.args.self.now.frames)) (announced c.in-Some-from_byte.kind t) more) (place c.args.self.now.frames)) c.begin.new.self (Err c.in-Err.why)) c.in-Ok.ensures.cases.0 c.in-Err.ensures.goes))
+    c.begin.new.self c.stop-in-Err.new.self c.in-Err.why (ap (λ (m : Machine). m.shown) c.stop-in-Err.ensures.shown) c.in-Err.ensures.goes)
 
 pub returns-in-Ok-Some-clause-steps : goal.returns-in-Ok-Some-clause-steps
 returns-in-Ok-Some-clause-steps c =
     let l : length c.args.self.now.frames < 100 = omega arith in
     rw c.in-Some.ensures.cases.0
     (header-whole c.args.self.now c.in-Some.first.now c.in-Some.after.now c.requires.no_body l c.in-Some-from_byte.kind (sym c.in-Some-from_byte.ensures.kind) c.in-Some-line_end.len c.in-Some-line_end.ensures.line
-    c.in-Ok.ensures.cases.1 c.begin.new.self c.in-Ok-Some.value c.in-Ok-Some.ensures.scanned (rw (← c.in-Ok.ensures.cases.0) (rw c.in-Ok-Some.field-0-is at c.in-Ok-Some.ensures.goes)))
+    c.begin.new.self c.in-Ok-Some.value c.in-Ok-Some.ensures.scanned (rw c.in-Ok-Some.field-0-is at c.in-Ok-Some.ensures.goes))
 
 pub returns-in-Ok-None-clause-steps : goal.returns-in-Ok-None-clause-steps
 returns-in-Ok-None-clause-steps c =
     let l : length c.args.self.now.frames < 100 = omega arith in
     rw c.in-Some.ensures.cases.0
     (header-goes c.args.self.now c.in-Some.first.now c.in-Some.after.now c.requires.no_body l c.in-Some-from_byte.kind (sym c.in-Some-from_byte.ensures.kind) c.in-Some-line_end.len c.in-Some-line_end.ensures.line
-    c.in-Ok.ensures.cases.1 c.begin.new.self c.in-Ok-None.ensures.scanned (rw (← c.in-Ok.ensures.cases.0) (rw c.in-Ok-None.field-0-is at c.in-Ok-None.ensures.goes)))
+    c.begin.new.self c.in-Ok-None.ensures.scanned (rw c.in-Ok-None.field-0-is at c.in-Ok-None.ensures.goes))
 
 pub overflow_sub-len : goal.overflow_sub-len
 overflow_sub-len c = omega (arith, c.in-Some-line_end.ensures.looks.2, c.saturating_sub.ensures)
