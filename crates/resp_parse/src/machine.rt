@@ -46,16 +46,12 @@ impl Body {
         Ok(taken)
     }
 
-    /// The value of the body.
-    fn value(self, alloc: Global) -> Result<Value, Stop>
-        ensures value { Computes result (body_value self.kind self.bytes) }
+    /// The value of the body, which hands out its bytes.
+    fn value(&mut self, alloc: Global) -> Result<Value, Stop>
+        ensures value { Computes result (body_value self.old.kind self.old.bytes) }
     {
-        let Body {
-            kind,
-            missing: _,
-            bytes,
-        } = self;
-        kind.value(alloc, bytes)
+        let bytes = mem::replace(&mut self.bytes, Items::new(alloc));
+        self.kind.value(alloc, bytes)
     }
 }
 
@@ -212,21 +208,20 @@ impl Machine {
         ensures pays { StepPays self.old self.new bytes.now counts.old counts.new result }
     {
         counts.turn();
-        let Some(mut body) = mem::replace(&mut self.body, None) else {
+        let Some(body) = &mut self.body else {
             return self.header(alloc, bytes, counts);
         };
         let taken = body.fill(bytes)?;
         counts.take(taken);
         match body_ends(&bytes[taken..]) {
             Ok(true) => {}
-            Ok(false) => {
-                self.body = Some(body);
-                return Ok(Step::Waits(taken));
-            }
+            Ok(false) => return Ok(Step::Waits(taken)),
             Err(shown) => return Err(self.stop(Stop::Fault(FrameFault::BodyEnd), taken + shown)),
         }
         counts.take(2);
-        match body.value(alloc) {
+        let value = body.value(alloc);
+        self.body = None;
+        match value {
             Ok(value) => Ok(Step::Whole(taken + 2, value)),
             Err(why) => Err(self.stop(why, taken + 2)),
         }
@@ -250,12 +245,10 @@ impl Machine {
         if bytes.is_empty() {
             return Ok(());
         }
-        let Some(mut body) = mem::replace(&mut self.body, None) else {
+        let Some(body) = &mut self.body else {
             return Ok(());
         };
-        let filled = body.fill(bytes);
-        self.body = Some(body);
-        let taken = filled?;
+        let taken = body.fill(bytes)?;
         counts.turn();
         counts.take(taken);
         Ok(())

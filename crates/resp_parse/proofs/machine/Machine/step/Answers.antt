@@ -1,4 +1,4 @@
-use Rattle.std.proofs.Common.{◌≡◌, ◌-◌, List, ℕ, length, take, drop, true, false, ap, arith, refl, sym, subst, Ok, Err}
+use Rattle.std.proofs.Common.{◌≡◌, ◌-◌, List, ℕ, length, take, drop, true, false, ap, arith, refl, subst, Ok, Err}
 use Rattle.std.proofs.lemmas.Grind.{common_steps}
 use Rattle.resp_parse.specs.declared.machine.Machine.{Machine}
 use Rattle.resp_parse.specs.Resume.{EndsBody}
@@ -9,27 +9,27 @@ pub returns-in-Err-clause-steps : goal.returns-in-Err-clause-steps
 returns-in-Err-clause-steps c =
     let x : take (length c.args.bytes.now - c.in_ok-taken.taken) (drop c.in_ok-taken.taken c.args.bytes.now) ≡ drop c.in_ok-taken.taken c.args.bytes.now = grind (arith, common_steps) in
     rw c.stop.ensures.why
-    (body-faulty c.args.self.now c.in-Some.body c.fill.new.self c.args.bytes.now c.in_ok-taken.taken (sym c.in-Some.ensures.value) c.in_ok-taken.ensures.fills c.stop.new.self c.in-Err.shown (ap (λ (m : Machine). m.shown) c.stop.ensures.shown)
+    (body-faulty c.args.self.now c.in-Some.body c.fill.new.self c.args.bytes.now c.in_ok-taken.taken c.in-Some.is c.in_ok-taken.ensures.fills c.stop.new.self c.in-Err.shown (ap (λ (m : Machine). m.shown) c.stop.ensures.shown)
     (subst (λ (s : List ℕ). EndsBody s (Err c.in-Err.shown)) x c.in-Err.ensures.end))
 
 pub returns-in-Ok-false-clause-steps : goal.returns-in-Ok-false-clause-steps
 returns-in-Ok-false-clause-steps c =
     let x : take (length c.args.bytes.now - c.in_ok-taken.taken) (drop c.in_ok-taken.taken c.args.bytes.now) ≡ drop c.in_ok-taken.taken c.args.bytes.now = grind (arith, common_steps) in
-    body-waits c.args.self.now c.in-Some.body c.fill.new.self c.args.bytes.now c.in_ok-taken.taken (sym c.in-Some.ensures.value) c.in_ok-taken.ensures.fills
-    (IsScanned-body c.args.self.now c.in-Some.body c.args.bytes.now (sym c.in-Some.ensures.value) c.requires.scanned)
+    body-waits c.args.self.now c.in-Some.body c.fill.new.self c.args.bytes.now c.in_ok-taken.taken c.in-Some.is c.in_ok-taken.ensures.fills
+    (IsScanned-body c.args.self.now c.in-Some.body c.args.bytes.now c.in-Some.is c.requires.scanned)
     (subst (λ (s : List ℕ). EndsBody s (Ok false)) x (rw c.in-Ok-false.field-0-test at c.in-Ok-false.ensures.end)) _ refl
 
 pub returns-in-Err-value-clause-steps : goal.returns-in-Err-value-clause-steps
 returns-in-Err-value-clause-steps c =
     let x : take (length c.args.bytes.now - c.in_ok-taken.taken) (drop c.in_ok-taken.taken c.args.bytes.now) ≡ drop c.in_ok-taken.taken c.args.bytes.now = grind (arith, common_steps) in
     rw c.stop-in-Err-value.ensures.why
-    (body-refused c.args.self.now c.in-Some.body c.fill.new.self c.args.bytes.now c.in_ok-taken.taken (sym c.in-Some.ensures.value) c.in_ok-taken.ensures.fills
+    (body-refused c.args.self.now c.in-Some.body c.fill.new.self c.args.bytes.now c.in_ok-taken.taken c.in-Some.is c.in_ok-taken.ensures.fills
     (subst (λ (s : List ℕ). EndsBody s (Ok true)) x (rw c.in-Ok-true.field-0-test at c.in-Ok-true.ensures.end)) c.stop-in-Err-value.new.self c.in-Err-value.why (ap (λ (m : Machine). m.shown) c.stop-in-Err-value.ensures.shown) c.in-Err-value.ensures.value)
 
 pub returns-in-Ok-clause-steps : goal.returns-in-Ok-clause-steps
 returns-in-Ok-clause-steps c =
     let x : take (length c.args.bytes.now - c.in_ok-taken.taken) (drop c.in_ok-taken.taken c.args.bytes.now) ≡ drop c.in_ok-taken.taken c.args.bytes.now = grind (arith, common_steps) in
-    body-whole c.args.self.now c.in-Some.body c.fill.new.self c.args.bytes.now c.in_ok-taken.taken (sym c.in-Some.ensures.value) c.in_ok-taken.ensures.fills
-    (IsScanned-body c.args.self.now c.in-Some.body c.args.bytes.now (sym c.in-Some.ensures.value) c.requires.scanned)
+    body-whole c.args.self.now c.in-Some.body c.fill.new.self c.args.bytes.now c.in_ok-taken.taken c.in-Some.is c.in_ok-taken.ensures.fills
+    (IsScanned-body c.args.self.now c.in-Some.body c.args.bytes.now c.in-Some.is c.requires.scanned)
     (subst (λ (s : List ℕ). EndsBody s (Ok true)) x (rw c.in-Ok-true.field-0-test at c.in-Ok-true.ensures.end))
-    (record { frames = c.args.self.now.frames; body = c.replace.new.dest; scanned = c.args.self.now.scanned; shown = c.args.self.now.shown }) (rw c.in-Some.ensures.after refl) c.in-Ok.value c.in-Ok.ensures.value
+    _ refl c.in-Ok.value c.in-Ok.ensures.value
