@@ -12,7 +12,7 @@ use Rattle.resp_command.proofs.packing.append_pieces.Goals as goal
 pub loop-place-init : goal.loop-place-init
 loop-place-init c =
     let start : List ℕ = c.args.out.now.items ++ length_line 42 (length c.args.frames.now + length c.args.cursors.now) in
-    let e : c.write_length_line.new.out.items ≡ start = search rules in
+    let e : c.write_length_line.new.bytes.items ≡ start = search rules in
     record {
       passed_is = refl;
       part = subst (λ (out : List ℕ). PartPacked c.args.text.now c.args.frames.now c.args.cursors.now 0 0 start out) (sym e) (none_packed c.args.text.now c.args.frames.now c.args.cursors.now start c.requires);
@@ -35,7 +35,7 @@ loop-place-preserved c =
     let p = c.loop-place.invariant.part in
     let more = next_place c.args.cursors.now c.loop-place.passed c.loop-place.place-index c.loop-place.invariant.passed_is c.loop-place-test.true in
     let next = get_or c.args.cursors.now c.loop-place.place-index 0 - c.loop-place.passed in
-    let e : c.write_frame.new.out.items ≡ (c.loop-place.out.items ++ flat_map bulk (take (next - c.loop-place.done) (drop c.loop-place.done c.args.frames.now))) ++ bulk c.args.text.now = search rules in
+    let e : c.write_frame.new.bytes.items ≡ (c.loop-place.out.items ++ flat_map bulk (take (next - c.loop-place.done) (drop c.loop-place.done c.args.frames.now))) ++ bulk c.args.text.now = search rules in
     record { passed_is = ap (λ n. n + 1) c.loop-place.invariant.passed_is; part = one_packed _ _ _ _ _ _ _ _ p more _ e }
 
 pub returns-clause-written : goal.returns-clause-written
@@ -52,4 +52,4 @@ returns-in_err-write_frame-clause-prefix c =
     let start : List ℕ = c.args.out.now.items in
     let more : List ℕ = length_line 42 (length c.args.frames.now + length c.args.cursors.now) ++ (p.written ++ c.range.result.now) in
     let middle : c.extend_from_slice.new.self.items ≡ start ++ more = c.in_ok-extend_from_slice.ensures.items ∙ ap (λ (bytes : List ℕ). bytes ++ c.range.result.now) p.out_is ∙ simp append_assoc refl in
-    prefix_of_prefix start c.extend_from_slice.new.self.items c.write_frame.new.out.items more middle c.write_frame.ensures.prefix
+    prefix_of_prefix start c.extend_from_slice.new.self.items c.write_frame.new.bytes.items more middle c.write_frame.ensures.prefix
