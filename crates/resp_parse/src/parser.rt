@@ -240,6 +240,13 @@ impl Parser {
 
     /// Where the fault stands that a call answered: the number of bytes after the last value up to
     /// and with the byte that shows it. None while no fault was answered.
+    ///
+    /// ```text
+    /// parser.feed(b":1\r\n$2\r\nabX")?;
+    /// let one = parser.take_value()?; // Some(Value::Int(1))
+    /// let fault = parser.take_value(); // FrameFault::BodyEnd, shown by the X
+    /// let offset = parser.fault_offset(); // Some(7)
+    /// ```
     pub fn fault_offset(&self) -> Option<usize>
         ensures offset { result ≡ self.now.fault_offset }
         ensures works { self.now.failed ≡ false → result ≡ None }
