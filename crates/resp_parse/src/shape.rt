@@ -98,8 +98,8 @@ pub(crate) fn shape_of(alloc: Global, kind: TypeByte, line: &[u8]) -> Result<Sha
     shape_of_text(alloc, kind, text)
 }
 
-/// What a line of few digits alone announces, for an integer, a bulk string, an array or a map; None
-/// for other types, and of any other line.
+/// What a line of few digits alone announces, for an integer, a bulk string, an array or a map.
+/// None for other types, and of any other line.
 fn shape_of_digits(kind: TypeByte, line: &[u8]) -> Option<Shape>
     ensures text { IfSome result (λ shape. IsUtf8 line.now) }
     ensures announced { IfSome result (λ shape.
