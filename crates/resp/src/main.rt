@@ -11,12 +11,8 @@
 //! position and code of each server error in it, as `1:CROSSSLOT`.
 #![tactic(auto)]
 
-mod program;
-#[cfg(test)]
-mod tests;
-
-use program::{Task, pack, print_no_words, print_usage, query, read, task_of};
 use resp_core::ByteLink;
+use resp_program::{Task, pack, print_no_words, print_usage, query, read, task_of};
 use std::process::ExitCode;
 use std::{env, io};
 

@@ -6,14 +6,10 @@
 //! number, and a slice is written item by item.
 #![tactic(auto)]
 
-#[cfg(test)]
-mod command_tests;
 mod commands;
 mod fields;
 mod key;
 mod member;
-#[cfg(test)]
-mod own_type_tests;
 mod path;
 mod point;
 mod range;

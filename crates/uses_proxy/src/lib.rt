@@ -8,8 +8,6 @@
 
 mod forwarding;
 mod reply;
-#[cfg(test)]
-mod tests;
 
 pub use forwarding::forward;
 pub use reply::Reply;

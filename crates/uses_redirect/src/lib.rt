@@ -3,7 +3,5 @@
 #![tactic(auto)]
 
 mod redirect;
-#[cfg(test)]
-mod tests;
 
 pub use redirect::{query_after_asking, query_redirected};

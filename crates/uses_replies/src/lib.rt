@@ -3,11 +3,7 @@
 //! own that replies convert to.
 #![tactic(auto)]
 
-#[cfg(test)]
-mod connection_tests;
 mod counted;
-#[cfg(test)]
-mod own_type_tests;
 mod own_types;
 mod stored;
 

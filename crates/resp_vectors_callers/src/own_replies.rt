@@ -1,8 +1,8 @@
 //! Own types out of replies.
 
-use crate::{Point, Scored};
 use resp_core::{FromRedisValue, from_redis_value, parse_redis_value};
 use std::process::Abort;
+use uses_replies::{Point, Scored};
 
 fn read<T: FromRedisValue>(rt: &(impl Abort + AllocGlobal), bytes: &[u8]) -> Option<T> {
     let alloc = rt.alloc();

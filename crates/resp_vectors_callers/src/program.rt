@@ -1,17 +1,10 @@
-//! The program over memory.
+//! The program `resp` over memory.
 
-use crate::program::{Task, pack, print_no_words, print_usage, query, read, task_of};
-use resp_core::{ByteLink, Reading, Writing};
+use crate::memory::link_over;
+use resp_program::{Task, pack, print_no_words, print_usage, query, read, task_of};
 use std::io;
 use std::io::{Cursor, Read, Write};
 use std::process::Abort;
-
-type Link = ByteLink<Reading<Cursor<Vec<u8>>>, Writing<Vec<u8>>>;
-
-fn link_over(rt: &(impl Abort + AllocGlobal), replies: &[u8]) -> Link {
-    let bytes = Vec::from_slice(rt.alloc(), replies).expect(rt, "no refusal");
-    ByteLink::new(rt.alloc(), Cursor::new(bytes), Vec::new(rt.alloc()))
-}
 
 fn words_of(rt: &(impl Abort + AllocGlobal), words: &[&str]) -> Vec<String> {
     let mut all = Vec::new(rt.alloc());
@@ -25,7 +18,7 @@ fn words_of(rt: &(impl Abort + AllocGlobal), words: &[&str]) -> Vec<String> {
 /// What words send over these replies, what they print, and their exit status.
 fn asked(rt: &(impl Abort + AllocGlobal), words: &[&str], replies: &str) -> (Vec<u8>, Vec<u8>, u8) {
     let words = words_of(rt, words);
-    let mut link = link_over(rt, replies.as_bytes());
+    let mut link = link_over(rt, replies);
     let mut err: Vec<u8> = Vec::new(rt.alloc());
     let status = query(rt.alloc(), words.as_slice(), &mut link, &mut err);
     let (_source, sink) = link.into_ends();
@@ -331,6 +324,6 @@ fn streams_that_fail(rt: HostRuntime) {
     assert_eq!(rt; pack(alloc, words.as_slice(), &mut Closed, &mut err), 2);
     assert_eq!(rt; err.as_slice(), b"refused: I/O error\n".as_slice());
     assert_eq!(rt; pack(alloc, &[], &mut Closed, &mut Closed), 1);
-    let mut link = link_over(&rt, b":1\r\n");
+    let mut link = link_over(&rt, ":1\r\n");
     assert_eq!(rt; query(alloc, words.as_slice(), &mut link, &mut Closed), 2);
 }

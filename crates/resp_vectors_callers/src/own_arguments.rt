@@ -1,10 +1,10 @@
-//! What each type writes.
+//! What own types write.
 
-use crate::{Fields, Key, Member, Path, Point, Range};
 use resp_core::{ErrorKind, RedisError, RedisResult, RedisWrite, ToRedisArgs};
 use std::collections::BTreeMap;
 use std::process::Abort;
 use std::test::Fail;
+use uses_arguments::{Key, Member, Path, Point, Range};
 
 /// The value gives these arguments, joined by spaces.
 fn gives<T: ToRedisArgs>(rt: &(impl Abort + AllocGlobal), value: &T, wanted: &str) {

@@ -1,25 +1,12 @@
 //! Two nodes of a cluster over memory. The errors are those of the Redis cluster specification.
 
-use crate::query_redirected;
-use resp_core::{ByteLink, Reading, Writing, cmd};
-use std::io::Cursor;
-use std::process::Abort;
-
-type Link = ByteLink<Reading<Cursor<Vec<u8>>>, Writing<Vec<u8>>>;
+use crate::memory::{has_sent, link_over};
+use resp_core::cmd;
+use uses_redirect::query_redirected;
 
 const GET: &str = "*2\r\n$3\r\nGET\r\n$1\r\nx\r\n";
 
 const ASKING_AND_GET: &str = "*1\r\n$6\r\nASKING\r\n*2\r\n$3\r\nGET\r\n$1\r\nx\r\n";
-
-fn link_over(rt: &(impl Abort + AllocGlobal), replies: &str) -> Link {
-    let bytes = Vec::from_slice(rt.alloc(), replies.as_bytes()).expect(rt, "no refusal");
-    ByteLink::new(rt.alloc(), Cursor::new(bytes), Vec::new(rt.alloc()))
-}
-
-fn sent(rt: &impl Abort, link: Link, wanted: &str) {
-    let (_source, sink) = link.into_ends();
-    assert_eq!(rt; sink.into_inner().as_slice(), wanted.as_bytes());
-}
 
 #[test]
 fn answers_of_two_nodes(rt: HostRuntime) {
@@ -47,7 +34,7 @@ fn answers_of_two_nodes(rt: HostRuntime) {
         let mut node = link_over(&rt, second);
         let found = query_redirected::<i64>(rt.alloc(), &command, &mut home, &mut node);
         assert_eq!(rt; found.ok(), answer);
-        sent(&rt, home, GET);
-        sent(&rt, node, request);
+        has_sent(&rt, home, GET);
+        has_sent(&rt, node, request);
     }
 }

@@ -1,10 +1,10 @@
 //! Code over stored replies, and over a link that is counted.
 
-use crate::{Counted, Stored, visits};
 use resp_core::{ConnectionLike, ErrorKind, IoKind, RedisResult, Value, parse_redis_value, pipe};
 use std::collections::VecDeque;
 use std::fmt::Debug;
 use std::process::Abort;
+use uses_replies::{Counted, Stored, visits};
 
 /// The answer is a refusal of this kind, and of this kind of device's fault.
 fn is_refused<T: Debug>(

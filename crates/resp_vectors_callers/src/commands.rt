@@ -1,21 +1,9 @@
-//! The bytes that each of the functions makes.
+//! The bytes that functions over commands make.
 
-use crate::{add_all, add_tagged, add_twelve, fields_of, get, rename, set_fields};
-use resp_core::{ByteLink, Cmd, Reading, Writing, cmd};
-use std::io::Cursor;
+use crate::memory::{has_sent, link_over};
+use resp_core::{Cmd, cmd};
 use std::process::Abort;
-
-type Link = ByteLink<Reading<Cursor<Vec<u8>>>, Writing<Vec<u8>>>;
-
-fn link_over(rt: &(impl Abort + AllocGlobal), replies: &[u8]) -> Link {
-    let bytes = Vec::from_slice(rt.alloc(), replies).expect(rt, "no refusal");
-    ByteLink::new(rt.alloc(), Cursor::new(bytes), Vec::new(rt.alloc()))
-}
-
-fn sent(link: Link) -> Vec<u8> {
-    let (_source, sink) = link.into_ends();
-    sink.into_inner()
-}
+use uses_arguments::{add_all, add_tagged, add_twelve, fields_of, get, rename, set_fields};
 
 fn named(rt: &(impl Abort + AllocGlobal), name: &str) -> Cmd {
     cmd(rt.alloc(), name).expect(rt, "no refusal")
@@ -28,7 +16,7 @@ fn packs(rt: &(impl Abort + AllocGlobal), command: &Cmd, wanted: &str) {
 
 #[test]
 fn queries(rt: HostRuntime) {
-    let mut link = link_over(&rt, b"*2\r\n$1\r\n1\r\n$-1\r\n:3\r\n");
+    let mut link = link_over(&rt, "*2\r\n$1\r\n1\r\n$-1\r\n:3\r\n");
     let found = fields_of(rt.alloc(), &mut link, "h", &["a", "b"]).expect(&rt, "no refusal");
     assert_eq!(rt; found.len(), 2);
     assert!(rt; found[0].is_some() && found[1].is_none());
@@ -37,7 +25,7 @@ fn queries(rt: HostRuntime) {
     let wanted = "*4\r\n$5\r\nHMGET\r\n$1\r\nh\r\n$1\r\na\r\n$1\r\nb\r\n\
 *10\r\n$4\r\nHSET\r\n$1\r\nh\r\n$4\r\nname\r\n$3\r\nann\r\n$1\r\nx\r\n$1\r\n5\r\n\
 $6\r\nvisits\r\n$1\r\n1\r\n$5\r\nlevel\r\n$1\r\n2\r\n";
-    assert_eq!(rt; sent(link).as_slice(), wanted.as_bytes());
+    has_sent(&rt, link, wanted);
 }
 
 #[test]
@@ -72,11 +60,11 @@ fn chains(rt: HostRuntime) {
 
 #[test]
 fn a_pipeline_in_one_chain(rt: HostRuntime) {
-    let mut link = link_over(&rt, b"+OK\r\n$3\r\nAda\r\n:37\r\n");
+    let mut link = link_over(&rt, "+OK\r\n$3\r\nAda\r\n:37\r\n");
     let (name, age) = rename(rt.alloc(), &mut link, "Ada").expect(&rt, "no refusal");
     assert_eq!(rt; name.as_str(), "Ada");
     assert_eq!(rt; age, 37);
     let wanted = "*3\r\n$3\r\nSET\r\n$4\r\nname\r\n$3\r\nAda\r\n\
 *2\r\n$3\r\nGET\r\n$4\r\nname\r\n*2\r\n$4\r\nINCR\r\n$3\r\nage\r\n";
-    assert_eq!(rt; sent(link).as_slice(), wanted.as_bytes());
+    has_sent(&rt, link, wanted);
 }
