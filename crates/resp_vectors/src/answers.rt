@@ -1,11 +1,21 @@
 //! What the answers of parsers and links show, as texts.
 
-use resp_core::{Parser, RedisError, RedisResult, Value};
+use resp_core::{Parser, RedisError, RedisResult, Value, parse_redis_value};
 use std::fmt::Debug;
 use std::process::Abort;
 
 /// Bytes, and what [`shown_in_pieces`] has to show of them.
 pub type Example = (&'static [u8], &'static str);
+
+/// The Debug form of a value.
+pub fn debug_text<T: Debug + Drop>(rt: &(impl Abort + AllocGlobal), value: T) -> String {
+    format!(in rt.alloc(); "{value:?}").expect(rt, "no refusal")
+}
+
+/// The value that these bytes are.
+pub fn reply(rt: &(impl Abort + AllocGlobal), bytes: &[u8]) -> Value {
+    parse_redis_value(rt.alloc(), bytes).expect(rt, "no refusal")
+}
 
 /// What a parser or a link answered: the Debug form of the value, or what the refusal shows.
 pub fn shown_reply(rt: &(impl Abort + AllocGlobal), reply: RedisResult<Value>) -> String {
@@ -15,19 +25,34 @@ pub fn shown_reply(rt: &(impl Abort + AllocGlobal), reply: RedisResult<Value>) -
     }
 }
 
+/// The answer shows this text.
+pub fn shows(rt: &(impl Abort + AllocGlobal), reply: RedisResult<Value>, wanted: &str) {
+    assert_eq!(rt; shown_reply(rt, reply).as_str(), wanted);
+}
+
 /// The fault of the refused bytes, else the kind of the device's fault, else the Debug form.
-pub fn shown_refusal(rt: &(impl Abort + AllocGlobal), error: RedisError) -> String {
-    if let Some(fault) = error.frame_fault() {
-        return debug_text(rt, fault);
-    }
-    match error.io_kind() {
-        Some(kind) => debug_text(rt, kind),
+fn shown_refusal(rt: &(impl Abort + AllocGlobal), error: RedisError) -> String {
+    match shown_cause(rt, &error) {
+        Some(text) => text,
         None => debug_text(rt, error),
     }
 }
 
+/// The fault of the refused bytes, else the kind of the device's fault.
+fn shown_cause(rt: &(impl Abort + AllocGlobal), error: &RedisError) -> Option<String> {
+    if let Some(fault) = error.frame_fault() {
+        return Some(debug_text(rt, fault));
+    }
+    Some(debug_text(rt, error.io_kind()?))
+}
+
+/// Feeds bytes, which a parser that hasn't failed never refuses.
+pub fn feed(rt: &impl Abort, parser: &mut Parser, bytes: &[u8]) {
+    parser.feed(bytes).expect(rt, "no refusal");
+}
+
 /// What the parser answers next, or `none` where bytes are awaited.
-pub fn next_shown(rt: &(impl Abort + AllocGlobal), parser: &mut Parser) -> String {
+fn next_shown(rt: &(impl Abort + AllocGlobal), parser: &mut Parser) -> String {
     match parser.take_value() {
         Ok(Some(value)) => debug_text(rt, value),
         Ok(None) => String::from_str(rt.alloc(), "none").expect(rt, "no refusal"),
@@ -35,26 +60,40 @@ pub fn next_shown(rt: &(impl Abort + AllocGlobal), parser: &mut Parser) -> Strin
     }
 }
 
-/// Adds what the next values show, so many at most, and a refusal; says whether there was none.
-fn take_all(
-    rt: &(impl Abort + AllocGlobal),
-    parser: &mut Parser,
-    most: usize,
-    text: &mut String,
-) -> bool {
-    for _ in 0..most {
-        match parser.take_value() {
-            Ok(Some(value)) => write!(text, "{value:?} ").expect(rt, "no refusal"),
-            Ok(None) => return true,
-            Err(error) => {
-                assert!(rt; parser.is_failed() && parser.in_progress());
-                text.push_str(shown_refusal(rt, error).as_str())
-                    .expect(rt, "no refusal");
-                return false;
-            }
+/// The parser answers this next, or `none` where bytes are awaited.
+pub fn gives_next(rt: &(impl Abort + AllocGlobal), parser: &mut Parser, wanted: &str) {
+    assert_eq!(rt; next_shown(rt, parser).as_str(), wanted);
+}
+
+/// Adds a text, and a space where it is asked for.
+fn add(rt: &impl Abort, text: &mut String, more: &str, space: &str) {
+    text.push_str(more).expect(rt, "no refusal");
+    text.push_str(space).expect(rt, "no refusal");
+}
+
+/// Adds what the next value shows, or a refusal; says whether there was a value.
+fn add_next(rt: &(impl Abort + AllocGlobal), parser: &mut Parser, text: &mut String) -> bool {
+    match parser.take_value() {
+        Ok(Some(value)) => {
+            add(rt, text, debug_text(rt, value).as_str(), " ");
+            true
+        }
+        Ok(None) => false,
+        Err(error) => {
+            assert!(rt; parser.is_failed() && parser.in_progress());
+            add(rt, text, shown_refusal(rt, error).as_str(), "");
+            false
         }
     }
-    true
+}
+
+/// Adds what the next values show, so many at most, and a refusal.
+fn add_all(rt: &(impl Abort + AllocGlobal), parser: &mut Parser, most: usize, text: &mut String) {
+    for _ in 0..most {
+        if !add_next(rt, parser, text) {
+            return;
+        }
+    }
 }
 
 /// What the values of the pieces show, taken as they come, and then the refusal, or `..` where a
@@ -63,18 +102,14 @@ pub fn shown_in_pieces(rt: &(impl Abort + AllocGlobal), pieces: &[&[u8]]) -> Str
     let mut parser = Parser::new(rt.alloc());
     let mut text = String::new(rt.alloc());
     for piece in pieces {
-        parser.feed(piece).expect(rt, "no refusal");
-        if !take_all(rt, &mut parser, piece.len() + 1, &mut text) {
+        feed(rt, &mut parser, piece);
+        add_all(rt, &mut parser, piece.len() + 1, &mut text);
+        if parser.is_failed() {
             return text;
         }
     }
     if parser.in_progress() {
-        text.push_str("..").expect(rt, "no refusal");
+        add(rt, &mut text, "..", "");
     }
     text
-}
-
-/// The Debug form of a value.
-pub fn debug_text<T: Debug + Drop>(rt: &(impl Abort + AllocGlobal), value: T) -> String {
-    format!(in rt.alloc(); "{value:?}").expect(rt, "no refusal")
 }

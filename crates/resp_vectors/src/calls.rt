@@ -1,6 +1,6 @@
 //! What readers and writers are asked for, and how often, over devices that count their calls.
 
-use crate::answers::{next_shown, shown_reply};
+use crate::answers::{feed, gives_next, shows};
 use crate::devices::{ScriptedReader, ScriptedWriter, Step};
 use resp_core::{
     ByteLink, Cmd, CommandSink, ConnectionLike, IoKind, Parser, Reading, ReplySource, Writing, cmd,
@@ -12,26 +12,34 @@ fn ping(rt: &(impl Abort + AllocGlobal)) -> Cmd {
     cmd(rt.alloc(), "PING").expect(rt, "no refusal")
 }
 
-/// The number that a query answers.
-fn number(rt: &(impl Abort + AllocGlobal), con: &mut dyn ConnectionLike) -> i64 {
-    ping(rt).query(con).expect(rt, "no refusal")
+/// What a query for a number answers, or the kind of the device's fault where there was one.
+fn answered(
+    rt: &(impl Abort + AllocGlobal),
+    con: &mut dyn ConnectionLike,
+) -> Result<i64, Option<IoKind>> {
+    match ping(rt).query(con) {
+        Ok(number) => Ok(number),
+        Err(error) => Err(error.io_kind()),
+    }
 }
 
-/// The kind of the device's fault that a query for a number is refused with.
-fn device_fault(rt: &(impl Abort + AllocGlobal), con: &mut dyn ConnectionLike) -> Option<IoKind> {
-    ping(rt)
-        .query::<i64>(con)
-        .expect_err(rt, "a refusal")
-        .io_kind()
-}
-
-/// What the parser answers over a reader with this script.
-fn scripted(
+/// The parser answers this over a reader with this script.
+fn reads_as(
     rt: &(impl Abort + AllocGlobal),
     parser: &mut Parser,
     script: &'static [Step],
-) -> String {
-    shown_reply(rt, parser.parse_value(ScriptedReader::new(script)))
+    wanted: &str,
+) {
+    shows(rt, parser.parse_value(ScriptedReader::new(script)), wanted);
+}
+
+/// A link that reads as the script says, and whose writer takes all.
+fn link_over(
+    rt: &(impl Abort + AllocGlobal),
+    script: &'static [Step],
+) -> ByteLink<Reading<ScriptedReader>, Writing<ScriptedWriter>> {
+    let reader = ScriptedReader::new(script);
+    ByteLink::new(rt.alloc(), reader, ScriptedWriter::new(&[], &[]))
 }
 
 #[test]
@@ -42,10 +50,9 @@ fn a_readers_fault_is_its_own(rt: HostRuntime) {
         (&[Step::Fails(ErrorKind::Interrupted)][..], "Interrupted"),
     ] {
         let mut parser = Parser::new(rt.alloc());
-        assert_eq!(rt; scripted(&rt, &mut parser, script).as_str(), want);
+        reads_as(&rt, &mut parser, script, want);
         assert!(rt; !parser.is_failed());
-        let reply = scripted(&rt, &mut parser, &[Step::Moves(b":7\r\n")]);
-        assert_eq!(rt; reply.as_str(), "int(7)");
+        reads_as(&rt, &mut parser, &[Step::Moves(b":7\r\n")], "int(7)");
     }
 }
 
@@ -54,15 +61,11 @@ fn a_buffered_value_asks_for_nothing(rt: HostRuntime) {
     let script = &[Step::Fails(ErrorKind::TimedOut)];
     let mut source = Reading::new(ScriptedReader::new(script));
     let mut parser = Parser::new(rt.alloc());
-    parser
-        .feed(b":1\r\n:2\r\n:3\r\n:")
-        .expect(&rt, "no refusal");
-    let first = shown_reply(&rt, parser.parse_from(&mut source));
-    assert_eq!(rt; first.as_str(), "int(1)");
-    assert_eq!(rt; scripted(&rt, &mut parser, script).as_str(), "int(2)");
-    for want in ["int(3)", "TimedOut"] {
-        let reply = shown_reply(&rt, parser.parse_from(&mut source));
-        assert_eq!(rt; reply.as_str(), want);
+    feed(&rt, &mut parser, b":1\r\n:2\r\n:3\r\n:");
+    shows(&rt, parser.parse_from(&mut source), "int(1)");
+    reads_as(&rt, &mut parser, script, "int(2)");
+    for wanted in ["int(3)", "TimedOut"] {
+        shows(&rt, parser.parse_from(&mut source), wanted);
     }
     assert_eq!(rt; source.into_inner().calls, 1);
 }
@@ -70,14 +73,13 @@ fn a_buffered_value_asks_for_nothing(rt: HostRuntime) {
 #[test]
 fn values_buffered_after_a_reader_ended(rt: HostRuntime) {
     let mut parser = Parser::new(rt.alloc());
-    parser.feed(b":1\r\n:2\r\n").expect(&rt, "no refusal");
+    feed(&rt, &mut parser, b":1\r\n:2\r\n");
     for (bytes, parsed, taken) in [
         (&b""[..], "int(1)", "int(2)"),
         (&b":3\r\n:4\r\n"[..], "int(3)", "int(4)"),
     ] {
-        let reply = shown_reply(&rt, parser.parse_value(bytes));
-        assert_eq!(rt; reply.as_str(), parsed);
-        assert_eq!(rt; next_shown(&rt, &mut parser).as_str(), taken);
+        shows(&rt, parser.parse_value(bytes), parsed);
+        gives_next(&rt, &mut parser, taken);
     }
 }
 
@@ -91,8 +93,7 @@ fn parse_value_reads_no_further(rt: HostRuntime) {
     let mut reader = ScriptedReader::new(script);
     let mut parser = Parser::new(rt.alloc());
     for (want, calls) in [("int(1)", 2), ("int(2)", 3)] {
-        let reply = shown_reply(&rt, parser.parse_value(&mut reader));
-        assert_eq!(rt; reply.as_str(), want);
+        shows(&rt, parser.parse_value(&mut reader), want);
         assert_eq!(rt; reader.calls, calls);
     }
 }
@@ -109,12 +110,8 @@ fn one_read_a_fill(rt: HostRuntime) {
 #[test]
 fn one_read_a_query(rt: HostRuntime) {
     let script = &[Step::Fails(ErrorKind::Interrupted), Step::Moves(b":7\r\n")];
-    let mut link = ByteLink::new(
-        rt.alloc(),
-        ScriptedReader::new(script),
-        ScriptedWriter::new(&[], &[]),
-    );
-    assert_eq!(rt; device_fault(&rt, &mut link), Some(IoKind::Interrupted));
+    let mut link = link_over(&rt, script);
+    assert_eq!(rt; answered(&rt, &mut link), Err(Some(IoKind::Interrupted)));
     assert!(rt; link.is_broken());
     let (source, _sink) = link.into_ends();
     assert_eq!(rt; source.into_inner().calls, 1);
@@ -129,12 +126,8 @@ fn nothing_is_asked_after_a_refusal(rt: HostRuntime) {
             2,
         ),
     ] {
-        let mut link = ByteLink::new(
-            rt.alloc(),
-            ScriptedReader::new(script),
-            ScriptedWriter::new(&[], &[]),
-        );
-        assert!(rt; ping(&rt).query::<i64>(&mut link).is_err());
+        let mut link = link_over(&rt, script);
+        assert!(rt; answered(&rt, &mut link).is_err());
         let (source, _sink) = link.into_ends();
         assert_eq!(rt; source.into_inner().calls, calls);
     }
@@ -167,12 +160,8 @@ fn one_flush_a_flush(rt: HostRuntime) {
 
 #[test]
 fn a_query_flushes_its_writer(rt: HostRuntime) {
-    let mut link = ByteLink::new(
-        rt.alloc(),
-        ScriptedReader::new(&[Step::Moves(b":7\r\n"), Step::Moves(b":8\r\n")]),
-        ScriptedWriter::new(&[], &[]),
-    );
-    assert_eq!(rt; number(&rt, &mut link), 7);
+    let mut link = link_over(&rt, &[Step::Moves(b":7\r\n"), Step::Moves(b":8\r\n")]);
+    assert_eq!(rt; answered(&rt, &mut link), Ok(7));
     let (source, sink) = link.into_ends();
     let writer = sink.into_inner();
     assert_eq!(rt; (writer.writes, writer.flushes), (1, 1));
@@ -190,16 +179,14 @@ const LONG_BODY: &[Step] = &[
 #[test]
 fn at_most_4096_bytes_a_read(rt: HostRuntime) {
     let mut parser = Parser::new(rt.alloc());
-    let early = scripted(&rt, &mut parser, LONG_BODY);
-    assert_eq!(rt; early.as_str(), "UnexpectedEof");
+    reads_as(&rt, &mut parser, LONG_BODY, "UnexpectedEof");
 }
 
 #[test]
 fn at_most_4096_bytes_a_fill(rt: HostRuntime) {
     let mut parser = Parser::new(rt.alloc());
     let mut source = Reading::new(ScriptedReader::new(LONG_BODY));
-    let early = shown_reply(&rt, parser.parse_from(&mut source));
-    assert_eq!(rt; early.as_str(), "UnexpectedEof");
+    shows(&rt, parser.parse_from(&mut source), "UnexpectedEof");
     let reader = source.into_inner();
     assert_eq!(rt; (reader.calls, reader.most), (5, 4096));
 }

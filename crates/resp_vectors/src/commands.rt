@@ -1,8 +1,8 @@
 //! Commands as bytes.
 
-use crate::answers::shown_reply;
+use crate::answers::shows;
 use resp_core::laws::law_of_packing;
-use resp_core::{Cmd, ErrorKind, RedisWrite, cmd, pack_command, parse_redis_value};
+use resp_core::{Cmd, ErrorKind, RedisWrite, ToRedisArgs, cmd, pack_command, parse_redis_value};
 use std::collections::BTreeMap;
 use std::process::Abort;
 
@@ -12,9 +12,19 @@ pub fn packs_as(rt: &impl Abort, command: &Cmd, wanted: &[u8]) {
     assert_eq!(rt; packed.as_slice(), wanted);
 }
 
+/// A command of this name.
+pub fn named(rt: &(impl Abort + AllocGlobal), name: &str) -> Cmd {
+    cmd(rt.alloc(), name).expect(rt, "no refusal")
+}
+
+/// Adds an argument.
+pub fn add<T: ToRedisArgs + Drop>(rt: &impl Abort, command: &mut Cmd, arg: T) {
+    command.push_arg(arg).expect(rt, "no refusal");
+}
+
 #[test]
 fn set_is_packed(rt: HostRuntime) {
-    let mut set = cmd(rt.alloc(), "SET").expect(&rt, "no refusal");
+    let mut set = named(&rt, "SET");
     let _ = set
         .arg("my_key")
         .expect(&rt, "no refusal")
@@ -44,7 +54,7 @@ fn arguments_of_each_type(rt: HostRuntime) {
 
 #[test]
 fn an_argument_in_pieces(rt: HostRuntime) {
-    let mut command = cmd(rt.alloc(), "GET").expect(&rt, "no refusal");
+    let mut command = named(&rt, "GET");
     command.open_arg().expect(&rt, "no refusal");
     command.extend_arg(b"key").expect(&rt, "no refusal");
     packs_as(&rt, &command, b"*2\r\n$3\r\nGET\r\n$3\r\nkey\r\n");
@@ -55,8 +65,12 @@ fn empty_command(rt: HostRuntime) {
     let command = Cmd::new(rt.alloc());
     assert!(rt; command.is_empty());
     packs_as(&rt, &command, b"");
+}
+
+#[test]
+fn an_empty_command_is_written(rt: HostRuntime) {
     let mut buffer = Vec::from_slice(rt.alloc(), b"X").expect(&rt, "no refusal");
-    command
+    Cmd::new(rt.alloc())
         .write_packed_command(&mut buffer)
         .expect(&rt, "no refusal");
     assert_eq!(rt; buffer.as_slice(), b"X*0\r\n".as_slice());
@@ -82,13 +96,14 @@ fn empty_bytes_are_an_argument(rt: HostRuntime) {
 #[test]
 fn a_packed_command_reads_as_its_array(rt: HostRuntime) {
     law_of_packing();
-    let mut get = cmd(rt.alloc(), "GET").expect(&rt, "no refusal");
-    let _ = get.arg("$1\r\n").expect(&rt, "no refusal");
+    let mut get = named(&rt, "GET");
+    add(&rt, &mut get, "$1\r\n");
     let packed = get.get_packed_command().expect(&rt, "no refusal");
-    let read = shown_reply(&rt, parse_redis_value(rt.alloc(), packed.as_slice()));
-    assert_eq!(rt;
-        read.as_str(),
-        "array([bulk-string('\"GET\"'), bulk-string('\"$1\\r\\n\"')])"
+    let wanted = "array([bulk-string('\"GET\"'), bulk-string('\"$1\\r\\n\"')])";
+    shows(
+        &rt,
+        parse_redis_value(rt.alloc(), packed.as_slice()),
+        wanted,
     );
 }
 
@@ -97,15 +112,18 @@ pub fn refused_map(rt: &(impl Abort + AllocGlobal)) -> BTreeMap<(i64, i64), i64>
     BTreeMap::from_array(rt.alloc(), [((1, 2), 3)]).expect(rt, "no refusal")
 }
 
+/// The kind of the refusal of such a map.
+fn refused_arg(rt: &(impl Abort + AllocGlobal), command: &mut Cmd) -> Option<ErrorKind> {
+    Some(command.arg(refused_map(rt)).err()?.kind())
+}
+
 #[test]
 fn refused_argument_changes_nothing(rt: HostRuntime) {
-    let mut command = cmd(rt.alloc(), "HSET").expect(&rt, "no refusal");
-    command.push_arg("key").expect(&rt, "no refusal");
-    command.push_arg(7i32).expect(&rt, "no refusal");
-    match command.arg(refused_map(&rt)) {
-        Ok(_command) => assert!(rt; false),
-        Err(error) => assert_eq!(rt; error.kind(), ErrorKind::Client),
-    }
+    let mut command = named(&rt, "HSET");
+    add(&rt, &mut command, "key");
+    add(&rt, &mut command, 7i32);
+    let refused = refused_arg(&rt, &mut command);
+    assert_eq!(rt; refused, Some(ErrorKind::Client));
     packs_as(
         &rt,
         &command,
@@ -123,7 +141,7 @@ fn no_response_flag(rt: HostRuntime) {
 
 #[test]
 fn a_cleared_command_is_new(rt: HostRuntime) {
-    let mut command = cmd(rt.alloc(), "key").expect(&rt, "no refusal");
+    let mut command = named(&rt, "key");
     let _ = command.set_no_response(true);
     let copy = command.try_clone().expect(&rt, "no refusal");
     let mut taken = command.take();

@@ -1,6 +1,6 @@
 //! Cursor arguments of commands.
 
-use crate::commands::packs_as;
+use crate::commands::{add, named, packs_as};
 use resp_core::{Arg, Cmd, RedisWrite, cmd};
 use std::process::Abort;
 
@@ -15,6 +15,11 @@ fn shows_as(rt: &impl Abort, command: &Cmd, wanted: &[Arg<&[u8]>]) {
     assert!(rt; shown.next().is_none());
 }
 
+/// Adds a cursor argument.
+fn add_cursor(rt: &impl Abort, command: &mut Cmd, cursor: u64) {
+    let _ = command.cursor_arg(cursor).expect(rt, "no refusal");
+}
+
 /// An ordinary argument.
 fn simple(text: &str) -> Arg<&[u8]> {
     Arg::Simple(text.as_bytes())
@@ -22,12 +27,10 @@ fn simple(text: &str) -> Arg<&[u8]> {
 
 #[test]
 fn a_cursor_after_other_arguments(rt: HostRuntime) {
-    let mut command = cmd(rt.alloc(), "key").expect(&rt, "no refusal");
-    command.push_arg("value").expect(&rt, "no refusal");
-    command.push_arg(42i32).expect(&rt, "no refusal");
-    command
-        .push_arg(["phone", "barz"].as_slice())
-        .expect(&rt, "no refusal");
+    let mut command = named(&rt, "key");
+    add(&rt, &mut command, "value");
+    add(&rt, &mut command, 42i32);
+    add(&rt, &mut command, ["phone", "barz"].as_slice());
     let wanted = [
         simple("key"),
         simple("value"),
@@ -37,7 +40,7 @@ fn a_cursor_after_other_arguments(rt: HostRuntime) {
         Arg::Cursor,
     ];
     shows_as(&rt, &command, &wanted[..5]);
-    let _ = command.cursor_arg(512).expect(&rt, "no refusal");
+    add_cursor(&rt, &mut command, 512);
     packs_as(
         &rt,
         &command,
@@ -50,9 +53,9 @@ fn a_cursor_after_other_arguments(rt: HostRuntime) {
 
 #[test]
 fn a_cleared_command_has_no_cursor(rt: HostRuntime) {
-    let mut command = cmd(rt.alloc(), "key").expect(&rt, "no refusal");
-    command.push_arg("value").expect(&rt, "no refusal");
-    let _ = command.cursor_arg(24).expect(&rt, "no refusal");
+    let mut command = named(&rt, "key");
+    add(&rt, &mut command, "value");
+    add_cursor(&rt, &mut command, 24);
     let _ = command.set_no_response(true);
     command.clear();
     shows_as(&rt, &command, &[]);
@@ -63,11 +66,11 @@ fn a_cleared_command_has_no_cursor(rt: HostRuntime) {
 
 #[test]
 fn the_latest_cursor_is_sent(rt: HostRuntime) {
-    let mut command = cmd(rt.alloc(), "A").expect(&rt, "no refusal");
-    let _ = command.cursor_arg(0).expect(&rt, "no refusal");
-    command.push_arg("b").expect(&rt, "no refusal");
+    let mut command = named(&rt, "A");
+    add_cursor(&rt, &mut command, 0);
+    add(&rt, &mut command, "b");
     packs_as(&rt, &command, b"*3\r\n$1\r\nA\r\n$1\r\n0\r\n$1\r\nb\r\n");
-    let _ = command.cursor_arg(u64::MAX).expect(&rt, "no refusal");
+    add_cursor(&rt, &mut command, u64::MAX);
     let packed = "*4\r\n$1\r\nA\r\n$20\r\n18446744073709551615\r\n\
         $1\r\nb\r\n$20\r\n18446744073709551615\r\n";
     packs_as(&rt, &command, packed.as_bytes());
@@ -78,17 +81,17 @@ fn the_latest_cursor_is_sent(rt: HostRuntime) {
 
 #[test]
 fn a_cursor_is_set(rt: HostRuntime) {
-    let mut command = cmd(rt.alloc(), "A").expect(&rt, "no refusal");
-    let _ = command.cursor_arg(10).expect(&rt, "no refusal");
-    command.push_arg("b").expect(&rt, "no refusal");
+    let mut command = named(&rt, "A");
+    add_cursor(&rt, &mut command, 10);
+    add(&rt, &mut command, "b");
     command.set_cursor(7);
     packs_as(&rt, &command, b"*3\r\n$1\r\nA\r\n$1\r\n7\r\n$1\r\nb\r\n");
 }
 
 #[test]
 fn copies_keep_the_cursor(rt: HostRuntime) {
-    let mut command = cmd(rt.alloc(), "A").expect(&rt, "no refusal");
-    let _ = command.cursor_arg(3).expect(&rt, "no refusal");
+    let mut command = named(&rt, "A");
+    add_cursor(&rt, &mut command, 3);
     let mut copy = command.try_clone().expect(&rt, "no refusal");
     let mut taken = command.take();
     assert!(rt; !command.in_scan_mode());
@@ -100,8 +103,8 @@ fn copies_keep_the_cursor(rt: HostRuntime) {
 
 #[test]
 fn a_cloned_iterator_goes_on(rt: HostRuntime) {
-    let mut command = cmd(rt.alloc(), "A").expect(&rt, "no refusal");
-    let _ = command.cursor_arg(3).expect(&rt, "no refusal");
+    let mut command = named(&rt, "A");
+    add_cursor(&rt, &mut command, 3);
     let mut shown = command.args_iter();
     assert!(rt; shown.next() == Some(simple("A")));
     let mut again = shown.clone().expect(&rt, "no refusal");
@@ -125,6 +128,6 @@ fn an_extended_cursor_is_an_ordinary_argument(rt: HostRuntime) {
 fn a_command_with_room_is_new(rt: HostRuntime) {
     let mut command = Cmd::with_capacity(rt.alloc(), 2, 7).expect(&rt, "no refusal");
     assert!(rt; command.is_empty() && !command.in_scan_mode() && !command.is_no_response());
-    command.push_arg("PING").expect(&rt, "no refusal");
+    add(&rt, &mut command, "PING");
     packs_as(&rt, &command, b"*1\r\n$4\r\nPING\r\n");
 }

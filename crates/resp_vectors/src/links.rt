@@ -1,6 +1,6 @@
 //! Queries over a link.
 
-use crate::answers::shown_reply;
+use crate::answers::shows;
 use crate::devices::{Dropping, Full};
 use resp_core::{
     ByteLink, Cmd, CommandSink, ConnectionLike, ErrorKind, FrameFault, IoKind, Reading, RedisError,
@@ -23,19 +23,38 @@ fn get(rt: &(impl Abort + AllocGlobal)) -> Cmd {
     get
 }
 
+/// What a query for a number answers, or the kind of its refusal.
+fn answered(
+    rt: &(impl Abort + AllocGlobal),
+    con: &mut dyn ConnectionLike,
+) -> Result<i64, ErrorKind> {
+    get(rt).query(con).map_err(|error| error.kind())
+}
+
+/// What a query for nothing answers, or the kind of its refusal.
+fn executed(rt: &(impl Abort + AllocGlobal), link: &mut MemoryLink) -> Result<(), ErrorKind> {
+    get(rt).exec(link).map_err(|error| error.kind())
+}
+
 /// The refusal of a query for a number.
-fn refusal(rt: &(impl Abort + AllocGlobal), link: &mut MemoryLink) -> RedisError {
-    get(rt).query::<i64>(link).expect_err(rt, "a refusal")
+fn refusal(rt: &(impl Abort + AllocGlobal), con: &mut dyn ConnectionLike) -> RedisError {
+    get(rt).query::<i64>(con).expect_err(rt, "a refusal")
 }
 
-/// The refusal of a query for a whole reply.
-fn refused_reply(rt: &(impl Abort + AllocGlobal), link: &mut MemoryLink) -> RedisError {
-    get(rt).query::<Value>(link).expect_err(rt, "a refusal")
+/// The kind of the device's fault that a query for a number is refused with.
+fn device_fault(rt: &(impl Abort + AllocGlobal), con: &mut dyn ConnectionLike) -> Option<IoKind> {
+    refusal(rt, con).io_kind()
 }
 
-/// The number that a query answers.
-fn number(rt: &(impl Abort + AllocGlobal), link: &mut MemoryLink) -> i64 {
-    get(rt).query(link).expect(rt, "no refusal")
+/// The fault of the bytes that a query for a number is refused with.
+fn frame_fault(rt: &(impl Abort + AllocGlobal), link: &mut MemoryLink) -> Option<FrameFault> {
+    refusal(rt, link).frame_fault()
+}
+
+/// A query for a whole reply is refused with an error of this category.
+fn is_refused_as(rt: &(impl Abort + AllocGlobal), link: &mut MemoryLink, category: &str) {
+    let error = get(rt).query::<Value>(link).expect_err(rt, "a refusal");
+    assert_eq!(rt; error.category(), category);
 }
 
 #[test]
@@ -46,77 +65,78 @@ fn a_query_in_one_line(rt: HostRuntime) -> Result<(), Fail> {
     Ok(())
 }
 
+/// The bytes that the link has sent.
+fn sent(link: MemoryLink) -> Vec<u8> {
+    let (_source, sink) = link.into_ends();
+    sink.into_inner()
+}
+
 #[test]
 fn later_reply_is_kept(rt: HostRuntime) {
     let mut link = link_over(&rt, b"$2\r\n42\r\n:7\r\n");
-    assert_eq!(rt; number(&rt, &mut link), 42);
-    assert_eq!(rt; number(&rt, &mut link), 7);
-    let (_source, sink) = link.into_ends();
-    let sent = sink.into_inner();
-    assert_eq!(rt; sent.len(), 40);
+    assert_eq!(rt; answered(&rt, &mut link), Ok(42));
+    assert_eq!(rt; answered(&rt, &mut link), Ok(7));
+    assert_eq!(rt; sent(link).len(), 40);
 }
 
 #[test]
 fn server_error_leaves_it_usable(rt: HostRuntime) {
     let mut link = link_over(&rt, b"*2\r\n:1\r\n-LOADING\r\n+x\r\n:7\r\n");
-    assert_eq!(rt; refused_reply(&rt, &mut link).category(), "busy loading");
-    assert_eq!(rt; refusal(&rt, &mut link).kind(), ErrorKind::Parse);
+    is_refused_as(&rt, &mut link, "busy loading");
+    assert_eq!(rt; answered(&rt, &mut link), Err(ErrorKind::Parse));
     assert!(rt; !link.is_broken());
-    assert_eq!(rt; number(&rt, &mut link), 7);
+    assert_eq!(rt; answered(&rt, &mut link), Ok(7));
 }
 
 #[test]
 fn faulty_prefix_breaks_it(rt: HostRuntime) {
     let mut link = link_over(&rt, b":x\r\n:7\r\n");
-    let error = refusal(&rt, &mut link);
-    assert_eq!(rt; error.frame_fault(), Some(FrameFault::NotInteger));
+    assert_eq!(rt; frame_fault(&rt, &mut link), Some(FrameFault::NotInteger));
     assert!(rt; link.is_broken());
-    assert_eq!(rt; refusal(&rt, &mut link).kind(), ErrorKind::Io);
+    assert_eq!(rt; answered(&rt, &mut link), Err(ErrorKind::Io));
+}
+
+/// The kind of the refusal of a command without arguments.
+fn refused_empty_command(
+    rt: &(impl Abort + AllocGlobal),
+    link: &mut MemoryLink,
+) -> Option<ErrorKind> {
+    let empty = Cmd::new(rt.alloc());
+    Some(empty.query::<i64>(link).err()?.kind())
 }
 
 #[test]
 fn empty_command_is_refused(rt: HostRuntime) {
     let mut link = link_over(&rt, b":7\r\n");
-    let error = Cmd::new(rt.alloc())
-        .query::<i64>(&mut link)
-        .expect_err(&rt, "a refusal");
-    assert_eq!(rt; error.kind(), ErrorKind::Client);
+    let refused = refused_empty_command(&rt, &mut link);
+    assert_eq!(rt; refused, Some(ErrorKind::Client));
     assert!(rt; !link.is_broken());
-    let (_source, sink) = link.into_ends();
-    assert!(rt; sink.into_inner().is_empty());
+    assert!(rt; sent(link).is_empty());
+}
+
+/// A command that no reply is waited for.
+fn unanswered(rt: &(impl Abort + AllocGlobal)) -> Cmd {
+    let mut publish = get(rt);
+    let _ = publish.set_no_response(true);
+    publish
 }
 
 #[test]
 fn no_response_reads_nothing(rt: HostRuntime) {
     let mut link = link_over(&rt, b":7\r\n");
-    let mut publish = get(&rt);
-    let _ = publish.set_no_response(true);
-    let nothing = shown_reply(&rt, publish.query(&mut link));
-    assert_eq!(rt; nothing.as_str(), "nil");
-    assert_eq!(rt; number(&rt, &mut link), 7);
+    shows(&rt, unanswered(&rt).query(&mut link), "nil");
+    assert_eq!(rt; answered(&rt, &mut link), Ok(7));
 }
 
 #[test]
 fn exec_wants_no_value(rt: HostRuntime) {
     let mut link = link_over(&rt, b"$1\r\nx\r\n*1\r\n-ERR y\r\n");
-    get(&rt).exec(&mut link).expect(&rt, "no refusal");
-    let error = get(&rt).exec(&mut link).expect_err(&rt, "a refusal");
-    assert_eq!(rt;
-        error.kind(),
-        ErrorKind::Server(ServerErrorKind::ResponseError)
-    );
-    let mut publish = get(&rt);
-    let _ = publish.set_no_response(true);
-    publish.exec(&mut link).expect(&rt, "no refusal");
+    let refused = ErrorKind::Server(ServerErrorKind::ResponseError);
+    for wanted in [Ok(()), Err(refused)] {
+        assert_eq!(rt; executed(&rt, &mut link), wanted);
+    }
+    assert!(rt; unanswered(&rt).exec(&mut link).is_ok());
     assert!(rt; !link.is_broken());
-}
-
-/// The kind of the device's fault that a query for a number is refused with.
-fn device_fault(rt: &(impl Abort + AllocGlobal), con: &mut dyn ConnectionLike) -> Option<IoKind> {
-    get(rt)
-        .query::<i64>(con)
-        .expect_err(rt, "a refusal")
-        .io_kind()
 }
 
 #[test]
@@ -138,8 +158,7 @@ fn a_full_writer_breaks_it(rt: HostRuntime) {
 fn devices_of_single_bytes(rt: HostRuntime) {
     let reader = Dropping::new(b"$2\r\n42\r\n", 0);
     let mut link = ByteLink::new(rt.alloc(), reader, Full::new(100));
-    let reply: i64 = get(&rt).query(&mut link).expect(&rt, "no refusal");
-    assert_eq!(rt; reply, 42);
+    assert_eq!(rt; answered(&rt, &mut link), Ok(42));
 }
 
 /// Notes the most bytes that it was asked for, and ends at once.
@@ -161,21 +180,20 @@ impl ReplySource for Asked {
     }
 }
 
-#[test]
-fn asks_for_at_most_4096(rt: HostRuntime) {
+type AskedLink = ByteLink<Asked, Writing<Vec<u8>>>;
+
+/// A link over such a source.
+fn asking_link(rt: &(impl Abort + AllocGlobal)) -> AskedLink {
     let sink = Writing::new(Vec::new(rt.alloc()));
-    let mut link = ByteLink::over(rt.alloc(), Asked { most: 0 }, sink);
-    let error = link_ask(&mut link, &get(&rt)).expect_err(&rt, "a refusal");
-    assert_eq!(rt; error.io_kind(), Some(IoKind::UnexpectedEof));
-    let (asked, mut sink) = link.into_ends();
-    assert_eq!(rt; asked.most, 4096);
-    assert_eq!(rt; sink.send(b"x"), Ok(1));
-    assert_eq!(rt; sink.flush(), Ok(()));
+    ByteLink::over(rt.alloc(), Asked { most: 0 }, sink)
 }
 
-fn link_ask(
-    link: &mut ByteLink<Asked, Writing<Vec<u8>>>,
-    cmd: &Cmd,
-) -> resp_core::RedisResult<Value> {
-    cmd.query(link)
+#[test]
+fn asks_for_at_most_4096(rt: HostRuntime) {
+    let mut link = asking_link(&rt);
+    let fault = device_fault(&rt, &mut link);
+    assert_eq!(rt; fault, Some(IoKind::UnexpectedEof));
+    let (asked, mut sink) = link.into_ends();
+    assert_eq!(rt; asked.most, 4096);
+    assert_eq!(rt; (sink.send(b"x"), sink.flush()), (Ok(1), Ok(())));
 }

@@ -1,6 +1,6 @@
 //! Worked replies, fed whole and in pieces, and readers that end or fail in the middle.
 
-use crate::answers::{Example, next_shown, shown_in_pieces, shown_reply};
+use crate::answers::{Example, feed, gives_next, reply, shown_in_pieces, shows};
 use resp_core::laws::law_of_prefixes;
 use resp_core::{Parser, Reading, Value, parse_redis_value};
 use std::io;
@@ -12,10 +12,9 @@ fn shown(rt: &(impl Abort + AllocGlobal), bytes: &[u8]) -> String {
     shown_in_pieces(rt, &[bytes])
 }
 
-/// Whether the value of the bytes equals its copy.
-fn equals_its_copy(rt: &(impl Abort + AllocGlobal), bytes: &[u8]) -> bool {
-    let value = parse_redis_value(rt.alloc(), bytes).expect(rt, "no refusal");
-    value.try_clone(rt.alloc()).expect(rt, "no refusal") == value
+/// Whether the value equals its copy.
+fn equals_its_copy(rt: &(impl Abort + AllocGlobal), value: &Value) -> bool {
+    value.try_clone(rt.alloc()).expect(rt, "no refusal") == *value
 }
 
 #[test]
@@ -42,9 +41,13 @@ fn values_equal_their_copies(rt: HostRuntime) {
         ">2\r\n$7\r\nmessage\r\n:1\r\n",
         ">0\r\n",
     ] {
-        assert!(rt; equals_its_copy(&rt, bytes.as_bytes()));
+        assert!(rt; equals_its_copy(&rt, &reply(&rt, bytes.as_bytes())));
     }
-    assert!(rt; equals_its_copy(&rt, b"$2\r\n\xFF\0\r\n"));
+}
+
+#[test]
+fn binary_data_equals_its_copy(rt: HostRuntime) {
+    assert!(rt; equals_its_copy(&rt, &reply(&rt, b"$2\r\n\xFF\0\r\n")));
 }
 
 /// Values that end with their line.
@@ -132,15 +135,23 @@ fn describes_one(value: &Value) -> bool {
 }
 
 #[test]
-fn big_numbers(rt: HostRuntime) {
-    let bytes = b"(3492890328409238509324850943850943825024385\r\n";
-    match parse_redis_value(rt.alloc(), bytes).expect(&rt, "no refusal") {
-        Value::BigNumber(digits) => {
-            let wanted = b"3492890328409238509324850943850943825024385";
-            assert_eq!(rt; digits.as_slice(), wanted.as_slice());
-        }
-        _ => assert!(rt; false),
+fn an_attribute_of_one_pair(rt: HostRuntime) {
+    assert!(rt; describes_one(&reply(&rt, b"|1\r\n+k\r\n:1\r\n:2\r\n")));
+}
+
+/// Whether the value is a big number of these digits.
+fn is_number_of(value: &Value, wanted: &[u8]) -> bool {
+    match value {
+        Value::BigNumber(digits) => digits.as_slice() == wanted,
+        _ => false,
     }
+}
+
+#[test]
+fn big_numbers(rt: HostRuntime) {
+    let number = reply(&rt, b"(3492890328409238509324850943850943825024385\r\n");
+    let digits = b"3492890328409238509324850943850943825024385";
+    assert!(rt; is_number_of(&number, digits));
 }
 
 /// Values with elements.
@@ -185,11 +196,6 @@ fn aggregates(rt: HostRuntime) {
     for (bytes, want) in AGGREGATES {
         assert_eq!(rt; shown(&rt, bytes).as_str(), *want);
     }
-    let attribute = parse_redis_value(rt.alloc(), b"|1\r\n+k\r\n:1\r\n:2\r\n").expect(
-        &rt,
-        "no refusal",
-    );
-    assert!(rt; describes_one(&attribute));
 }
 
 /// A header or a value again and again, and then the last bytes.
@@ -211,10 +217,13 @@ fn levels(rt: HostRuntime) {
         ("|0\r\n", "_\r\n", "attribute("),
         (">2\r\n+a\r\n", ">0\r\n", "push(Other(\"a\"), ["),
     ] {
-        let deepest = nested(&rt, header, 99, last);
-        assert!(rt; deepest.as_str().starts_with(open));
+        assert!(rt; nested(&rt, header, 99, last).starts_with(open));
         assert_eq!(rt; nested(&rt, header, 100, last).as_str(), "TooDeep");
     }
+}
+
+#[test]
+fn a_hundred_levels_are_open(rt: HostRuntime) {
     assert_eq!(rt; nested(&rt, "*1\r\n", 100, "").as_str(), "..");
 }
 
@@ -235,12 +244,12 @@ fn any_byte_is_too_deep(rt: HostRuntime) {
 fn pieces(rt: HostRuntime) {
     let mut parser = Parser::new(rt.alloc());
     assert!(rt; !parser.in_progress());
-    parser.feed(b"+a\r").expect(&rt, "no refusal");
-    assert_eq!(rt; next_shown(&rt, &mut parser).as_str(), "none");
+    feed(&rt, &mut parser, b"+a\r");
+    gives_next(&rt, &mut parser, "none");
     assert!(rt; parser.in_progress());
-    parser.feed(b"\n:1\r\n").expect(&rt, "no refusal");
-    for want in ["simple-string(\"a\")", "int(1)", "none"] {
-        assert_eq!(rt; next_shown(&rt, &mut parser).as_str(), want);
+    feed(&rt, &mut parser, b"\n:1\r\n");
+    for wanted in ["simple-string(\"a\")", "int(1)", "none"] {
+        gives_next(&rt, &mut parser, wanted);
     }
     assert!(rt; !parser.in_progress());
 }
@@ -249,22 +258,26 @@ fn pieces(rt: HostRuntime) {
 fn single_bytes(rt: HostRuntime) {
     let mut parser = Parser::new(rt.alloc());
     let bytes = b"*2\r\n$3\r\nabc\r\n:7\r\n";
-    for at in 0..bytes.len() {
-        assert_eq!(rt; next_shown(&rt, &mut parser).as_str(), "none");
-        parser.feed(&bytes[at..at + 1]).expect(&rt, "no refusal");
+    for single in bytes.chunks(1) {
+        gives_next(&rt, &mut parser, "none");
+        feed(&rt, &mut parser, single);
     }
-    let whole = "array([bulk-string('\"abc\"'), int(7)])";
-    assert_eq!(rt; next_shown(&rt, &mut parser).as_str(), whole);
+    gives_next(&rt, &mut parser, "array([bulk-string('\"abc\"'), int(7)])");
+}
+
+/// Feeding is refused, since the parser has failed.
+fn refuses_bytes(rt: &impl Abort, parser: &mut Parser, bytes: &[u8]) {
+    let refused = parser.feed(bytes).expect_err(rt, "a refusal");
+    assert_eq!(rt; refused.detail(), Some("parser has failed"));
 }
 
 #[test]
 fn a_failed_parser_takes_nothing(rt: HostRuntime) {
     let mut parser = Parser::new(rt.alloc());
-    parser.feed(b"@").expect(&rt, "no refusal");
-    assert_eq!(rt; next_shown(&rt, &mut parser).as_str(), "UnknownType");
+    feed(&rt, &mut parser, b"@");
+    gives_next(&rt, &mut parser, "UnknownType");
     assert!(rt; parser.is_failed() && parser.in_progress());
-    let again = parser.feed(b":1\r\n").expect_err(&rt, "a refusal");
-    assert_eq!(rt; again.detail(), Some("parser has failed"));
+    refuses_bytes(&rt, &mut parser, b":1\r\n");
 }
 
 /// A reader that fails once, in the middle.
@@ -308,12 +321,10 @@ impl Read for Noting {
 #[test]
 fn sources(rt: HostRuntime) {
     let mut parser = Parser::new(rt.alloc());
-    let first = shown_reply(&rt, parser.parse_value(&b":7\r\n+x\r\n"[..]));
-    assert_eq!(rt; first.as_str(), "int(7)");
+    shows(&rt, parser.parse_value(&b":7\r\n+x\r\n"[..]), "int(7)");
     let mut source = Reading::new(Cursor::new(&b"*1\r\n"[..]));
-    for want in ["simple-string(\"x\")", "UnexpectedEof"] {
-        let reply = shown_reply(&rt, parser.parse_from(&mut source));
-        assert_eq!(rt; reply.as_str(), want);
+    for wanted in ["simple-string(\"x\")", "UnexpectedEof"] {
+        shows(&rt, parser.parse_from(&mut source), wanted);
     }
     assert!(rt; parser.is_failed());
 }
@@ -322,20 +333,18 @@ fn sources(rt: HostRuntime) {
 fn a_source_that_fails(rt: HostRuntime) {
     let mut parser = Parser::new(rt.alloc());
     let mut source = Reading::new(Failing { reads: 0 });
-    let broken = shown_reply(&rt, parser.parse_from(&mut source));
-    assert_eq!(rt; broken.as_str(), "TimedOut");
+    shows(&rt, parser.parse_from(&mut source), "TimedOut");
     assert!(rt; !parser.is_failed() && parser.in_progress());
     assert!(rt; source.into_inner().reads == 2);
-    parser.feed(b"2\r\n").expect(&rt, "no refusal");
-    assert_eq!(rt; next_shown(&rt, &mut parser).as_str(), "int(12)");
+    feed(&rt, &mut parser, b"2\r\n");
+    gives_next(&rt, &mut parser, "int(12)");
 }
 
 #[test]
 fn a_source_is_asked_for_4096(rt: HostRuntime) {
     let mut parser = Parser::new(rt.alloc());
     let mut source = Reading::new(Noting { most: 0 });
-    let reply = shown_reply(&rt, parser.parse_from(&mut source));
-    assert_eq!(rt; reply.as_str(), "UnknownType");
+    shows(&rt, parser.parse_from(&mut source), "UnknownType");
     assert_eq!(rt; source.into_inner().most, 4096);
 }
 
@@ -346,8 +355,7 @@ fn whole_bytes(rt: HostRuntime) {
         (&b"*9223372036854775807\r\n:1\r\n"[..], "UnexpectedEof"),
         (&b"$1\r\nabc"[..], "BodyEnd"),
     ] {
-        let reply = shown_reply(&rt, parse_redis_value(rt.alloc(), bytes));
-        assert_eq!(rt; reply.as_str(), want);
+        shows(&rt, parse_redis_value(rt.alloc(), bytes), want);
     }
     law_of_prefixes();
 }

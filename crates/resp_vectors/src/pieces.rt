@@ -1,6 +1,6 @@
 //! Replies that come in pieces: wherever the bytes are cut, the answers are the same.
 
-use crate::answers::{Example, next_shown, shown_in_pieces};
+use crate::answers::{Example, feed, gives_next, shown_in_pieces};
 use crate::parsers::{AGGREGATES, BODIES, SCALARS};
 use crate::replies::FAULTS;
 use resp_core::{Parser, Value};
@@ -61,20 +61,28 @@ const REPLIES: &[Example] = &[
     (b"*2\r\n*1\r\n:1\r\n~1\r\n$1\r\n", ".."),
 ];
 
-/// The bytes show this text, fed as single bytes, and cut at each place and each two places.
-fn shows_however_cut(rt: &(impl Abort + AllocGlobal), bytes: &[u8], want: &str) {
+/// The bytes show this text, fed one by one.
+fn shows_in_single_bytes(rt: &(impl Abort + AllocGlobal), bytes: &[u8], want: &str) {
     let mut singles = Vec::new(rt.alloc());
     for single in bytes.chunks(1) {
         singles.push(single).expect(rt, "no refusal");
     }
     assert_eq!(rt; shown_in_pieces(rt, singles.as_slice()).as_str(), want);
+}
+
+/// The bytes show this text, with the first of their two parts cut at each place.
+fn shows_cut_before(rt: &(impl Abort + AllocGlobal), (head, last): (&[u8], &[u8]), want: &str) {
+    for first in 0..=head.len() {
+        let (start, middle) = head.split_at(first);
+        assert_eq!(rt; shown_in_pieces(rt, &[start, middle, last]).as_str(), want);
+    }
+}
+
+/// The bytes show this text, fed one by one, and cut at each place and each two places.
+fn shows_however_cut(rt: &(impl Abort + AllocGlobal), bytes: &[u8], want: &str) {
+    shows_in_single_bytes(rt, bytes, want);
     for second in 0..=bytes.len() {
-        let (head, last) = bytes.split_at(second);
-        for first in 0..=second {
-            let (start, middle) = head.split_at(first);
-            let shown = shown_in_pieces(rt, &[start, middle, last]);
-            assert_eq!(rt; shown.as_str(), want, "cut at {first} and {second}");
-        }
+        shows_cut_before(rt, bytes.split_at(second), want);
     }
 }
 
@@ -87,15 +95,12 @@ fn wherever_replies_are_cut(rt: HostRuntime) {
     }
 }
 
-/// What the parser answers after the last byte; before each, fed one by one, bytes are awaited.
-fn last_shown(rt: &(impl Abort + AllocGlobal), parser: &mut Parser, bytes: &[u8]) -> String {
-    let mut shown = next_shown(rt, parser);
+/// Feeds the bytes one by one; before each, bytes are awaited.
+fn feed_singly(rt: &(impl Abort + AllocGlobal), parser: &mut Parser, bytes: &[u8]) {
     for single in bytes.chunks(1) {
-        assert_eq!(rt; shown.as_str(), "none");
-        parser.feed(single).expect(rt, "no refusal");
-        shown = next_shown(rt, parser);
+        gives_next(rt, parser, "none");
+        feed(rt, parser, single);
     }
-    shown
 }
 
 /// The middle, with so many of the first text before it and as many of the last after it.
@@ -122,12 +127,20 @@ fn nested_arrays_in_single_bytes(rt: HostRuntime) {
     let bytes = around(&rt, 99, "*1\r\n", ":1\r\n", "");
     assert_eq!(rt; bytes.len(), 400);
     let mut parser = Parser::new(rt.alloc());
-    let value = last_shown(&rt, &mut parser, bytes.as_bytes());
-    assert_eq!(rt; value, around(&rt, 99, "array([", "int(1)", "])"));
+    feed_singly(&rt, &mut parser, bytes.as_bytes());
+    let wanted = around(&rt, 99, "array([", "int(1)", "])");
+    gives_next(&rt, &mut parser, wanted.as_str());
     assert!(rt; !parser.in_progress());
+}
+
+#[test]
+fn arrays_that_nest_too_deeply_in_single_bytes(rt: HostRuntime) {
+    let mut parser = Parser::new(rt.alloc());
+    feed(&rt, &mut parser, b":1\r\n");
+    gives_next(&rt, &mut parser, "int(1)");
     let bytes = around(&rt, 100, "*1\r\n", ":", "");
-    let refusal = last_shown(&rt, &mut parser, bytes.as_bytes());
-    assert_eq!(rt; refusal.as_str(), "TooDeep");
+    feed_singly(&rt, &mut parser, bytes.as_bytes());
+    gives_next(&rt, &mut parser, "TooDeep");
 }
 
 #[test]
@@ -135,55 +148,65 @@ fn a_body_in_pieces(rt: HostRuntime) {
     for (last, want) in [("\n", "bulk-string('\"abc\"')"), ("X", "BodyEnd")] {
         let mut parser = Parser::new(rt.alloc());
         for piece in ["$3\r\nab", "c", "\r"] {
-            parser.feed(piece.as_bytes()).expect(&rt, "no refusal");
-            assert_eq!(rt; next_shown(&rt, &mut parser).as_str(), "none");
+            feed(&rt, &mut parser, piece.as_bytes());
+            gives_next(&rt, &mut parser, "none");
         }
-        parser.feed(last.as_bytes()).expect(&rt, "no refusal");
-        assert_eq!(rt; next_shown(&rt, &mut parser).as_str(), want);
+        feed(&rt, &mut parser, last.as_bytes());
+        gives_next(&rt, &mut parser, want);
     }
 }
 
-/// How many elements the large array has, of 39 bytes each.
+/// How many elements the large array has.
 const ELEMENTS: usize = 100_000;
 
-/// What each of them holds.
-const BODY: &str = "32 bytes, of which two are\r\nCRLF";
+/// What begins it.
+const HEADER: &[u8] = b"*100000\r\n";
 
-/// The value is an array of that many such bodies.
-fn holds_bodies(rt: &(impl Abort + AllocGlobal), value: &Value) {
-    let Value::Array(elements) = value else {
-        assert!(rt; false);
-        return;
-    };
-    assert_eq!(rt; elements.len(), ELEMENTS);
-    for element in elements.iter() {
-        match element {
-            Value::BulkString(bytes) => assert_eq!(rt; bytes.as_slice(), BODY.as_bytes()),
-            _ => assert!(rt; false),
-        }
+/// What each of them holds.
+const BODY: &[u8] = b"32 bytes, of which two are\r\nCRLF";
+
+/// Each of them, but for its last byte, a line feed.
+const ELEMENT: &[u8] = b"$32\r\n32 bytes, of which two are\r\nCRLF\r";
+
+/// Whether the value is one of the bodies.
+fn is_body(value: &Value) -> bool {
+    match value {
+        Value::BulkString(bytes) => bytes.as_slice() == BODY,
+        _ => false,
     }
 }
 
-/// The value that is there after the last byte; before it, fed one by one, there may be none.
-fn last_value(rt: &(impl Abort + AllocGlobal), parser: &mut Parser, bytes: &[u8]) -> Option<Value> {
-    let mut value = None;
-    for single in bytes.chunks(1) {
-        assert!(rt; value.is_none());
-        parser.feed(single).expect(rt, "no refusal");
-        value = parser.take_value().expect(rt, "no refusal");
+/// Whether the value is an array of that many such bodies.
+fn holds_bodies(value: &Value) -> bool {
+    match value {
+        Value::Array(elements) => elements.len() == ELEMENTS && elements.iter().all(is_body),
+        _ => false,
     }
-    value
+}
+
+/// The value that the parser gives next, if there is one.
+fn next_value(rt: &impl Abort, parser: &mut Parser) -> Option<Value> {
+    parser.take_value().expect(rt, "no refusal")
+}
+
+/// Feeds the bytes one by one; after each, more are awaited.
+fn awaits_more(rt: &impl Abort, parser: &mut Parser, bytes: &[u8]) {
+    for single in bytes.chunks(1) {
+        feed(rt, parser, single);
+        assert!(rt; next_value(rt, parser).is_none());
+    }
 }
 
 #[test]
 fn a_large_array_in_single_bytes(rt: HostRuntime) {
-    let header = format!(in rt.alloc(); "*{ELEMENTS}\r\n").expect(&rt, "no refusal");
-    let element = format!(in rt.alloc(); "$32\r\n{BODY}\r\n").expect(&rt, "no refusal");
     let mut parser = Parser::new(rt.alloc());
-    assert!(rt; last_value(&rt, &mut parser, header.as_bytes()).is_none());
+    awaits_more(&rt, &mut parser, HEADER);
     for _ in 1..ELEMENTS {
-        assert!(rt; last_value(&rt, &mut parser, element.as_bytes()).is_none());
+        awaits_more(&rt, &mut parser, ELEMENT);
+        awaits_more(&rt, &mut parser, b"\n");
     }
-    let array = last_value(&rt, &mut parser, element.as_bytes()).expect(&rt, "a value");
-    holds_bodies(&rt, &array);
+    awaits_more(&rt, &mut parser, ELEMENT);
+    feed(&rt, &mut parser, b"\n");
+    let array = next_value(&rt, &mut parser).expect(&rt, "a value");
+    assert!(rt; holds_bodies(&array));
 }

@@ -69,21 +69,24 @@ fn a_cleared_transaction_stays_one(rt: HostRuntime) {
     assert_eq!(rt; pipeline.len(), 1);
 }
 
-#[test]
-fn the_commands_in_order(rt: HostRuntime) {
-    let mut pipeline = pipe(rt.alloc());
-    let two = pipeline
-        .cmd("A")
-        .expect(&rt, "no refusal")
-        .cmd("B")
-        .expect(&rt, "no refusal");
-    let _ = two.ignore();
+/// The bytes of the commands that the pipeline lists.
+fn packed_one_by_one(rt: &(impl Abort + AllocGlobal), pipeline: &Pipeline) -> Vec<u8> {
     let mut packed = Vec::new(rt.alloc());
     for command in pipeline.cmd_iter() {
         command
             .write_packed_command(&mut packed)
-            .expect(&rt, "no refusal");
+            .expect(rt, "no refusal");
     }
+    packed
+}
+
+#[test]
+fn the_commands_in_order(rt: HostRuntime) {
+    let mut pipeline = pipe(rt.alloc());
+    let one = pipeline.cmd("A").expect(&rt, "no refusal");
+    let two = one.cmd("B").expect(&rt, "no refusal");
+    let _ = two.ignore();
+    let packed = packed_one_by_one(&rt, &pipeline);
     assert_eq!(rt;
         packed.as_slice(),
         b"*1\r\n$1\r\nA\r\n*1\r\n$1\r\nB\r\n".as_slice()

@@ -1,7 +1,9 @@
 //! Replies as bytes, over a parser.
 
-use crate::answers::{Example, debug_text, next_shown, shown_reply};
-use resp_core::{ErrorKind, Parser, Reading, ServerErrorKind, Value, parse_redis_value};
+use crate::answers::{Example, debug_text, feed, gives_next, reply, shows};
+use resp_core::{
+    ErrorKind, Parser, Reading, RedisError, ServerErrorKind, Value, parse_redis_value,
+};
 use std::alloc::Global;
 use std::io::Cursor;
 use std::process::Abort;
@@ -12,13 +14,18 @@ fn faults(rt: &(impl Abort + AllocGlobal), bytes: &[u8], wanted: &str) {
     let Some((last, prefix)) = bytes.split_last() else {
         return;
     };
-    parser.feed(prefix).expect(rt, "no refusal");
-    assert_eq!(rt; next_shown(rt, &mut parser).as_str(), "none");
-    assert_eq!(rt; parser.fault_offset(), None);
-    parser.feed(&[*last]).expect(rt, "no refusal");
-    assert_eq!(rt; next_shown(rt, &mut parser).as_str(), wanted);
+    feed(rt, &mut parser, prefix);
+    gives_next(rt, &mut parser, "none");
+    assert!(rt; parser.fault_offset().is_none());
+    feed(rt, &mut parser, &[*last]);
+    gives_next(rt, &mut parser, wanted);
+    has_failed_at(rt, &parser, bytes.len());
+}
+
+/// The parser has failed, at so many bytes after the last value.
+fn has_failed_at(rt: &impl Abort, parser: &Parser, offset: usize) {
     assert!(rt; parser.is_failed());
-    assert_eq!(rt; parser.fault_offset(), Some(bytes.len()));
+    assert_eq!(rt; parser.fault_offset(), Some(offset));
 }
 
 /// Bytes that end exactly where a fault shows.
@@ -45,14 +52,20 @@ fn faults_show_at_their_byte(rt: HostRuntime) {
 #[test]
 fn a_fault_is_placed_after_the_last_value(rt: HostRuntime) {
     let mut parser = Parser::new(rt.alloc());
-    parser
-        .feed(b"*1\r\n:1\r\n*2\r\n$2\r\na")
-        .expect(&rt, "no refusal");
-    assert_eq!(rt; next_shown(&rt, &mut parser).as_str(), "array([int(1)])");
-    assert_eq!(rt; next_shown(&rt, &mut parser).as_str(), "none");
-    parser.feed(b"b\r\n?\r\n+x\r\n").expect(&rt, "no refusal");
-    assert_eq!(rt; next_shown(&rt, &mut parser).as_str(), "UnknownType");
-    assert_eq!(rt; parser.fault_offset(), Some(13));
+    feed(&rt, &mut parser, b"*1\r\n:1\r\n*2\r\n$2\r\na");
+    gives_next(&rt, &mut parser, "array([int(1)])");
+    gives_next(&rt, &mut parser, "none");
+    feed(&rt, &mut parser, b"b\r\n?\r\n+x\r\n");
+    gives_next(&rt, &mut parser, "UnknownType");
+    has_failed_at(&rt, &parser, 13);
+}
+
+/// The bytes end within a value.
+fn ends_early(rt: &(impl Abort + AllocGlobal), bytes: &[u8]) {
+    let mut parser = Parser::new(rt.alloc());
+    let mut source = Reading::new(Cursor::new(bytes));
+    shows(rt, parser.parse_from(&mut source), "UnexpectedEof");
+    assert!(rt; parser.is_failed() && parser.fault_offset().is_none());
 }
 
 #[test]
@@ -63,29 +76,21 @@ fn early_end(rt: HostRuntime) {
         "$2\r\nab\r",
         "*9223372036854775807\r\n:1\r\n",
     ] {
-        let mut source = Reading::new(Cursor::new(bytes.as_bytes()));
-        let mut parser = Parser::new(rt.alloc());
-        let reply = shown_reply(&rt, parser.parse_from(&mut source));
-        assert_eq!(rt; reply.as_str(), "UnexpectedEof");
-        assert!(rt; parser.is_failed());
-        assert_eq!(rt; parser.fault_offset(), None);
-        let reply = shown_reply(&rt, parse_redis_value(rt.alloc(), bytes.as_bytes()));
-        assert_eq!(rt; reply.as_str(), "UnexpectedEof");
+        ends_early(&rt, bytes.as_bytes());
+        let whole = parse_redis_value(rt.alloc(), bytes.as_bytes());
+        shows(&rt, whole, "UnexpectedEof");
     }
 }
 
-/// The first error in the reply has this kind, code and detail.
-fn holds_error(
-    rt: &(impl Abort + AllocGlobal),
-    bytes: &[u8],
-    kind: ErrorKind,
-    code: &str,
-    detail: &str,
-) {
-    let error = reply(rt, bytes).extract_error().expect_err(rt, "a refusal");
+/// The first error in the reply.
+fn first_error(rt: &(impl Abort + AllocGlobal), bytes: &[u8]) -> RedisError {
+    reply(rt, bytes).extract_error().expect_err(rt, "a refusal")
+}
+
+/// The error has this kind, code and detail.
+fn says(rt: &impl Abort, error: &RedisError, kind: ErrorKind, code: &str, detail: &str) {
     assert_eq!(rt; error.kind(), kind);
-    assert_eq!(rt; error.code(), Some(code));
-    assert_eq!(rt; error.detail(), Some(detail));
+    assert_eq!(rt; (error.code(), error.detail()), (Some(code), Some(detail)));
 }
 
 #[test]
@@ -116,22 +121,15 @@ fn errors_inside(rt: HostRuntime) {
             "z",
         ),
     ] {
-        holds_error(&rt, bytes.as_bytes(), kind, code, detail);
+        says(&rt, &first_error(&rt, bytes.as_bytes()), kind, code, detail);
     }
-}
-
-fn reply(rt: &(impl Abort + AllocGlobal), bytes: &[u8]) -> Value {
-    parse_redis_value(rt.alloc(), bytes).expect(rt, "no refusal")
 }
 
 #[test]
 fn without_errors_a_reply_stays(rt: HostRuntime) {
-    let good = b"%1\r\n+a\r\n*1\r\n+OK\r\n";
-    let extracted = shown_reply(&rt, reply(&rt, good).extract_error());
-    assert_eq!(rt;
-        extracted.as_str(),
-        "map([(simple-string(\"a\"), array([ok]))])"
-    );
+    let good = reply(&rt, b"%1\r\n+a\r\n*1\r\n+OK\r\n");
+    let wanted = "map([(simple-string(\"a\"), array([ok]))])";
+    shows(&rt, good.extract_error(), wanted);
 }
 
 /// How many values the value is a sequence of.
@@ -154,19 +152,24 @@ fn length(rt: &(impl Abort + AllocGlobal), bytes: &[u8]) -> Option<usize> {
 
 #[test]
 fn sequences(rt: HostRuntime) {
-    let set = b"~5\r\n+orange\r\n+apple\r\n#t\r\n:100\r\n:999\r\n";
-    assert_eq!(rt; length(&rt, set), Some(5));
-    assert_eq!(rt; length(&rt, b"*1\r\n:1\r\n"), Some(1));
-    assert_eq!(rt; length(&rt, b"_\r\n"), Some(0));
-    assert_eq!(rt; length(&rt, b"%0\r\n"), None);
+    for (bytes, wanted) in [
+        ("~5\r\n+orange\r\n+apple\r\n#t\r\n:100\r\n:999\r\n", Some(5)),
+        ("*1\r\n:1\r\n", Some(1)),
+        ("_\r\n", Some(0)),
+        ("%0\r\n", None),
+    ] {
+        assert_eq!(rt; length(&rt, bytes.as_bytes()), wanted);
+    }
 }
 
 #[test]
 fn cursors(rt: HostRuntime) {
-    let scan = reply(&rt, b"*2\r\n$1\r\n0\r\n*0\r\n");
-    assert!(rt; scan.looks_like_cursor());
-    let pair = reply(&rt, b"*2\r\n:0\r\n*0\r\n");
-    assert!(rt; !pair.looks_like_cursor());
+    for (bytes, wanted) in [
+        ("*2\r\n$1\r\n0\r\n*0\r\n", true),
+        ("*2\r\n:0\r\n*0\r\n", false),
+    ] {
+        assert_eq!(rt; reply(&rt, bytes.as_bytes()).looks_like_cursor(), wanted);
+    }
 }
 
 #[test]
@@ -174,36 +177,40 @@ fn borrowed_pairs(rt: HostRuntime) {
     let map = reply(&rt, b"%2\r\n+first\r\n:1\r\n+second\r\n:2\r\n");
     let mut pairs = map.as_map_iter().expect(&rt, "some");
     assert_eq!(rt; pairs.size_hint(), (2, Some(2)));
-    let (_key, first) = pairs.next().expect(&rt, "some");
-    assert!(rt; *first == Value::Int(1));
-    let (_key, second) = pairs.next().expect(&rt, "some");
-    assert!(rt; *second == Value::Int(2));
-    assert!(rt; pairs.next().is_none());
+    for wanted in [
+        "Some((simple-string(\"first\"), int(1)))",
+        "Some((simple-string(\"second\"), int(2)))",
+        "None",
+    ] {
+        assert_eq!(rt; debug_text(&rt, pairs.next()).as_str(), wanted);
+    }
+}
+
+/// An array of four values.
+fn four_values(rt: &(impl Abort + AllocGlobal)) -> Value {
+    reply(rt, b"*4\r\n:1\r\n:2\r\n:3\r\n:4\r\n")
 }
 
 #[test]
 fn pairs_of_an_array(rt: HostRuntime) {
-    let four = reply(&rt, b"*4\r\n:1\r\n:2\r\n:3\r\n:4\r\n");
-    assert_eq!(rt;
-        four.as_map_iter().expect(&rt, "some").size_hint(),
-        (2, Some(2))
-    );
-    match four.into_map_iter() {
-        Ok(mut pairs) => {
-            assert_eq!(rt; pairs.size_hint(), (2, Some(2)));
-            let first = debug_text(&rt, pairs.next());
-            assert_eq!(rt; first.as_str(), "Some((int(1), int(2)))");
-        }
-        Err(_other) => assert!(rt; false),
-    }
+    let four = four_values(&rt);
+    let pairs = four.as_map_iter().expect(&rt, "some");
+    assert_eq!(rt; pairs.size_hint(), (2, Some(2)));
+}
+
+#[test]
+fn pairs_out_of_an_array(rt: HostRuntime) {
+    let pairs = four_values(&rt).into_map_iter().ok();
+    let mut pairs = pairs.expect(&rt, "pairs");
+    assert_eq!(rt; pairs.size_hint(), (2, Some(2)));
+    let first = debug_text(&rt, pairs.next());
+    assert_eq!(rt; first.as_str(), "Some((int(1), int(2)))");
 }
 
 #[test]
 fn no_pairs_of_three(rt: HostRuntime) {
     let three = reply(&rt, b"*3\r\n:1\r\n:2\r\n:3\r\n");
     assert!(rt; three.as_map_iter().is_none());
-    match three.into_map_iter() {
-        Ok(_pairs) => assert!(rt; false),
-        Err(back) => assert_eq!(rt; borrowed_length(&back), Some(3)),
-    }
+    let back = three.into_map_iter().err().expect(&rt, "the value");
+    assert_eq!(rt; borrowed_length(&back), Some(3));
 }

@@ -1,15 +1,16 @@
 //! A server error at each place of a pipeline of three commands: plain and as a transaction, with
 //! errors answered and taken as values, and with one command or none ignored.
 
-use crate::memory::{link_over, listed};
-use resp_core::{Pipeline, RedisResult, pipe};
+use crate::memory::link_over;
+use crate::texts::{is_text, list_errors};
+use resp_core::{Pipeline, RedisError, RedisResult, pipe};
 use std::process::Abort;
 
 /// Items of three commands, the position of the ignored one, what is shown where errors are
 /// answered, and what is shown where they are values.
 type Row = (&'static str, Option<usize>, &'static str, &'static str);
 
-const ROWS: [Row; 9] = [
+const ROWS: &[Row] = &[
     (FIRST, None, "cross-slot 0:CROSSSLOT ", "CROSSSLOT 11 12 "),
     (FIRST, Some(0), "cross-slot 0:CROSSSLOT ", "11 12 "),
     (FIRST, Some(2), "cross-slot 0:CROSSSLOT ", "CROSSSLOT 11 "),
@@ -30,6 +31,13 @@ const THIRD: &str = ":10\r\n:11\r\n-CROSSSLOT x\r\n";
 /// What stands before the items in the replies to a transaction.
 const QUEUED: &str = "+OK\r\n+QUEUED\r\n+QUEUED\r\n+QUEUED\r\n*3\r\n";
 
+/// All replies to a transaction whose commands make these items.
+fn queued(rt: &(impl Abort + AllocGlobal), items: &str) -> String {
+    let mut text = String::from_str(rt.alloc(), QUEUED).expect(rt, "no refusal");
+    text.push_str(items).expect(rt, "no refusal");
+    text
+}
+
 /// Three commands, of which perhaps one is ignored.
 fn three(rt: &(impl Abort + AllocGlobal), ignored: Option<usize>) -> Pipeline {
     let mut pipeline = pipe(rt.alloc());
@@ -46,74 +54,60 @@ fn three(rt: &(impl Abort + AllocGlobal), ignored: Option<usize>) -> Pipeline {
 /// category and the listed errors.
 fn shown(rt: &(impl Abort + AllocGlobal), pipeline: &Pipeline, incoming: &str) -> String {
     let mut link = link_over(rt, incoming.as_bytes());
-    let result: RedisResult<Vec<RedisResult<i64>>> = pipeline.query(&mut link);
-    match result {
+    match pipeline.query::<Vec<RedisResult<i64>>>(&mut link) {
         Ok(results) => shown_results(rt, results.as_slice()),
-        Err(error) => {
-            let mut text = String::from_str(rt.alloc(), error.category()).expect(rt, "no refusal");
-            text.push(' ').expect(rt, "no refusal");
-            text.push_str(listed(rt, error).as_str())
-                .expect(rt, "no refusal");
-            text
-        }
+        Err(error) => shown_refusal(rt, error),
     }
+}
+
+/// The category of a refusal, and the listed errors.
+fn shown_refusal(rt: &(impl Abort + AllocGlobal), error: RedisError) -> String {
+    let mut text = String::from_str(rt.alloc(), error.category()).expect(rt, "no refusal");
+    text.push(' ').expect(rt, "no refusal");
+    list_errors(rt, &mut text, error);
+    text
 }
 
 /// Each value, or the code of its error, and a space.
 fn shown_results(rt: &(impl Abort + AllocGlobal), results: &[RedisResult<i64>]) -> String {
     let mut text = String::new(rt.alloc());
     for result in results {
-        match result {
-            Ok(value) => write!(text, "{value} ").expect(rt, "no refusal"),
-            Err(error) => match error.code() {
-                Some(code) => write!(text, "{code} ").expect(rt, "no refusal"),
-                None => text.push('?').expect(rt, "no refusal"),
-            },
-        }
+        show_result(rt, &mut text, result);
     }
     text
 }
 
+/// Appends the value, or the code of the error, and a space.
+fn show_result(rt: &impl Abort, text: &mut String, answer: &RedisResult<i64>) {
+    match answer {
+        Ok(value) => write!(text, "{value} ").expect(rt, "no refusal"),
+        Err(error) => {
+            let code = error.code().unwrap_or("?");
+            write!(text, "{code} ").expect(rt, "no refusal");
+        }
+    }
+}
+
+/// The pipeline shows this where its replies are these items, and as a transaction too.
+fn shows(rt: &(impl Abort + AllocGlobal), mut pipeline: Pipeline, items: &str, wanted: &str) {
+    is_text(rt, shown(rt, &pipeline, items), wanted);
+    let _ = pipeline.atomic();
+    let replies = queued(rt, items);
+    is_text(rt, shown(rt, &pipeline, replies.as_str()), wanted);
+}
+
 #[test]
 fn errors_are_answered(rt: HostRuntime) {
-    for (items, ignored, want, _) in ROWS {
-        let pipeline = three(&rt, ignored);
-        assert_eq!(rt; shown(&rt, &pipeline, items).as_str(), want);
+    for (items, ignored, wanted, _) in ROWS {
+        shows(&rt, three(&rt, *ignored), items, wanted);
     }
 }
 
 #[test]
 fn errors_are_values(rt: HostRuntime) {
-    for (items, ignored, _, want) in ROWS {
-        let mut pipeline = three(&rt, ignored);
+    for (items, ignored, _, wanted) in ROWS {
+        let mut pipeline = three(&rt, *ignored);
         let _ = pipeline.ignore_errors();
-        assert_eq!(rt; shown(&rt, &pipeline, items).as_str(), want);
-    }
-}
-
-/// All replies to a transaction whose commands make these items.
-fn queued(rt: &(impl Abort + AllocGlobal), items: &str) -> String {
-    let mut text = String::from_str(rt.alloc(), QUEUED).expect(rt, "no refusal");
-    text.push_str(items).expect(rt, "no refusal");
-    text
-}
-
-#[test]
-fn errors_of_a_transaction_are_answered(rt: HostRuntime) {
-    for (items, ignored, want, _) in ROWS {
-        let mut pipeline = three(&rt, ignored);
-        let _ = pipeline.atomic();
-        let replies = queued(&rt, items);
-        assert_eq!(rt; shown(&rt, &pipeline, replies.as_str()).as_str(), want);
-    }
-}
-
-#[test]
-fn errors_of_a_transaction_are_values(rt: HostRuntime) {
-    for (items, ignored, _, want) in ROWS {
-        let mut pipeline = three(&rt, ignored);
-        let _ = pipeline.atomic().ignore_errors();
-        let replies = queued(&rt, items);
-        assert_eq!(rt; shown(&rt, &pipeline, replies.as_str()).as_str(), want);
+        shows(&rt, pipeline, items, wanted);
     }
 }

@@ -17,4 +17,6 @@ mod queries;
 #[cfg(test)]
 mod scans;
 #[cfg(test)]
+mod texts;
+#[cfg(test)]
 mod transactions;

@@ -1,10 +1,6 @@
-//! Links over memory, and what tests look at.
+//! Links over memory, and what is asked over them.
 
-use resp_core::{
-    ByteLink, Cmd, ConnectionLike, ErrorKind, IoKind, Pipeline, Reading, RedisError, RedisResult,
-    Writing, cmd, pipe,
-};
-use std::fmt::Debug;
+use resp_core::{ByteLink, Cmd, ConnectionLike, Pipeline, Reading, Writing, cmd, pipe};
 use std::io::Cursor;
 use std::process::Abort;
 
@@ -17,10 +13,10 @@ pub fn link_over(rt: &(impl Abort + AllocGlobal), incoming: &[u8]) -> MemoryLink
     ByteLink::new(rt.alloc(), Cursor::new(bytes), Vec::new(rt.alloc()))
 }
 
-/// The bytes that went out.
-pub fn sent(link: MemoryLink) -> Vec<u8> {
+/// The link has sent these bytes.
+pub fn has_sent(rt: &impl Abort, link: MemoryLink, wanted: &[u8]) {
     let (_source, sink) = link.into_ends();
-    sink.into_inner()
+    assert_eq!(rt; sink.into_inner().as_slice(), wanted);
 }
 
 /// A command of one argument.
@@ -28,9 +24,17 @@ pub fn ping(rt: &(impl Abort + AllocGlobal)) -> Cmd {
     cmd(rt.alloc(), "PING").expect(rt, "no refusal")
 }
 
-/// What `PING` answers over the link, which has to be an integer.
-pub fn next_integer(rt: &(impl Abort + AllocGlobal), link: &mut MemoryLink) -> i64 {
-    ping(rt).query(link).expect(rt, "no refusal")
+/// `PING` is answered this integer over the link.
+pub fn gives(rt: &(impl Abort + AllocGlobal), link: &mut MemoryLink, wanted: i64) {
+    let answer: i64 = ping(rt).query(link).expect(rt, "no refusal");
+    assert_eq!(rt; answer, wanted);
+}
+
+/// The link is usable: `PING` is answered this integer, and then the link has sent these bytes.
+pub fn goes_on(rt: &(impl Abort + AllocGlobal), mut link: MemoryLink, next: i64, sent: &[u8]) {
+    assert!(rt; !link.is_broken());
+    gives(rt, &mut link, next);
+    has_sent(rt, link, sent);
 }
 
 /// A pipeline of commands of these names.
@@ -42,46 +46,13 @@ pub fn commands(rt: &(impl Abort + AllocGlobal), names: &[&str]) -> Pipeline {
     pipeline
 }
 
-/// What a pipeline of two commands answers, which have to be integers.
-pub fn two_integers(rt: &(impl Abort + AllocGlobal), con: &mut dyn ConnectionLike) -> (i64, i64) {
-    commands(rt, &["FOO", "BAR"])
-        .query(con)
-        .expect(rt, "no refusal")
-}
-
-/// The Debug form of what was answered.
-pub fn shown<T: Debug + Drop>(rt: &(impl Abort + AllocGlobal), answer: RedisResult<T>) -> String {
-    let value = answer.expect(rt, "no refusal");
-    format!(in rt.alloc(); "{value:?}").expect(rt, "no refusal")
-}
-
-/// The Debug form of the refusal.
-pub fn shown_refusal<T: Debug>(rt: &(impl Abort + AllocGlobal), answer: RedisResult<T>) -> String {
-    let error = answer.expect_err(rt, "a refusal");
-    format!(in rt.alloc(); "{error:?}").expect(rt, "no refusal")
-}
-
-/// The kind of the refusal.
-pub fn refused<T: Debug>(rt: &(impl Abort), answer: RedisResult<T>) -> ErrorKind {
-    answer.expect_err(rt, "a refusal").kind()
-}
-
-/// The kind of the fault of a device in the refusal.
-pub fn device_fault<T: Debug>(rt: &(impl Abort), answer: RedisResult<T>) -> Option<IoKind> {
-    answer.expect_err(rt, "a refusal").io_kind()
-}
-
-/// The server errors in a refusal, each with its position, as `1:CROSSSLOT` and a space.
-pub fn listed(rt: &(impl Abort + AllocGlobal), error: RedisError) -> String {
-    let mut text = String::new(rt.alloc());
-    let errors = error
-        .into_server_errors(rt.alloc())
-        .expect(rt, "no refusal");
-    if let Some(errors) = errors {
-        for (position, server_error) in &errors {
-            let code = server_error.code();
-            write!(text, "{position}:{code} ").expect(rt, "no refusal");
-        }
-    }
-    text
+/// A pipeline of two commands is answered these integers.
+pub fn gives_two(
+    rt: &(impl Abort + AllocGlobal),
+    con: &mut dyn ConnectionLike,
+    wanted: (i64, i64),
+) {
+    let two = commands(rt, &["FOO", "BAR"]);
+    let answer: (i64, i64) = two.query(con).expect(rt, "no refusal");
+    assert_eq!(rt; answer, wanted);
 }

@@ -1,56 +1,71 @@
 //! Requests of packed commands over a link.
 
 use crate::devices::AskedOnce;
-use crate::memory::{link_over, next_integer, refused, sent, shown, shown_refusal, two_integers};
-use resp_core::{ByteLink, ConnectionLike, ErrorKind};
+use crate::memory::{gives_two, goes_on, has_sent, link_over};
+use crate::texts::{shows, shows_kind};
+use resp_core::{ByteLink, ConnectionLike};
+use std::process::Abort;
 
-#[test]
-fn no_bytes_are_an_empty_command(rt: HostRuntime) {
-    let mut link = link_over(&rt, b":7\r\n");
-    let refusal = shown_refusal(&rt, link.req_packed_command(b""));
-    assert_eq!(rt; refusal.as_str(), "empty command - Client");
+/// A packed command is answered this: the Debug form of the value, or of the refusal.
+fn answers(
+    rt: &(impl Abort + AllocGlobal),
+    con: &mut dyn ConnectionLike,
+    command: &[u8],
+    wanted: &str,
+) {
+    shows(rt, con.req_packed_command(command), wanted);
+}
+
+/// A packed command is refused as of this kind.
+fn refuses(
+    rt: &(impl Abort + AllocGlobal),
+    con: &mut dyn ConnectionLike,
+    command: &[u8],
+    kind: &str,
+) {
+    shows_kind(rt, con.req_packed_command(command), kind);
+}
+
+/// A packed command is sent as it stands and answered this where 7 comes in. The link stays usable.
+fn answers_as_sent(rt: &(impl Abort + AllocGlobal), command: &[u8], wanted: &str) {
+    let mut link = link_over(rt, b":7\r\n");
+    answers(rt, &mut link, command, wanted);
     assert!(rt; !link.is_broken());
-    assert!(rt; sent(link).is_empty());
+    has_sent(rt, link, command);
 }
 
 #[test]
 fn a_packed_command_is_sent_as_it_stands(rt: HostRuntime) {
-    let mut link = link_over(&rt, b":7\r\n");
-    let reply = shown(&rt, link.req_packed_command(b"*1\r\n$4\r\nPING\r\n"));
-    assert_eq!(rt; reply.as_str(), "int(7)");
-    assert_eq!(rt; sent(link).as_slice(), b"*1\r\n$4\r\nPING\r\n".as_slice());
+    answers_as_sent(&rt, b"*1\r\n$4\r\nPING\r\n", "int(7)");
+    // No bytes are an empty command.
+    answers_as_sent(&rt, b"", "empty command - Client");
 }
 
 #[test]
 fn a_broken_link_refuses_packed_commands(rt: HostRuntime) {
     let mut link = link_over(&rt, b":x\r\n:7\r\n");
-    assert_eq!(rt;
-        refused(&rt, link.req_packed_command(b"x")),
-        ErrorKind::Parse
-    );
-    let one = shown_refusal(&rt, link.req_packed_command(b""));
-    assert_eq!(rt; one.as_str(), "link is broken - Io");
-    let many = shown_refusal(&rt, link.req_packed_commands(b"y", 0, 1));
-    assert_eq!(rt; many.as_str(), "link is broken - Io");
-    assert_eq!(rt; sent(link).as_slice(), b"x".as_slice());
+    refuses(&rt, &mut link, b"x", "Parse");
+    answers(&rt, &mut link, b"", "link is broken - Io");
+    let many = link.req_packed_commands(b"y", 0, 1);
+    shows(&rt, many, "link is broken - Io");
+    has_sent(&rt, link, b"x");
 }
 
 #[test]
 fn first_replies_are_dropped(rt: HostRuntime) {
     let mut link = link_over(&rt, b":1\r\n:2\r\n:3\r\n:4\r\n");
-    let replies = shown(&rt, link.req_packed_commands(b"x", 1, 2));
-    assert_eq!(rt; replies.as_str(), "[int(2), int(3)]");
-    assert_eq!(rt; next_integer(&rt, &mut link), 4);
+    let replies = link.req_packed_commands(b"x", 1, 2);
+    shows(&rt, replies, "[int(2), int(3)]");
+    goes_on(&rt, link, 4, b"x*1\r\n$4\r\nPING\r\n");
 }
 
 #[test]
 fn no_more_is_asked_than_needed(rt: HostRuntime) {
     let reader = AskedOnce::new(b":1\r\n:2\r\n:3\r\n");
     let mut link = ByteLink::new(rt.alloc(), reader, Vec::new(rt.alloc()));
-    assert_eq!(rt; two_integers(&rt, &mut link), (1, 2));
-    let third = shown(&rt, link.req_packed_command(b"x"));
-    assert_eq!(rt; third.as_str(), "int(3)");
+    gives_two(&rt, &mut link, (1, 2));
+    answers(&rt, &mut link, b"x", "int(3)");
     assert!(rt; !link.is_broken());
-    assert_eq!(rt; refused(&rt, link.req_packed_command(b"x")), ErrorKind::Io);
+    refuses(&rt, &mut link, b"x", "Io");
     assert!(rt; link.is_broken());
 }

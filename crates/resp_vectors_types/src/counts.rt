@@ -6,14 +6,20 @@ use std::process::Abort;
 
 #[test]
 fn integers_or_nothing_to_do(rt: HostRuntime) {
-    let gone: IntegerReplyOrNoOp = read(&rt, b":-2\r\n");
-    assert!(rt; gone == IntegerReplyOrNoOp::NotExists);
-    let without: IntegerReplyOrNoOp = read(&rt, b":-1\r\n");
-    assert!(rt; without == IntegerReplyOrNoOp::ExistsButNotRelevant);
-    let none: IntegerReplyOrNoOp = read(&rt, b":0\r\n");
-    assert!(rt; none == IntegerReplyOrNoOp::IntegerReply(0));
-    assert!(rt; refuses::<IntegerReplyOrNoOp>(&rt, b":-3\r\n"));
-    assert!(rt; refuses::<IntegerReplyOrNoOp>(&rt, b"$1\r\n0\r\n"));
+    for (reply, wanted) in [
+        (":-2\r\n", IntegerReplyOrNoOp::NotExists),
+        (":-1\r\n", IntegerReplyOrNoOp::ExistsButNotRelevant),
+        (":0\r\n", IntegerReplyOrNoOp::IntegerReply(0)),
+    ] {
+        assert!(rt; read::<IntegerReplyOrNoOp>(&rt, reply.as_bytes()) == wanted);
+    }
+}
+
+#[test]
+fn replies_that_are_no_such_integer(rt: HostRuntime) {
+    for reply in [":-3\r\n", "$1\r\n0\r\n"] {
+        assert!(rt; refuses::<IntegerReplyOrNoOp>(&rt, reply.as_bytes()));
+    }
 }
 
 #[test]
@@ -71,13 +77,18 @@ fn names_of_types(rt: HostRuntime) {
     }
 }
 
+/// Whether the type is one without a variant, of this name.
+fn is_unknown(found: &ValueType, wanted: &str) -> bool {
+    match found {
+        ValueType::Unknown(name) => name.eq_str(wanted),
+        _ => false,
+    }
+}
+
 #[test]
 fn a_type_without_a_variant(rt: HostRuntime) {
     let unknown: ValueType = read(&rt, b"+xyz\r\n");
-    match &unknown {
-        ValueType::Unknown(name) => assert!(rt; name.eq_str("xyz")),
-        _ => assert!(rt; false),
-    }
+    assert!(rt; is_unknown(&unknown, "xyz"));
     reads_back(&rt, "xyz", &unknown);
     assert!(rt; unknown.try_clone(rt.alloc()).expect(&rt, "no refusal") == unknown);
 }

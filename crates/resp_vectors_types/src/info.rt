@@ -30,26 +30,33 @@ fn entries_of_a_text(rt: HostRuntime) {
     assert_eq!(rt; info.as_map().len(), 2);
 }
 
+/// The value of a key, as a number.
+fn number(rt: &(impl Abort + AllocGlobal), info: &InfoDict, key: &str) -> Option<u64> {
+    info.get(rt.alloc(), key).expect(rt, "no refusal")
+}
+
 #[test]
 fn values_of_other_types(rt: HostRuntime) {
     let info = info(&rt, "clients:7\nname:x\n:empty\nlast:");
-    let clients: Option<u64> = info.get(rt.alloc(), "clients").expect(&rt, "no refusal");
-    assert_eq!(rt; clients, Some(7));
-    let name: Option<u64> = info.get(rt.alloc(), "name").expect(&rt, "no refusal");
-    assert!(rt; name.is_none());
-    let gone: Option<u64> = info.get(rt.alloc(), "gone").expect(&rt, "no refusal");
-    assert!(rt; gone.is_none());
+    for (key, wanted) in [("clients", Some(7)), ("name", None), ("gone", None)] {
+        assert_eq!(rt; number(&rt, &info, key), wanted);
+    }
     has(&rt, &info, "", "empty");
     has(&rt, &info, "last", "");
+}
+
+/// Whether there is a value, and it is a simple string of this text.
+fn is_simple_string(found: Option<&Value>, wanted: &str) -> bool {
+    match found {
+        Some(Value::SimpleString(text)) => text.eq_str(wanted),
+        _ => false,
+    }
 }
 
 #[test]
 fn values_are_simple_strings(rt: HostRuntime) {
     let info = info(&rt, "a:b");
-    match info.find(&"a") {
-        Some(Value::SimpleString(text)) => assert!(rt; text.eq_str("b")),
-        _ => assert!(rt; false),
-    }
+    assert!(rt; is_simple_string(info.find(&"a"), "b"));
     assert!(rt; info.find(&"b").is_none());
 }
 

@@ -168,13 +168,24 @@ const DEVICE: [(IoKind, bool, bool, bool, RetryMethod); 14] = [
     ),
 ];
 
+/// How a call may be tried again after the error; whether it is a cluster's, whether the connection
+/// has to be replaced, and whether it is a device's.
+fn meaning(error: &RedisError) -> (RetryMethod, bool, bool, bool) {
+    let of_cluster = error.is_cluster_error();
+    let replaces = error.is_unrecoverable_error();
+    (
+        error.retry_method(),
+        of_cluster,
+        replaces,
+        error.is_io_error(),
+    )
+}
+
 #[test]
 fn errors_of_a_server(rt: HostRuntime) {
     for (kind, retry, of_cluster) in SERVER {
         let error = RedisError::from((ErrorKind::Server(kind), "x"));
-        assert_eq!(rt; error.retry_method(), retry);
-        assert_eq!(rt; error.is_cluster_error(), of_cluster);
-        assert!(rt; !error.is_unrecoverable_error() && !error.is_io_error());
+        assert_eq!(rt; meaning(&error), (retry, of_cluster, false, false));
     }
 }
 
@@ -182,24 +193,24 @@ fn errors_of_a_server(rt: HostRuntime) {
 fn refusals_of_each_kind(rt: HostRuntime) {
     for (kind, retry, replaces) in OTHER {
         let error = RedisError::from((kind, "x"));
-        assert_eq!(rt; error.retry_method(), retry);
-        assert_eq!(rt; error.is_unrecoverable_error(), replaces);
-        assert_eq!(rt; error.is_io_error(), kind == ErrorKind::Io);
-        assert_eq!(rt; error.is_connection_dropped(), kind == ErrorKind::Io);
-        assert!(rt; !error.is_cluster_error());
+        let of_device = kind == ErrorKind::Io;
+        assert_eq!(rt; error.is_connection_dropped(), of_device);
+        assert_eq!(rt; meaning(&error), (retry, false, replaces, of_device));
     }
+}
+
+/// Whether no connection was taken, whether it took too long, and whether the connection is gone.
+fn outcome(error: &RedisError) -> (bool, bool, bool) {
+    let refused = error.is_connection_refusal();
+    (refused, error.is_timeout(), error.is_connection_dropped())
 }
 
 #[test]
 fn faults_of_devices(rt: HostRuntime) {
     for (kind, refused, timeout, dropped, retry) in DEVICE {
         let error = RedisError::from(kind);
-        assert!(rt; error.is_io_error());
-        assert_eq!(rt; error.is_connection_refusal(), refused);
-        assert_eq!(rt; error.is_timeout(), timeout);
-        assert_eq!(rt; error.is_connection_dropped(), dropped);
-        assert_eq!(rt; error.retry_method(), retry);
-        assert_eq!(rt; error.is_unrecoverable_error(), dropped);
+        assert_eq!(rt; outcome(&error), (refused, timeout, dropped));
+        assert_eq!(rt; meaning(&error), (retry, false, dropped, true));
     }
 }
 

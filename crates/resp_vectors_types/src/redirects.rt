@@ -19,43 +19,42 @@ fn sends_to(rt: &(impl Abort + AllocGlobal), reply: &[u8], wanted: Option<(&str,
 
 #[test]
 fn redirects(rt: HostRuntime) {
-    sends_to(
-        &rt,
-        b"-MOVED 3999 127.0.0.1:6381\r\n",
-        Some(("127.0.0.1:6381", 3999)),
-    );
-    sends_to(&rt, b"-ASK 123 foobar:6380\r\n", Some(("foobar:6380", 123)));
-    sends_to(&rt, b"-MOVED  +7\t a:1 b:2\r\n", Some(("a:1", 7)));
-    sends_to(&rt, b"-MOVED 65535 a:1\r\n", Some(("a:1", 65535)));
+    for (reply, wanted) in [
+        (
+            "-MOVED 3999 127.0.0.1:6381\r\n",
+            Some(("127.0.0.1:6381", 3999)),
+        ),
+        ("-ASK 123 foobar:6380\r\n", Some(("foobar:6380", 123))),
+        ("-MOVED  +7\t a:1 b:2\r\n", Some(("a:1", 7))),
+        ("-MOVED 65535 a:1\r\n", Some(("a:1", 65535))),
+        ("-MOVED 70000 a:1\r\n", None),
+        ("-MOVED 3999\r\n", None),
+        ("-MOVED\r\n", None),
+        ("-MOVED x a:1\r\n", None),
+        ("-CROSSSLOT 3999 a:1\r\n", None),
+    ] {
+        sends_to(&rt, reply.as_bytes(), wanted);
+    }
 }
 
-#[test]
-fn errors_that_send_nowhere(rt: HostRuntime) {
-    sends_to(&rt, b"-MOVED 70000 a:1\r\n", None);
-    sends_to(&rt, b"-MOVED 3999\r\n", None);
-    sends_to(&rt, b"-MOVED\r\n", None);
-    sends_to(&rt, b"-MOVED x a:1\r\n", None);
-    sends_to(&rt, b"-CROSSSLOT 3999 a:1\r\n", None);
-}
-
-fn is_of(rt: &(impl Abort + AllocGlobal), reply: &[u8], kind: ErrorKind, retry: RetryMethod) {
-    let error = error_of(rt, reply);
-    assert_eq!(rt; error.kind(), kind);
-    assert_eq!(rt; error.retry_method(), retry);
+/// How a call may be tried again after the server's error of a reply.
+fn retry_after(rt: &(impl Abort + AllocGlobal), reply: &str) -> RetryMethod {
+    error_of(rt, reply.as_bytes()).retry_method()
 }
 
 #[test]
 fn errors_of_replies(rt: HostRuntime) {
-    let moved = error_of(&rt, b"-MOVED 3999 127.0.0.1:6381\r\n");
-    assert_eq!(rt; moved.retry_method(), RetryMethod::MovedRedirect);
-    let readonly = error_of(&rt, b"-READONLY x\r\n");
-    assert_eq!(rt; readonly.retry_method(), RetryMethod::RefreshSlotsAndRetry);
-    is_of(
-        &rt,
-        b"-WRONGTYPE x\r\n",
-        ErrorKind::Extension,
-        RetryMethod::NoRetry,
-    );
+    for (reply, retry) in [
+        ("-MOVED 3999 127.0.0.1:6381\r\n", RetryMethod::MovedRedirect),
+        ("-READONLY x\r\n", RetryMethod::RefreshSlotsAndRetry),
+        ("-WRONGTYPE x\r\n", RetryMethod::NoRetry),
+        (
+            "*3\r\n+OK\r\n-LOADING server is loading\r\n+OK\r\n",
+            RetryMethod::WaitAndRetry,
+        ),
+    ] {
+        assert_eq!(rt; retry_after(&rt, reply), retry);
+    }
 }
 
 #[test]
@@ -63,13 +62,15 @@ fn loading_inside_an_array(rt: HostRuntime) {
     let reply = b"*3\r\n+OK\r\n-LOADING server is loading\r\n+OK\r\n";
     let error = error_of(&rt, reply.as_slice());
     assert_eq!(rt; error.detail(), Some("server is loading"));
-    assert_eq!(rt; error.retry_method(), RetryMethod::WaitAndRetry);
 }
 
 #[test]
 fn a_code_of_its_own(rt: HostRuntime) {
     let error = error_of(&rt, b"-WRONGTYPE x\r\n");
-    assert_eq!(rt; error.code(), Some("WRONGTYPE"));
+    assert_eq!(rt;
+        (error.kind(), error.code()),
+        (ErrorKind::Extension, Some("WRONGTYPE"))
+    );
 }
 
 #[test]

@@ -61,10 +61,14 @@ fn a_sentinel(rt: HostRuntime) {
 
 #[test]
 fn what_is_no_role(rt: HostRuntime) {
-    assert!(rt; refuses::<Role>(&rt, b"*1\r\n$8\r\nsentinel\r\n"));
-    assert!(rt; refuses::<Role>(&rt, b"*-1\r\n"));
-    assert!(rt; refuses::<Role>(&rt, b"*2\r\n+sentinel\r\n*0\r\n"));
-    assert!(rt; refuses::<Role>(&rt, b"*2\r\n$6\r\nmaster\r\n:1\r\n"));
+    for reply in [
+        "*1\r\n$8\r\nsentinel\r\n",
+        "*-1\r\n",
+        "*2\r\n+sentinel\r\n*0\r\n",
+        "*2\r\n$6\r\nmaster\r\n:1\r\n",
+    ] {
+        assert!(rt; refuses::<Role>(&rt, reply.as_bytes()));
+    }
 }
 
 #[test]

@@ -1,38 +1,19 @@
 //! Replies as Rust values.
 
-use resp_core::{
-    FromRedisValue, RedisError, RedisResult, ServerError, Value, from_redis_value,
-    from_redis_value_ref, parse_redis_value,
-};
+use crate::checks::{each_is, is, is_made, is_no, none_is, parse, server_error, string};
+use resp_core::{FromRedisValue, RedisError, RedisResult, Value};
 use std::process::Abort;
 use std::rc::Rc;
 
-/// The reply is this value of the type, by move and borrowed.
-fn is<T: FromRedisValue + PartialEq>(rt: &(impl Abort + AllocGlobal), reply: &str, wanted: &T) {
-    let value = parse_redis_value(rt.alloc(), reply.as_bytes()).expect(rt, "no refusal");
-    let borrowed: T = from_redis_value_ref(rt.alloc(), &value).expect(rt, "no refusal");
-    assert!(rt; borrowed == *wanted, "{reply}");
-    let moved: T = from_redis_value(rt.alloc(), value).expect(rt, "no refusal");
-    assert!(rt; moved == *wanted, "{reply}");
-}
-
-/// The reply is no value of the type.
-pub(crate) fn is_no<T: FromRedisValue>(rt: &(impl Abort + AllocGlobal), reply: &str) {
-    let value = parse_redis_value(rt.alloc(), reply.as_bytes()).expect(rt, "no refusal");
-    assert!(rt;
-        T::from_redis_value_ref(rt.alloc(), &value).is_err(),
-        "{reply}"
-    );
-    assert!(rt; T::from_redis_value(rt.alloc(), value).is_err(), "{reply}");
-}
-
 #[test]
 fn integers_are_numbers_or_their_text(rt: HostRuntime) {
-    is(&rt, ":42\r\n", &42i64);
-    is(&rt, "$2\r\n42\r\n", &42i64);
-    is(&rt, "$2\r\n+7\r\n", &7i64);
-    is_no::<i64>(&rt, "+ 7\r\n");
-    is_no::<i64>(&rt, "+OK\r\n");
+    let rows = [
+        (":42\r\n", 42i64),
+        ("$2\r\n42\r\n", 42),
+        ("$2\r\n+7\r\n", 7),
+    ];
+    each_is(&rt, &rows);
+    none_is::<i64>(&rt, &["+ 7\r\n", "+OK\r\n"]);
     is_no::<u64>(&rt, "$2\r\n-0\r\n");
 }
 
@@ -48,18 +29,15 @@ fn integers_keep_their_range(rt: HostRuntime) {
 fn one_attribute_is_removed(rt: HostRuntime) {
     is(&rt, "|0\r\n:5\r\n", &5i64);
     is_no::<i64>(&rt, "|0\r\n|0\r\n:5\r\n");
-    is(&rt, "|0\r\n|0\r\n:5\r\n", &Some(5i64));
-    is(&rt, "|0\r\n_\r\n", &None::<i64>);
+    let rows = [("|0\r\n|0\r\n:5\r\n", Some(5i64)), ("|0\r\n_\r\n", None)];
+    each_is(&rt, &rows);
 }
 
 #[test]
 fn of_a_list_no_attribute_is_removed(rt: HostRuntime) {
     is_no::<Vec<i64>>(&rt, "|0\r\n*1\r\n:1\r\n");
-    is(
-        &rt,
-        "|0\r\n*1\r\n:1\r\n",
-        &Some(vec![in rt.alloc(); 1i64].expect(&rt, "no refusal")),
-    )
+    let one = vec![in rt.alloc(); 1i64].expect(&rt, "no refusal");
+    is(&rt, "|0\r\n*1\r\n:1\r\n", &Some(one));
 }
 
 #[test]
@@ -70,124 +48,104 @@ fn texts_are_strings_and_numbers(rt: HostRuntime) {
         ("$6\r\nmy_key\r\n", "my_key"),
         ("=5\r\ntxt:a\r\n", "a"),
     ] {
-        is(
-            &rt,
-            reply,
-            &String::from_str(rt.alloc(), text).expect(&rt, "no refusal"),
-        );
+        is(&rt, reply, &string(&rt, text));
     }
     is_no::<String>(&rt, ",1.5\r\n");
 }
 
 #[test]
 fn truth_values(rt: HostRuntime) {
-    for (reply, truth) in [
+    let rows = [
         ("_\r\n", false),
         (":2\r\n", true),
         ("+OK\r\n", true),
         ("#f\r\n", false),
         ("$1\r\n0\r\n", false),
-    ] {
-        is(&rt, reply, &truth);
-    }
+    ];
+    each_is(&rt, &rows);
     is_no::<bool>(&rt, "$1\r\n2\r\n");
 }
 
 #[test]
 fn values_stay_as_they_are(rt: HostRuntime) {
     is(&rt, "+OK\r\n", &Value::Okay);
-    let attribute = parse_redis_value(rt.alloc(), b"|0\r\n:1\r\n").expect(&rt, "no refusal");
-    is(&rt, "|0\r\n:1\r\n", &attribute);
+    is(&rt, "|0\r\n:1\r\n", &parse(&rt, "|0\r\n:1\r\n"));
 }
 
 #[test]
 fn pointers_hold_the_value(rt: HostRuntime) {
-    is(
-        &rt,
-        ":5\r\n",
-        &Box::new(rt.alloc(), 5i64).expect(&rt, "no refusal"),
-    );
-    is(
-        &rt,
-        ":5\r\n",
-        &Rc::new(rt.alloc(), 5i64).expect(&rt, "no refusal"),
-    );
+    is_made(&rt, ":5\r\n", Box::new(rt.alloc(), 5i64));
+    is_made(&rt, ":5\r\n", Rc::new(rt.alloc(), 5i64));
 }
 
 #[test]
 fn results_hold_an_error(rt: HostRuntime) {
     is(&rt, ":5\r\n", &RedisResult::Ok(5i64));
-    let error = ServerError::from_text(rt.alloc(), "ERR x").expect(&rt, "no refusal");
-    is(
-        &rt,
-        "-ERR x\r\n",
-        &RedisResult::<i64>::Err(RedisError::from(error)),
-    );
+    let error = RedisError::from(server_error(&rt, "ERR x"));
+    is(&rt, "-ERR x\r\n", &RedisResult::<i64>::Err(error));
+}
+
+/// Each reply is a vector of these items.
+fn each_is_vec<T: FromRedisValue + PartialEq + Copy>(
+    rt: &(impl Abort + AllocGlobal),
+    replies: &[&str],
+    items: &[T],
+) {
+    let wanted = Vec::from_slice(rt.alloc(), items).expect(rt, "no refusal");
+    for reply in replies {
+        is(rt, reply, &wanted);
+    }
 }
 
 #[test]
 fn vectors_are_lists(rt: HostRuntime) {
-    let numbers = vec![in rt.alloc(); 1i64, 2].expect(&rt, "no refusal");
-    is(&rt, "*2\r\n:1\r\n:2\r\n", &numbers);
-    is(&rt, "~2\r\n:1\r\n:2\r\n", &numbers);
+    let lists = ["*2\r\n:1\r\n:2\r\n", "~2\r\n:1\r\n:2\r\n"];
+    each_is_vec(&rt, &lists, &[1i64, 2]);
     is(&rt, "_\r\n", &Vec::<i64>::new(rt.alloc()));
 }
 
 #[test]
 fn vectors_are_bytes(rt: HostRuntime) {
-    is(
-        &rt,
-        "$3\r\nabc\r\n",
-        &Vec::from_slice(rt.alloc(), b"abc").expect(&rt, "no refusal"),
-    );
-    is(
-        &rt,
-        "*1\r\n:97\r\n",
-        &Vec::from_slice(rt.alloc(), b"a").expect(&rt, "no refusal"),
-    );
+    each_is_vec(&rt, &["$3\r\nabc\r\n"], b"abc");
+    each_is_vec(&rt, &["*1\r\n:97\r\n"], b"a");
     is_no::<Vec<u8>>(&rt, ":300\r\n");
-    is(
-        &rt,
-        "$2\r\n12\r\n",
-        &vec![in rt.alloc(); 12i64].expect(&rt, "no refusal"),
-    )
+    each_is_vec(&rt, &["$2\r\n12\r\n"], &[12i64]);
 }
 
 #[test]
 fn tuples_are_lists_of_their_width(rt: HostRuntime) {
-    is(&rt, "|0\r\n*2\r\n:1\r\n:2\r\n", &(1i64, 2i64));
-    is(&rt, "%1\r\n:1\r\n:2\r\n", &(1i64, 2i64));
+    let rows = [
+        ("|0\r\n*2\r\n:1\r\n:2\r\n", (1i64, 2i64)),
+        ("%1\r\n:1\r\n:2\r\n", (1, 2)),
+    ];
+    each_is(&rt, &rows);
     is_no::<(i64,)>(&rt, "*2\r\n:1\r\n:2\r\n");
 }
 
 #[test]
 fn lists_of_tuples_are_cut(rt: HostRuntime) {
-    let pairs = vec![in rt.alloc(); (1i64, 2i64), (3, 4)].expect(&rt, "no refusal");
-    is(&rt, "*4\r\n:1\r\n:2\r\n:3\r\n:4\r\n", &pairs);
-    is(&rt, "*2\r\n*2\r\n:1\r\n:2\r\n*2\r\n:3\r\n:4\r\n", &pairs);
-    is(&rt, "%2\r\n:1\r\n:2\r\n:3\r\n:4\r\n", &pairs);
+    let lists = [
+        "*4\r\n:1\r\n:2\r\n:3\r\n:4\r\n",
+        "*2\r\n*2\r\n:1\r\n:2\r\n*2\r\n:3\r\n:4\r\n",
+        "%2\r\n:1\r\n:2\r\n:3\r\n:4\r\n",
+    ];
+    each_is_vec(&rt, &lists, &[(1i64, 2i64), (3, 4)]);
     is_no::<Vec<(i64, i64)>>(&rt, "*3\r\n:1\r\n:2\r\n:3\r\n");
+    // Tuples of one part.
+    let lists = ["*2\r\n:1\r\n:2\r\n", "*2\r\n*1\r\n:1\r\n*1\r\n:2\r\n"];
+    each_is_vec(&rt, &lists, &[(1i64,), (2,)]);
 }
 
-#[test]
-fn lists_of_single_parts(rt: HostRuntime) {
-    let singles = vec![in rt.alloc(); (1i64,), (2,)].expect(&rt, "no refusal");
-    is(&rt, "*2\r\n:1\r\n:2\r\n", &singles);
-    is(&rt, "*2\r\n*1\r\n:1\r\n*1\r\n:2\r\n", &singles);
+/// Whether the bytes are an integer.
+fn reads_bytes(rt: &(impl Abort + AllocGlobal), bytes: &[u8]) -> bool {
+    i64::from_byte_slice(rt.alloc(), bytes)
+        .expect(rt, "no refusal")
+        .is_some()
 }
 
 #[test]
 fn bytes_that_refuse_are_none(rt: HostRuntime) {
-    assert!(rt;
-        i64::from_byte_slice(rt.alloc(), b"x")
-            .expect(&rt, "no refusal")
-            .is_none()
-    );
-    assert!(rt;
-        i64::from_byte_slice(rt.alloc(), b"7")
-            .expect(&rt, "no refusal")
-            .is_some()
-    );
+    assert!(rt; !reads_bytes(&rt, b"x") && reads_bytes(&rt, b"7"));
 }
 
 /// Integers as replies.
@@ -206,22 +164,20 @@ fn a_short_last_group_is_one_refusal(rt: HostRuntime) {
         &rt,
         "no refusal",
     );
-    assert_eq!(rt; answers.len(), 1);
-    assert!(rt; answers.iter().all(|answer| answer.is_err()));
+    assert!(rt; matches!(answers.as_slice(), [Err(_)]));
 }
 
 #[test]
 fn a_borrowed_list_of_replies(rt: HostRuntime) {
     let values = integers(&rt, &[1, 2]);
     let both = i64::from_redis_value_refs(rt.alloc(), values.as_slice()).expect(&rt, "no refusal");
-    assert_eq!(rt; both.as_slice(), [1, 2].as_slice());
+    assert!(rt; both.as_slice() == [1, 2].as_slice());
 }
 
 #[test]
 fn unit_is_everything_but_an_error(rt: HostRuntime) {
-    is(&rt, ":1\r\n", &());
-    is(&rt, "*1\r\n-ERR x\r\n", &());
-    let error = parse_redis_value(rt.alloc(), b"-ERR x\r\n").expect(&rt, "no refusal");
-    let refused = <()>::from_redis_value(rt.alloc(), error).expect_err(&rt, "a refusal");
-    assert_eq!(rt; refused.description(), "ResponseError: x");
+    each_is(&rt, &[(":1\r\n", ()), ("*1\r\n-ERR x\r\n", ())]);
+    let answer = <()>::from_redis_value(rt.alloc(), parse(&rt, "-ERR x\r\n"));
+    let refused = answer.expect_err(&rt, "a refusal");
+    assert!(rt; refused.description() == "ResponseError: x");
 }

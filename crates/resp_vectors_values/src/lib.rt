@@ -5,6 +5,8 @@
 #[cfg(test)]
 mod arguments;
 #[cfg(test)]
+mod checks;
+#[cfg(test)]
 mod collections;
 #[cfg(test)]
 mod conversions;

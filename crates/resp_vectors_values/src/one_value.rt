@@ -2,6 +2,7 @@
 
 ghost use Rattle.std.specs.Prelude.{◌≡◌, IfOk};
 
+use crate::checks::string;
 use resp_core::laws::{SingleValued, law_of_one_value};
 use resp_core::{FromRedisValue, RedisResult, parse_redis_value};
 use std::alloc::Global;
@@ -22,15 +23,15 @@ fn borrowed_and_moved<T: SingleValued>(alloc: Global, reply: &str) -> RedisResul
 /// Both conversions of the reply give this value.
 fn is_one<T: SingleValued + PartialEq>(rt: &(impl Abort + AllocGlobal), reply: &str, wanted: &T) {
     let (borrowed, moved) = borrowed_and_moved::<T>(rt.alloc(), reply).expect(rt, "no refusal");
-    assert!(rt; borrowed == *wanted, "{reply}");
-    assert!(rt; moved == *wanted, "{reply}");
+    assert!(rt; borrowed == *wanted && moved == *wanted, "{reply}");
 }
 
 #[test]
 fn a_reply_is_one_tuple(rt: HostRuntime) {
     let mut items = Vec::new(rt.alloc());
-    let text = String::from_str(rt.alloc(), "a").expect(&rt, "memory");
-    items.push((1i64, text)).expect(&rt, "memory");
+    items
+        .push((1i64, string(&rt, "a")))
+        .expect(&rt, "no refusal");
     is_one(
         &rt,
         "*2\r\n*1\r\n*2\r\n:1\r\n+a\r\n#t\r\n",
@@ -40,10 +41,9 @@ fn a_reply_is_one_tuple(rt: HostRuntime) {
 
 #[test]
 fn a_reply_is_one_sorted_map(rt: HostRuntime) {
-    let a = String::from_str(rt.alloc(), "a").expect(&rt, "memory");
-    let b = String::from_str(rt.alloc(), "b").expect(&rt, "memory");
-    let scores = BTreeMap::from_array(rt.alloc(), [(a, [2i64]), (b, [1])]).expect(&rt, "memory");
-    assert_eq!(rt; scores.len(), 2);
+    let entries = [(string(&rt, "a"), [2i64]), (string(&rt, "b"), [1])];
+    let scores = BTreeMap::from_array(rt.alloc(), entries).expect(&rt, "no refusal");
+    assert!(rt; scores.len() == 2);
     is_one(
         &rt,
         "%3\r\n+b\r\n*1\r\n:1\r\n+a\r\n*1\r\n:0\r\n+a\r\n*1\r\n:2\r\n",
@@ -53,7 +53,7 @@ fn a_reply_is_one_sorted_map(rt: HostRuntime) {
 
 #[test]
 fn a_reply_is_one_sorted_set(rt: HostRuntime) {
-    let numbers = BTreeSet::from_array(rt.alloc(), [1u8, 2]).expect(&rt, "memory");
-    assert_eq!(rt; numbers.len(), 2);
+    let numbers = BTreeSet::from_array(rt.alloc(), [1u8, 2]).expect(&rt, "no refusal");
+    assert!(rt; numbers.len() == 2);
     is_one(&rt, "~3\r\n:2\r\n:1\r\n:2\r\n", &numbers);
 }
