@@ -13,9 +13,5 @@ fn commands_and_replies(rt: HostRuntime) {
     let error = parse_redis_value(rt.alloc(), b"-ERR x\r\n");
     assert!(rt; reply.expect(&rt, "no refusal") == error.expect(&rt, "no refusal"));
     assert!(rt; forward(&mut upstream, b"").is_err());
-    has_sent(
-        &rt,
-        upstream,
-        "*2\r\n$4\r\nINCR\r\n$1\r\nk\r\ninline\r\n",
-    );
+    has_sent(&rt, upstream, "*2\r\n$4\r\nINCR\r\n$1\r\nk\r\ninline\r\n");
 }
