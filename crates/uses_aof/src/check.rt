@@ -4,7 +4,7 @@ ghost use Rattle.std.specs.Prelude.{◌≡◌, true};
 ghost use Rattle.uses_aof.specs.Commands.{is_array_of_some, is_word as a_word};
 
 use crate::report::{Report, Rest};
-use resp_core::{FrameFault, Parser, RedisResult, Value};
+use resp_core::{Parser, RedisError, RedisResult, Value};
 use std::alloc::Global;
 use std::io::Read;
 
@@ -22,17 +22,8 @@ struct SoFar {
 /// The report of the bytes of a reader.
 pub fn check<R: Read>(alloc: Global, reader: &mut R) -> RedisResult<Report> {
     let mut file = SoFar::new(alloc);
-    let mut chunk = [0; 4096];
-    for _ in 0..u64::MAX {
-        let n = reader.read(&mut chunk[..])?;
-        if n == 0 {
-            break;
-        }
-        if let Some(rest) = file.take(&chunk[..n])? {
-            return Ok(file.report(rest));
-        }
-    }
-    Ok(file.report(file.rest_at_end()))
+    let rest = file.read(reader)?;
+    Ok(file.report(rest))
 }
 
 impl SoFar {
@@ -43,6 +34,22 @@ impl SoFar {
             commands: 0,
             end: 0,
         }
+    }
+
+    /// Takes the bytes of a reader until it ends, or they show that what follows the whole commands
+    /// is no command.
+    fn read<R: Read>(&mut self, reader: &mut R) -> RedisResult<Rest> {
+        let mut chunk = [0; 4096];
+        for _ in 0..u64::MAX {
+            let n = reader.read(&mut chunk[..])?;
+            if n == 0 {
+                break;
+            }
+            if let Some(rest) = self.take(&chunk[..n])? {
+                return Ok(rest);
+            }
+        }
+        Ok(self.rest_at_end())
     }
 
     /// Takes bytes line by line, since a command ends where a line does. Some where they show that
@@ -61,25 +68,28 @@ impl SoFar {
         self.read = self.read.saturating_add(line.len() as u64);
         match self.parser.take_value() {
             Ok(None) => Ok(None),
-            Ok(Some(value)) => {
-                if !is_command(&value) {
-                    return Ok(Some(Rest::NoCommand(self.read)));
-                }
-                self.commands = self.commands.saturating_add(1);
-                self.end = self.read;
-                Ok(None)
-            }
-            Err(error) => match error.frame_fault() {
-                Some(fault) => Ok(Some(self.fault(fault))),
-                None => Err(error),
-            },
+            Ok(Some(value)) => Ok(self.count(&value)),
+            Err(error) => Ok(Some(self.fault(error)?)),
         }
     }
 
-    /// The fault at its place in the file.
-    fn fault(&self, fault: FrameFault) -> Rest {
+    /// Counts a value that is a command.
+    fn count(&mut self, value: &Value) -> Option<Rest> {
+        if !is_command(value) {
+            return Some(Rest::NoCommand(self.read));
+        }
+        self.commands = self.commands.saturating_add(1);
+        self.end = self.read;
+        None
+    }
+
+    /// The fault at its place in the file. Any other error stays one.
+    fn fault(&self, error: RedisError) -> RedisResult<Rest> {
+        let Some(fault) = error.frame_fault() else {
+            return Err(error);
+        };
         let after_the_last = self.parser.fault_offset().unwrap_or(0);
-        Rest::Fault(fault, self.end.saturating_add(after_the_last as u64))
+        Ok(Rest::Fault(fault, self.end.saturating_add(after_the_last as u64)))
     }
 
     fn rest_at_end(&self) -> Rest {
