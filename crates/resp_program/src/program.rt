@@ -1,7 +1,8 @@
 //! What the program does, over any streams.
 
 use resp_core::{
-    Cmd, ConnectionLike, Parser, Pipeline, RedisError, RedisResult, RedisWrite, Value, pipe,
+    Cmd, ConnectionLike, Parser, Pipeline, RedisError, RedisResult, RedisWrite, ServerError, Value,
+    pipe,
 };
 use std::alloc::Global;
 use std::io;
@@ -112,17 +113,28 @@ fn print_replies<R: Read, O: Write>(
     out: &mut O,
 ) -> Result<(), Halt> {
     let mut parser = Parser::new(alloc);
+    print_all(alloc, &mut parser, reader, out)?;
+    if parser.in_progress() {
+        return Err(Halt::Early);
+    }
+    Ok(())
+}
+
+/// Feeds the parser with all that the reader gives, and prints the replies as they are whole.
+fn print_all<R: Read, O: Write>(
+    alloc: Global,
+    parser: &mut Parser,
+    reader: &mut R,
+    out: &mut O,
+) -> RedisResult<()> {
     let mut chunk = [0; 4096];
     for _ in 0..u64::MAX {
-        let n = reader.read(&mut chunk[..]).map_err(RedisError::from)?;
+        let n = reader.read(&mut chunk[..])?;
         if n == 0 {
             break;
         }
         parser.feed(&chunk[..n])?;
-        print_ready(alloc, &mut parser, out)?;
-    }
-    if parser.in_progress() {
-        return Err(Halt::Early);
+        print_ready(alloc, parser, out)?;
     }
     Ok(())
 }
@@ -133,10 +145,15 @@ fn print_ready<O: Write>(alloc: Global, parser: &mut Parser, out: &mut O) -> Red
         let Some(value) = parser.take_value()? else {
             break;
         };
-        let line = format!(in alloc; "{value:?}\n")?;
-        write_whole(out, line.as_bytes())?;
+        print_value(alloc, &value, out)?;
     }
     Ok(())
+}
+
+/// Prints a value's Debug text on a line.
+fn print_value<O: Write>(alloc: Global, value: &Value, out: &mut O) -> RedisResult<()> {
+    let line = format!(in alloc; "{value:?}\n")?;
+    write_whole(out, line.as_bytes())
 }
 
 /// Prints the fault's name, that the input ended early, or the category of the refusal.
@@ -257,10 +274,16 @@ fn print_refusal<E: Write>(alloc: Global, error: RedisError, err: &mut E) -> u8 
 fn write_refusal<E: Write>(alloc: Global, error: RedisError, err: &mut E) -> io::Result<()> {
     write!(err, "refused: {}", error.category())?;
     if let Ok(Some(errors)) = error.into_server_errors(alloc) {
-        for (position, server_error) in &errors {
-            let code = server_error.code();
-            write!(err, " {position}:{code}")?;
-        }
+        write_places(errors.as_slice(), err)?;
     }
     writeln!(err)
+}
+
+/// Prints the position and the code of each error.
+fn write_places<E: Write>(errors: &[(usize, ServerError)], err: &mut E) -> io::Result<()> {
+    for (position, error) in errors {
+        let code = error.code();
+        write!(err, " {position}:{code}")?;
+    }
+    Ok(())
 }

@@ -21,7 +21,7 @@ pub fn reply(rt: &(impl Abort + AllocGlobal), bytes: &[u8]) -> Value {
 pub fn shown_reply(rt: &(impl Abort + AllocGlobal), reply: RedisResult<Value>) -> String {
     match reply {
         Ok(value) => debug_text(rt, value),
-        Err(error) => shown_refusal(rt, error),
+        Err(error) => shown_refusal(rt, &error),
     }
 }
 
@@ -31,8 +31,8 @@ pub fn shows(rt: &(impl Abort + AllocGlobal), reply: RedisResult<Value>, wanted:
 }
 
 /// The fault of the refused bytes, else the kind of the device's fault, else the Debug form.
-fn shown_refusal(rt: &(impl Abort + AllocGlobal), error: RedisError) -> String {
-    match shown_cause(rt, &error) {
+fn shown_refusal(rt: &(impl Abort + AllocGlobal), error: &RedisError) -> String {
+    match shown_cause(rt, error) {
         Some(text) => text,
         None => debug_text(rt, error),
     }
@@ -56,13 +56,27 @@ fn next_shown(rt: &(impl Abort + AllocGlobal), parser: &mut Parser) -> String {
     match parser.take_value() {
         Ok(Some(value)) => debug_text(rt, value),
         Ok(None) => String::from_str(rt.alloc(), "none").expect(rt, "no refusal"),
-        Err(error) => shown_refusal(rt, error),
+        Err(error) => shown_refusal(rt, &error),
     }
 }
 
 /// The parser answers this next, or `none` where bytes are awaited.
 pub fn gives_next(rt: &(impl Abort + AllocGlobal), parser: &mut Parser, wanted: &str) {
     assert_eq!(rt; next_shown(rt, parser).as_str(), wanted);
+}
+
+/// The parser is fed each piece, and then answers these texts in turn.
+pub fn answers_in_turn(
+    rt: &(impl Abort + AllocGlobal),
+    parser: &mut Parser,
+    steps: &[(&[u8], &[&str])],
+) {
+    for (piece, answers) in steps {
+        feed(rt, parser, piece);
+        for wanted in *answers {
+            gives_next(rt, parser, wanted);
+        }
+    }
 }
 
 /// Adds a text, and a space where it is asked for.
@@ -81,7 +95,7 @@ fn add_next(rt: &(impl Abort + AllocGlobal), parser: &mut Parser, text: &mut Str
         Ok(None) => false,
         Err(error) => {
             assert!(rt; parser.is_failed() && parser.in_progress());
-            add(rt, text, shown_refusal(rt, error).as_str(), "");
+            add(rt, text, shown_refusal(rt, &error).as_str(), "");
             false
         }
     }
@@ -101,15 +115,25 @@ fn add_all(rt: &(impl Abort + AllocGlobal), parser: &mut Parser, most: usize, te
 pub fn shown_in_pieces(rt: &(impl Abort + AllocGlobal), pieces: &[&[u8]]) -> String {
     let mut parser = Parser::new(rt.alloc());
     let mut text = String::new(rt.alloc());
+    add_pieces(rt, &mut parser, pieces, &mut text);
+    text
+}
+
+/// Adds what the values of the pieces show, as [`shown_in_pieces`] says.
+fn add_pieces(
+    rt: &(impl Abort + AllocGlobal),
+    parser: &mut Parser,
+    pieces: &[&[u8]],
+    text: &mut String,
+) {
     for piece in pieces {
-        feed(rt, &mut parser, piece);
-        add_all(rt, &mut parser, piece.len() + 1, &mut text);
+        feed(rt, parser, piece);
+        add_all(rt, parser, piece.len() + 1, text);
         if parser.is_failed() {
-            return text;
+            return;
         }
     }
     if parser.in_progress() {
-        add(rt, &mut text, "..", "");
+        add(rt, text, "..", "");
     }
-    text
 }

@@ -1,15 +1,17 @@
 //! What readers and writers are asked for, and how often, over devices that count their calls.
 
-use crate::answers::{feed, gives_next, shows};
+use crate::answers::{answers_in_turn, feed, gives_next, shows};
 use crate::devices::{ScriptedReader, ScriptedWriter, Step};
 use resp_core::{
-    ByteLink, Cmd, CommandSink, ConnectionLike, IoKind, Parser, Reading, ReplySource, Writing, cmd,
+    ByteLink, CommandSink, ConnectionLike, IoKind, Parser, Reading, RedisResult, ReplySource,
+    Writing, cmd,
 };
 use std::io::ErrorKind;
 use std::process::Abort;
 
-fn ping(rt: &(impl Abort + AllocGlobal)) -> Cmd {
-    cmd(rt.alloc(), "PING").expect(rt, "no refusal")
+/// What a query for a number answers.
+fn asked(rt: &(impl Abort + AllocGlobal), con: &mut dyn ConnectionLike) -> RedisResult<i64> {
+    cmd(rt.alloc(), "PING").expect(rt, "no refusal").query(con)
 }
 
 /// What a query for a number answers, or the kind of the device's fault where there was one.
@@ -17,7 +19,7 @@ fn answered(
     rt: &(impl Abort + AllocGlobal),
     con: &mut dyn ConnectionLike,
 ) -> Result<i64, Option<IoKind>> {
-    match ping(rt).query(con) {
+    match asked(rt, con) {
         Ok(number) => Ok(number),
         Err(error) => Err(error.io_kind()),
     }
@@ -31,6 +33,16 @@ fn reads_as(
     wanted: &str,
 ) {
     shows(rt, parser.parse_value(ScriptedReader::new(script)), wanted);
+}
+
+/// The parser answers this over a reader of these bytes.
+fn reads_bytes_as(
+    rt: &(impl Abort + AllocGlobal),
+    parser: &mut Parser,
+    bytes: &[u8],
+    wanted: &str,
+) {
+    shows(rt, parser.parse_value(bytes), wanted);
 }
 
 /// A link that reads as the script says, and whose writer takes all.
@@ -78,7 +90,7 @@ fn values_buffered_after_a_reader_ended(rt: HostRuntime) {
         (&b""[..], "int(1)", "int(2)"),
         (&b":3\r\n:4\r\n"[..], "int(3)", "int(4)"),
     ] {
-        shows(&rt, parser.parse_value(bytes), parsed);
+        reads_bytes_as(&rt, &mut parser, bytes, parsed);
         gives_next(&rt, &mut parser, taken);
     }
 }
@@ -171,8 +183,8 @@ fn a_query_flushes_its_writer(rt: HostRuntime) {
 /// More bytes than one read may be asked for, of a body that doesn't end.
 const LONG_BODY: &[Step] = &[
     Step::Moves(b"$9000\r\n"),
-    Step::Moves(&[b'x'; 5000]),
-    Step::Moves(&[b'x'; 5000]),
+    Step::Fills(5000),
+    Step::Fills(5000),
     Step::Moves(b"x"),
 ];
 

@@ -72,6 +72,8 @@ impl Write for Full {
 pub enum Step {
     /// These bytes, as many as fit; of a writer, that it took as many.
     Moves(&'static [u8]),
+    /// So many bytes of `x`, as many as fit; of a writer, that it took as many.
+    Fills(usize),
     /// A failure of this kind.
     Fails(io::ErrorKind),
 }
@@ -112,6 +114,11 @@ impl Read for ScriptedReader {
                 buf[..n].copy_from_slice(&bytes[..n]);
                 Ok(n)
             }
+            Step::Fills(count) => {
+                let n = count.min(buf.len());
+                buf[..n].fill(b'x');
+                Ok(n)
+            }
             Step::Fails(kind) => Err(io::Error::from(kind)),
         }
     }
@@ -147,6 +154,7 @@ impl Write for ScriptedWriter {
         self.script = rest;
         match *step {
             Step::Moves(taken) => Ok(taken.len().min(bytes.len())),
+            Step::Fills(count) => Ok(count.min(bytes.len())),
             Step::Fails(kind) => Err(io::Error::from(kind)),
         }
     }
@@ -158,7 +166,7 @@ impl Write for ScriptedWriter {
         };
         self.flush_script = rest;
         match *step {
-            Step::Moves(_) => Ok(()),
+            Step::Moves(_) | Step::Fills(_) => Ok(()),
             Step::Fails(kind) => Err(io::Error::from(kind)),
         }
     }

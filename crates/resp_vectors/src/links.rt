@@ -97,19 +97,16 @@ fn faulty_prefix_breaks_it(rt: HostRuntime) {
 }
 
 /// The kind of the refusal of a command without arguments.
-fn refused_empty_command(
-    rt: &(impl Abort + AllocGlobal),
-    link: &mut MemoryLink,
-) -> Option<ErrorKind> {
-    let empty = Cmd::new(rt.alloc());
-    Some(empty.query::<i64>(link).err()?.kind())
+fn refused_empty_command(rt: &(impl Abort + AllocGlobal), link: &mut MemoryLink) -> ErrorKind {
+    let answer = Cmd::new(rt.alloc()).query::<i64>(link);
+    answer.expect_err(rt, "a refusal").kind()
 }
 
 #[test]
 fn empty_command_is_refused(rt: HostRuntime) {
     let mut link = link_over(&rt, b":7\r\n");
     let refused = refused_empty_command(&rt, &mut link);
-    assert_eq!(rt; refused, Some(ErrorKind::Client));
+    assert_eq!(rt; refused, ErrorKind::Client);
     assert!(rt; !link.is_broken());
     assert!(rt; sent(link).is_empty());
 }

@@ -1,8 +1,8 @@
 //! Worked replies, fed whole and in pieces, and readers that end or fail in the middle.
 
-use crate::answers::{Example, feed, gives_next, reply, shown_in_pieces, shows};
+use crate::answers::{Example, answers_in_turn, feed, gives_next, reply, shown_in_pieces, shows};
 use resp_core::laws::law_of_prefixes;
-use resp_core::{Parser, Reading, Value, parse_redis_value};
+use resp_core::{Parser, Reading, RedisError, Value, parse_redis_value};
 use std::io;
 use std::io::{Cursor, Read};
 use std::process::Abort;
@@ -12,9 +12,15 @@ fn shown(rt: &(impl Abort + AllocGlobal), bytes: &[u8]) -> String {
     shown_in_pieces(rt, &[bytes])
 }
 
-/// Whether the value equals its copy.
-fn equals_its_copy(rt: &(impl Abort + AllocGlobal), value: &Value) -> bool {
-    value.try_clone(rt.alloc()).expect(rt, "no refusal") == *value
+/// A copy of the value.
+fn copy(rt: &(impl Abort + AllocGlobal), value: &Value) -> Value {
+    value.try_clone(rt.alloc()).expect(rt, "no refusal")
+}
+
+/// Whether the value of these bytes equals its copy.
+fn equals_its_copy(rt: &(impl Abort + AllocGlobal), bytes: &[u8]) -> bool {
+    let value = reply(rt, bytes);
+    copy(rt, &value) == value
 }
 
 #[test]
@@ -41,13 +47,13 @@ fn values_equal_their_copies(rt: HostRuntime) {
         ">2\r\n$7\r\nmessage\r\n:1\r\n",
         ">0\r\n",
     ] {
-        assert!(rt; equals_its_copy(&rt, &reply(&rt, bytes.as_bytes())));
+        assert!(rt; equals_its_copy(&rt, bytes.as_bytes()));
     }
 }
 
 #[test]
 fn binary_data_equals_its_copy(rt: HostRuntime) {
-    assert!(rt; equals_its_copy(&rt, &reply(&rt, b"$2\r\n\xFF\0\r\n")));
+    assert!(rt; equals_its_copy(&rt, b"$2\r\n\xFF\0\r\n"));
 }
 
 /// Values that end with their line.
@@ -244,13 +250,10 @@ fn any_byte_is_too_deep(rt: HostRuntime) {
 fn pieces(rt: HostRuntime) {
     let mut parser = Parser::new(rt.alloc());
     assert!(rt; !parser.in_progress());
-    feed(&rt, &mut parser, b"+a\r");
-    gives_next(&rt, &mut parser, "none");
+    answers_in_turn(&rt, &mut parser, &[(b"+a\r", &["none"])]);
     assert!(rt; parser.in_progress());
-    feed(&rt, &mut parser, b"\n:1\r\n");
-    for wanted in ["simple-string(\"a\")", "int(1)", "none"] {
-        gives_next(&rt, &mut parser, wanted);
-    }
+    let answers = &["simple-string(\"a\")", "int(1)", "none"];
+    answers_in_turn(&rt, &mut parser, &[(b"\n:1\r\n", answers)]);
     assert!(rt; !parser.in_progress());
 }
 
@@ -265,17 +268,21 @@ fn single_bytes(rt: HostRuntime) {
     gives_next(&rt, &mut parser, "array([bulk-string('\"abc\"'), int(7)])");
 }
 
+/// Why feeding is refused.
+fn refusal(rt: &impl Abort, parser: &mut Parser, bytes: &[u8]) -> RedisError {
+    parser.feed(bytes).expect_err(rt, "a refusal")
+}
+
 /// Feeding is refused, since the parser has failed.
 fn refuses_bytes(rt: &impl Abort, parser: &mut Parser, bytes: &[u8]) {
-    let refused = parser.feed(bytes).expect_err(rt, "a refusal");
+    let refused = refusal(rt, parser, bytes);
     assert_eq!(rt; refused.detail(), Some("parser has failed"));
 }
 
 #[test]
 fn a_failed_parser_takes_nothing(rt: HostRuntime) {
     let mut parser = Parser::new(rt.alloc());
-    feed(&rt, &mut parser, b"@");
-    gives_next(&rt, &mut parser, "UnknownType");
+    answers_in_turn(&rt, &mut parser, &[(b"@", &["UnknownType"])]);
     assert!(rt; parser.is_failed() && parser.in_progress());
     refuses_bytes(&rt, &mut parser, b":1\r\n");
 }
@@ -336,8 +343,7 @@ fn a_source_that_fails(rt: HostRuntime) {
     shows(&rt, parser.parse_from(&mut source), "TimedOut");
     assert!(rt; !parser.is_failed() && parser.in_progress());
     assert!(rt; source.into_inner().reads == 2);
-    feed(&rt, &mut parser, b"2\r\n");
-    gives_next(&rt, &mut parser, "int(12)");
+    answers_in_turn(&rt, &mut parser, &[(b"2\r\n", &["int(12)"])]);
 }
 
 #[test]

@@ -1,6 +1,6 @@
 //! Replies that come in pieces: wherever the bytes are cut, the answers are the same.
 
-use crate::answers::{Example, feed, gives_next, shown_in_pieces};
+use crate::answers::{Example, answers_in_turn, feed, gives_next, shown_in_pieces};
 use crate::parsers::{AGGREGATES, BODIES, SCALARS};
 use crate::replies::FAULTS;
 use resp_core::{Parser, Value};
@@ -136,8 +136,7 @@ fn nested_arrays_in_single_bytes(rt: HostRuntime) {
 #[test]
 fn arrays_that_nest_too_deeply_in_single_bytes(rt: HostRuntime) {
     let mut parser = Parser::new(rt.alloc());
-    feed(&rt, &mut parser, b":1\r\n");
-    gives_next(&rt, &mut parser, "int(1)");
+    answers_in_turn(&rt, &mut parser, &[(b":1\r\n", &["int(1)"])]);
     let bytes = around(&rt, 100, "*1\r\n", ":", "");
     feed_singly(&rt, &mut parser, bytes.as_bytes());
     gives_next(&rt, &mut parser, "TooDeep");
@@ -147,12 +146,16 @@ fn arrays_that_nest_too_deeply_in_single_bytes(rt: HostRuntime) {
 fn a_body_in_pieces(rt: HostRuntime) {
     for (last, want) in [("\n", "bulk-string('\"abc\"')"), ("X", "BodyEnd")] {
         let mut parser = Parser::new(rt.alloc());
-        for piece in ["$3\r\nab", "c", "\r"] {
-            feed(&rt, &mut parser, piece.as_bytes());
-            gives_next(&rt, &mut parser, "none");
-        }
-        feed(&rt, &mut parser, last.as_bytes());
-        gives_next(&rt, &mut parser, want);
+        answers_in_turn(
+            &rt,
+            &mut parser,
+            &[
+                (b"$3\r\nab", &["none"]),
+                (b"c", &["none"]),
+                (b"\r", &["none"]),
+                (last.as_bytes(), &[want]),
+            ],
+        );
     }
 }
 

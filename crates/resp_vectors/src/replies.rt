@@ -1,6 +1,6 @@
 //! Replies as bytes, over a parser.
 
-use crate::answers::{Example, debug_text, feed, gives_next, reply, shows};
+use crate::answers::{Example, answers_in_turn, debug_text, reply, shows};
 use resp_core::{
     ErrorKind, Parser, Reading, RedisError, ServerErrorKind, Value, parse_redis_value,
 };
@@ -11,14 +11,10 @@ use std::process::Abort;
 /// The bytes end exactly where this fault shows: without the last one they are unfinished.
 fn faults(rt: &(impl Abort + AllocGlobal), bytes: &[u8], wanted: &str) {
     let mut parser = Parser::new(rt.alloc());
-    let Some((last, prefix)) = bytes.split_last() else {
-        return;
-    };
-    feed(rt, &mut parser, prefix);
-    gives_next(rt, &mut parser, "none");
+    let (prefix, last) = bytes.split_at(bytes.len().saturating_sub(1));
+    answers_in_turn(rt, &mut parser, &[(prefix, &["none"])]);
     assert!(rt; parser.fault_offset().is_none());
-    feed(rt, &mut parser, &[*last]);
-    gives_next(rt, &mut parser, wanted);
+    answers_in_turn(rt, &mut parser, &[(last, &[wanted])]);
     has_failed_at(rt, &parser, bytes.len());
 }
 
@@ -52,20 +48,28 @@ fn faults_show_at_their_byte(rt: HostRuntime) {
 #[test]
 fn a_fault_is_placed_after_the_last_value(rt: HostRuntime) {
     let mut parser = Parser::new(rt.alloc());
-    feed(&rt, &mut parser, b"*1\r\n:1\r\n*2\r\n$2\r\na");
-    gives_next(&rt, &mut parser, "array([int(1)])");
-    gives_next(&rt, &mut parser, "none");
-    feed(&rt, &mut parser, b"b\r\n?\r\n+x\r\n");
-    gives_next(&rt, &mut parser, "UnknownType");
+    answers_in_turn(
+        &rt,
+        &mut parser,
+        &[
+            (b"*1\r\n:1\r\n*2\r\n$2\r\na", &["array([int(1)])", "none"]),
+            (b"b\r\n?\r\n+x\r\n", &["UnknownType"]),
+        ],
+    );
     has_failed_at(&rt, &parser, 13);
+}
+
+/// The parser fails with an early end over a source of these bytes.
+fn fails_early(rt: &(impl Abort + AllocGlobal), parser: &mut Parser, bytes: &[u8]) {
+    let mut source = Reading::new(Cursor::new(bytes));
+    shows(rt, parser.parse_from(&mut source), "UnexpectedEof");
+    assert!(rt; parser.is_failed() && parser.fault_offset().is_none());
 }
 
 /// The bytes end within a value.
 fn ends_early(rt: &(impl Abort + AllocGlobal), bytes: &[u8]) {
     let mut parser = Parser::new(rt.alloc());
-    let mut source = Reading::new(Cursor::new(bytes));
-    shows(rt, parser.parse_from(&mut source), "UnexpectedEof");
-    assert!(rt; parser.is_failed() && parser.fault_offset().is_none());
+    fails_early(rt, &mut parser, bytes);
 }
 
 #[test]

@@ -43,19 +43,30 @@ fn seven_and_an_error(rt: &(impl Abort + AllocGlobal)) -> Stored {
     Stored::new(replies)
 }
 
+/// What a visit answers.
+fn visited(rt: &(impl Abort + AllocGlobal), con: &mut dyn ConnectionLike) -> RedisResult<i64> {
+    visits(rt.alloc(), con, "home")
+}
+
+/// A visit is answered this number.
+fn is_visit(rt: &(impl Abort + AllocGlobal), con: &mut dyn ConnectionLike, wanted: i64) {
+    assert_eq!(rt; visited(rt, con).expect(rt, "no refusal"), wanted);
+}
+
+/// The answer is a server error of a code that has no kind of its own.
+fn has_code(rt: &impl Abort, answer: RedisResult<i64>, code: &str) {
+    let refused = answer.expect_err(rt, "a refusal");
+    assert_eq!(rt; refused.kind(), ErrorKind::Extension);
+    assert_eq!(rt; refused.code(), Some(code));
+}
+
 #[test]
 fn stored_replies(rt: HostRuntime) {
-    let alloc = rt.alloc();
     let mut con = seven_and_an_error(&rt);
-    assert_eq!(rt;
-        visits(alloc, &mut con, "home").expect(&rt, "no refusal"),
-        7
-    );
-    let refused = visits(alloc, &mut con, "home").expect_err(&rt, "a refusal");
-    assert_eq!(rt; refused.kind(), ErrorKind::Extension);
-    assert_eq!(rt; refused.code(), Some("WRONGTYPE"));
-    has_ended(&rt, visits(alloc, &mut con, "home"));
-    was_broken(&rt, visits(alloc, &mut con, "home"));
+    is_visit(&rt, &mut con, 7);
+    has_code(&rt, visited(&rt, &mut con), "WRONGTYPE");
+    has_ended(&rt, visited(&rt, &mut con));
+    was_broken(&rt, visited(&rt, &mut con));
 }
 
 /// A connection that will answer the numbers from 1 to n.
@@ -95,20 +106,21 @@ fn packed_commands_over_stored_replies(rt: HostRuntime) {
     was_broken(&rt, con.req_packed_command(b""));
 }
 
+/// A pipeline of two commands is answered 1 and 2.
+fn are_one_and_two(rt: &(impl Abort + AllocGlobal), con: &mut dyn ConnectionLike) {
+    let mut pipeline = pipe(rt.alloc());
+    pipeline.push_cmd("A").expect(rt, "no refusal");
+    pipeline.push_cmd("B").expect(rt, "no refusal");
+    let both: (i64, i64) = pipeline.query(con).expect(rt, "no refusal");
+    assert_eq!(rt; both, (1, 2));
+}
+
 #[test]
 fn requests_are_counted(rt: HostRuntime) {
-    let alloc = rt.alloc();
-    let incoming = Vec::from_slice(alloc, b":7\r\n:1\r\n:2\r\n").expect(&rt, "no refusal");
-    let mut con = Counted::new(alloc, incoming);
-    assert_eq!(rt;
-        visits(alloc, &mut con, "home").expect(&rt, "no refusal"),
-        7
-    );
-    let mut pipeline = pipe(alloc);
-    pipeline.push_cmd("A").expect(&rt, "no refusal");
-    pipeline.push_cmd("B").expect(&rt, "no refusal");
-    let both: (i64, i64) = pipeline.query(&mut con).expect(&rt, "no refusal");
-    assert_eq!(rt; both, (1, 2));
+    let incoming = Vec::from_slice(rt.alloc(), b":7\r\n:1\r\n:2\r\n").expect(&rt, "no refusal");
+    let mut con = Counted::new(rt.alloc(), incoming);
+    is_visit(&rt, &mut con, 7);
+    are_one_and_two(&rt, &mut con);
     assert_eq!(rt; con.requests(), 2);
     let wanted = "*4\r\n$7\r\nHINCRBY\r\n$4\r\nhome\r\n$6\r\nvisits\r\n$1\r\n1\r\n\
         *1\r\n$1\r\nA\r\n*1\r\n$1\r\nB\r\n";

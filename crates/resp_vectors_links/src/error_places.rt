@@ -1,7 +1,7 @@
 //! A server error at each place of a pipeline of three commands: plain and as a transaction, with
 //! errors answered and taken as values, and with one command or none ignored.
 
-use crate::memory::link_over;
+use crate::memory::{MemoryLink, link_over};
 use crate::texts::{is_text, list_errors};
 use resp_core::{Pipeline, RedisError, RedisResult, pipe};
 use std::process::Abort;
@@ -54,7 +54,16 @@ fn three(rt: &(impl Abort + AllocGlobal), ignored: Option<usize>) -> Pipeline {
 /// category and the listed errors.
 fn shown(rt: &(impl Abort + AllocGlobal), pipeline: &Pipeline, incoming: &str) -> String {
     let mut link = link_over(rt, incoming.as_bytes());
-    match pipeline.query::<Vec<RedisResult<i64>>>(&mut link) {
+    shown_over(rt, pipeline, &mut link)
+}
+
+/// What the pipeline answers over the link, as [`shown`] says.
+fn shown_over(
+    rt: &(impl Abort + AllocGlobal),
+    pipeline: &Pipeline,
+    link: &mut MemoryLink,
+) -> String {
+    match pipeline.query::<Vec<RedisResult<i64>>>(link) {
         Ok(results) => shown_results(rt, results.as_slice()),
         Err(error) => shown_refusal(rt, error),
     }

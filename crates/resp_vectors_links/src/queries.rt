@@ -1,7 +1,7 @@
 //! Queries of pipelines, and of commands beside them, over a link.
 
 use crate::devices::OneAtATime;
-use crate::memory::{commands, goes_on, has_sent, link_over, ping};
+use crate::memory::{MemoryLink, commands, goes_on, has_sent, link_over, ping};
 use crate::texts::{debug_text, is_fault, is_text, list_errors, show, shows, shows_kind};
 use resp_core::{Cmd, FromRedisValue, Pipeline, RedisError, RedisResult, Value, pipe};
 use std::fmt::Debug;
@@ -21,8 +21,20 @@ fn shown_errors(rt: &(impl Abort + AllocGlobal), error: RedisError) -> String {
     text
 }
 
-/// The pipeline answers this over these replies: the Debug form of the value, or what
-/// [`shown_errors`] shows. The link stays usable.
+/// What the pipeline answers over the link: the Debug form of the value, or what [`shown_errors`]
+/// shows.
+fn shown<T: FromRedisValue + Debug>(
+    rt: &(impl Abort + AllocGlobal),
+    pipeline: &Pipeline,
+    link: &mut MemoryLink,
+) -> String {
+    match pipeline.query::<T>(link) {
+        Ok(value) => debug_text(rt, value),
+        Err(error) => shown_errors(rt, error),
+    }
+}
+
+/// The pipeline answers this over these replies, as [`shown`] says. The link stays usable.
 fn answers<T: FromRedisValue + Debug>(
     rt: &(impl Abort + AllocGlobal),
     pipeline: Pipeline,
@@ -30,11 +42,7 @@ fn answers<T: FromRedisValue + Debug>(
     wanted: &str,
 ) {
     let mut link = link_over(rt, replies);
-    let text = match pipeline.query::<T>(&mut link) {
-        Ok(value) => debug_text(rt, value),
-        Err(error) => shown_errors(rt, error),
-    };
-    is_text(rt, text, wanted);
+    is_text(rt, shown::<T>(rt, &pipeline, &mut link), wanted);
     assert!(rt; !link.is_broken());
 }
 

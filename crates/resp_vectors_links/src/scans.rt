@@ -21,13 +21,23 @@ fn answers<T: FromRedisValue + Debug>(
     budget: u64,
 ) -> String {
     let mut text = String::new(rt.alloc());
+    add_answers::<T>(rt, link, budget, &mut text);
+    text
+}
+
+/// Appends all answers of a scan that may ask so often after its first request.
+fn add_answers<T: FromRedisValue + Debug>(
+    rt: &(impl Abort + AllocGlobal),
+    link: &mut MemoryLink,
+    budget: u64,
+    text: &mut String,
+) {
     let scan: Iter<'_, T, MemoryLink> = scan_command(rt)
         .iter(link, budget)
         .expect(rt, "no refusal");
     for answer in scan {
-        show(rt, &mut text, &answer);
+        show(rt, text, &answer);
     }
-    text
 }
 
 /// A scan over these replies gives these answers, and has then sent these requests.
@@ -119,22 +129,21 @@ fn show_next(rt: &impl Abort, text: &mut String, answer: Option<RedisResult<i64>
     }
 }
 
-/// Five answers of a scan that may ask twice.
-fn answers_and_none(rt: &(impl Abort + AllocGlobal), link: &mut MemoryLink) -> String {
-    let mut text = String::new(rt.alloc());
+/// Appends five answers of a scan that may ask twice.
+fn add_five(rt: &(impl Abort + AllocGlobal), link: &mut MemoryLink, text: &mut String) {
     let mut scan: Iter<'_, i64, MemoryLink> = scan_command(rt)
         .iter(link, 2)
         .expect(rt, "no refusal");
     for _call in 0..5 {
-        show_next(rt, &mut text, scan.next());
+        show_next(rt, text, scan.next());
     }
-    text
 }
 
 #[test]
 fn a_scan_over_a_link_that_breaks(rt: HostRuntime) {
     let mut link = link_over(&rt, TO_SEVEN);
-    let text = answers_and_none(&rt, &mut link);
+    let mut text = String::new(rt.alloc());
+    add_five(&rt, &mut link, &mut text);
     is_text(&rt, text, "Io Io Client None None ");
     has_sent(&rt, link, SCAN_0_7);
 }

@@ -8,8 +8,22 @@ use std::io::{Read, Write};
 
 /// Answers the commands of a reader, until it ends.
 pub fn serve<R: Read, W: Write>(alloc: Global, reader: &mut R, writer: &mut W) -> RedisResult<()> {
-    let mut store = Store::new(alloc);
     let mut parser = Parser::new(alloc);
+    answer_all(alloc, &mut parser, reader, writer)?;
+    if parser.in_progress() {
+        return Err(RedisError::from(IoKind::UnexpectedEof));
+    }
+    Ok(())
+}
+
+/// Feeds the parser with all that the reader gives, and answers the commands as they are whole.
+fn answer_all<R: Read, W: Write>(
+    alloc: Global,
+    parser: &mut Parser,
+    reader: &mut R,
+    writer: &mut W,
+) -> RedisResult<()> {
+    let mut store = Store::new(alloc);
     let mut chunk = [0; 4096];
     for _ in 0..u64::MAX {
         let n = reader.read(&mut chunk[..])?;
@@ -17,10 +31,7 @@ pub fn serve<R: Read, W: Write>(alloc: Global, reader: &mut R, writer: &mut W) -
             break;
         }
         parser.feed(&chunk[..n])?;
-        answer_ready(alloc, &mut parser, &mut store, writer)?;
-    }
-    if parser.in_progress() {
-        return Err(RedisError::from(IoKind::UnexpectedEof));
+        answer_ready(alloc, parser, &mut store, writer)?;
     }
     Ok(())
 }
@@ -37,9 +48,20 @@ fn answer_ready<W: Write>(
             break;
         };
         let words = from_redis_value::<Vec<Vec<u8>>>(alloc, request)?;
-        let reply = answer(alloc, store, command_of(words))?;
-        reply.write(writer)?;
+        answer_one(alloc, store, words, writer)?;
     }
     writer.flush()?;
+    Ok(())
+}
+
+/// Answers the command of these words.
+fn answer_one<W: Write>(
+    alloc: Global,
+    store: &mut Store,
+    words: Vec<Vec<u8>>,
+    writer: &mut W,
+) -> RedisResult<()> {
+    let reply = answer(alloc, store, command_of(words))?;
+    reply.write(writer)?;
     Ok(())
 }
