@@ -15,7 +15,7 @@
 mod packing;
 mod parsing;
 
-use packing::{Packing, pack_round};
+use packing::{Load, Packing, pack_round};
 use parsing::parse_round;
 use resp_core::RedisResult;
 use std::process::ExitCode;
@@ -64,16 +64,20 @@ fn words(rt: &HostRuntime) -> io::Result<Vec<String>> {
 }
 
 fn parse(rt: &HostRuntime, file: &str, piece: usize, rounds: u64) -> u8 {
-    let Ok(bytes) = fs::read(rt, file) else {
-        return 2;
-    };
-    let Ok(round) = parse_round(rt.alloc(), bytes.as_slice(), piece) else {
+    match fs::read(rt, file) {
+        Ok(bytes) => parse_rounds(rt, bytes.as_slice(), piece, rounds),
+        Err(_) => 2,
+    }
+}
+
+fn parse_rounds(rt: &HostRuntime, bytes: &[u8], piece: usize, rounds: u64) -> u8 {
+    let Ok(round) = parse_round(rt.alloc(), bytes, piece) else {
         return 2;
     };
     let mut best = None;
     for _ in 0..rounds {
         let start = now(rt);
-        let Ok(_) = parse_round(rt.alloc(), bytes.as_slice(), piece) else {
+        let Ok(_) = parse_round(rt.alloc(), bytes, piece) else {
             return 2;
         };
         best = quicker(best, now(rt).saturating_sub(start));
@@ -85,16 +89,20 @@ fn pack(rt: &HostRuntime, what: &str, count: usize, rounds: u64) -> u8 {
     let Some(packing) = Packing::named(what) else {
         return 1;
     };
-    let Ok(load) = packing.load(rt.alloc()) else {
-        return 2;
-    };
-    let Ok(round) = pack_round(rt.alloc(), packing, &load, count) else {
+    match packing.load(rt.alloc()) {
+        Ok(load) => pack_rounds(rt, packing, &load, count, rounds),
+        Err(_) => 2,
+    }
+}
+
+fn pack_rounds(rt: &HostRuntime, packing: Packing, load: &Load, count: usize, rounds: u64) -> u8 {
+    let Ok(round) = pack_round(rt.alloc(), packing, load, count) else {
         return 2;
     };
     let mut best = None;
     for _ in 0..rounds {
         let start = now(rt);
-        let Ok(_) = pack_round(rt.alloc(), packing, &load, count) else {
+        let Ok(_) = pack_round(rt.alloc(), packing, load, count) else {
             return 2;
         };
         best = quicker(best, now(rt).saturating_sub(start));

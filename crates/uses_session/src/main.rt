@@ -10,27 +10,30 @@ mod counting;
 mod server;
 mod session;
 
-use resp_core::ByteLink;
+use resp_core::{ByteLink, ConnectionLike};
 use session::{Learned, session};
+use std::alloc::Global;
 use std::io;
 use std::io::Write;
 use std::process::ExitCode;
 
 fn main(rt: HostRuntime) -> ExitCode {
-    let alloc = rt.alloc();
-    let mut link = ByteLink::new(alloc, rt.stdin(), rt.stdout());
-    let mut err = rt.stderr();
-    let status = match session(alloc, &mut link, "Ada") {
+    let mut link = ByteLink::new(rt.alloc(), rt.stdin(), rt.stdout());
+    ExitCode::from(run(rt.alloc(), &mut link, &mut rt.stderr()))
+}
+
+/// Leads the session, and prints what it learned.
+fn run<E: Write>(alloc: Global, con: &mut dyn ConnectionLike, err: &mut E) -> u8 {
+    match session(alloc, con, "Ada") {
         Ok(learned) => {
-            let _ = print_learned(&learned, &mut err);
+            let _ = print_learned(&learned, err);
             0
         }
         Err(error) => {
             let _ = writeln!(err, "refused: {error:?}");
             2
         }
-    };
-    ExitCode::from(status)
+    }
 }
 
 fn print_learned<E: Write>(learned: &Learned, err: &mut E) -> io::Result<()> {

@@ -10,23 +10,26 @@ mod commands;
 mod page;
 
 use page::visit;
-use resp_core::ByteLink;
+use resp_core::{ByteLink, ConnectionLike};
+use std::alloc::Global;
 use std::io::Write;
 use std::process::ExitCode;
 
 fn main(rt: HostRuntime) -> ExitCode {
-    let alloc = rt.alloc();
-    let mut link = ByteLink::new(alloc, rt.stdin(), rt.stdout());
-    let mut err = rt.stderr();
-    let status = match visit(alloc, &mut link) {
+    let mut link = ByteLink::new(rt.alloc(), rt.stdin(), rt.stdout());
+    ExitCode::from(run(rt.alloc(), &mut link, &mut rt.stderr()))
+}
+
+/// Visits the page, and prints it.
+fn run<E: Write>(alloc: Global, con: &mut dyn ConnectionLike, err: &mut E) -> u8 {
+    match visit(alloc, con) {
         Ok(page) => {
-            let _ = page.print(&mut err);
+            let _ = page.print(err);
             0
         }
         Err(error) => {
             let _ = writeln!(err, "refused: {error:?}");
             2
         }
-    };
-    ExitCode::from(status)
+    }
 }
