@@ -65,6 +65,17 @@ pub fn gives_next(rt: &(impl Abort + AllocGlobal), parser: &mut Parser, wanted: 
     assert_eq!(rt; next_shown(rt, parser).as_str(), wanted);
 }
 
+/// The parser is fed a piece, and then answers this, or `none`.
+pub fn answers_next(
+    rt: &(impl Abort + AllocGlobal),
+    parser: &mut Parser,
+    piece: &[u8],
+    wanted: &str,
+) {
+    feed(rt, parser, piece);
+    gives_next(rt, parser, wanted);
+}
+
 /// The parser is fed each piece, and then answers these texts in turn.
 pub fn answers_in_turn(
     rt: &(impl Abort + AllocGlobal),
@@ -85,17 +96,27 @@ fn add(rt: &impl Abort, text: &mut String, more: &str, space: &str) {
     text.push_str(space).expect(rt, "no refusal");
 }
 
+/// Adds what a value shows, and a space.
+fn add_value(rt: &(impl Abort + AllocGlobal), text: &mut String, value: Value) {
+    add(rt, text, debug_text(rt, value).as_str(), " ");
+}
+
+/// Adds what a refusal shows.
+fn add_refusal(rt: &(impl Abort + AllocGlobal), text: &mut String, error: &RedisError) {
+    add(rt, text, shown_refusal(rt, error).as_str(), "");
+}
+
 /// Adds what the next value shows, or a refusal; says whether there was a value.
 fn add_next(rt: &(impl Abort + AllocGlobal), parser: &mut Parser, text: &mut String) -> bool {
     match parser.take_value() {
         Ok(Some(value)) => {
-            add(rt, text, debug_text(rt, value).as_str(), " ");
+            add_value(rt, text, value);
             true
         }
         Ok(None) => false,
         Err(error) => {
             assert!(rt; parser.is_failed() && parser.in_progress());
-            add(rt, text, shown_refusal(rt, &error).as_str(), "");
+            add_refusal(rt, text, &error);
             false
         }
     }

@@ -1,6 +1,6 @@
 //! What readers and writers are asked for, and how often, over devices that count their calls.
 
-use crate::answers::{answers_in_turn, feed, gives_next, shows};
+use crate::answers::{feed, gives_next, shows};
 use crate::devices::{ScriptedReader, ScriptedWriter, Step};
 use resp_core::{
     ByteLink, CommandSink, ConnectionLike, IoKind, Parser, Reading, RedisResult, ReplySource,
@@ -19,10 +19,7 @@ fn answered(
     rt: &(impl Abort + AllocGlobal),
     con: &mut dyn ConnectionLike,
 ) -> Result<i64, Option<IoKind>> {
-    match asked(rt, con) {
-        Ok(number) => Ok(number),
-        Err(error) => Err(error.io_kind()),
-    }
+    asked(rt, con).map_err(|error| error.io_kind())
 }
 
 /// The parser answers this over a reader with this script.

@@ -1,6 +1,8 @@
 //! Worked replies, fed whole and in pieces, and readers that end or fail in the middle.
 
-use crate::answers::{Example, answers_in_turn, feed, gives_next, reply, shown_in_pieces, shows};
+use crate::answers::{
+    Example, answers_in_turn, answers_next, feed, gives_next, reply, shown_in_pieces, shows,
+};
 use resp_core::laws::law_of_prefixes;
 use resp_core::{Parser, Reading, RedisError, Value, parse_redis_value};
 use std::io;
@@ -17,43 +19,41 @@ fn copy(rt: &(impl Abort + AllocGlobal), value: &Value) -> Value {
     value.try_clone(rt.alloc()).expect(rt, "no refusal")
 }
 
-/// Whether the value of these bytes equals its copy.
-fn equals_its_copy(rt: &(impl Abort + AllocGlobal), bytes: &[u8]) -> bool {
-    let value = reply(rt, bytes);
-    copy(rt, &value) == value
+/// The value equals its copy.
+fn equals_its_copy(rt: &(impl Abort + AllocGlobal), value: &Value) {
+    assert!(rt; copy(rt, value) == *value);
 }
+
+/// A value of each type.
+const VALUES: &[&[u8]] = &[
+    b":-9223372036854775808\r\n",
+    b"_\r\n",
+    b"+OK\r\n",
+    b"+a\r\r\n",
+    b"#t\r\n",
+    b",-nan\r\n",
+    b",2.67923E+8\r\n",
+    b"(349\r\n",
+    b"- x\r\n",
+    b"-LOADING x\r\n",
+    b"!21\r\nSYNTAX invalid syntax\r\n",
+    b"$2\r\nab\r\n",
+    b"$2\r\n\xFF\0\r\n",
+    b"=4\r\nmkd:\r\n",
+    b"=7\r\nabc:d:e\r\n",
+    b"*3\r\n+OK\r\n-LOADING x\r\n:1\r\n",
+    b"~5\r\n+orange\r\n+apple\r\n#t\r\n:100\r\n:999\r\n",
+    b"%2\r\n+first\r\n:1\r\n+second\r\n:2\r\n",
+    b"|1\r\n+k\r\n:1\r\n:2\r\n",
+    b">2\r\n$7\r\nmessage\r\n:1\r\n",
+    b">0\r\n",
+];
 
 #[test]
 fn values_equal_their_copies(rt: HostRuntime) {
-    for bytes in [
-        ":-9223372036854775808\r\n",
-        "_\r\n",
-        "+OK\r\n",
-        "+a\r\r\n",
-        "#t\r\n",
-        ",-nan\r\n",
-        ",2.67923E+8\r\n",
-        "(349\r\n",
-        "- x\r\n",
-        "-LOADING x\r\n",
-        "!21\r\nSYNTAX invalid syntax\r\n",
-        "$2\r\nab\r\n",
-        "=4\r\nmkd:\r\n",
-        "=7\r\nabc:d:e\r\n",
-        "*3\r\n+OK\r\n-LOADING x\r\n:1\r\n",
-        "~5\r\n+orange\r\n+apple\r\n#t\r\n:100\r\n:999\r\n",
-        "%2\r\n+first\r\n:1\r\n+second\r\n:2\r\n",
-        "|1\r\n+k\r\n:1\r\n:2\r\n",
-        ">2\r\n$7\r\nmessage\r\n:1\r\n",
-        ">0\r\n",
-    ] {
-        assert!(rt; equals_its_copy(&rt, bytes.as_bytes()));
+    for bytes in VALUES {
+        equals_its_copy(&rt, &reply(&rt, bytes));
     }
-}
-
-#[test]
-fn binary_data_equals_its_copy(rt: HostRuntime) {
-    assert!(rt; equals_its_copy(&rt, b"$2\r\n\xFF\0\r\n"));
 }
 
 /// Values that end with their line.
@@ -250,7 +250,7 @@ fn any_byte_is_too_deep(rt: HostRuntime) {
 fn pieces(rt: HostRuntime) {
     let mut parser = Parser::new(rt.alloc());
     assert!(rt; !parser.in_progress());
-    answers_in_turn(&rt, &mut parser, &[(b"+a\r", &["none"])]);
+    answers_next(&rt, &mut parser, b"+a\r", "none");
     assert!(rt; parser.in_progress());
     let answers = &["simple-string(\"a\")", "int(1)", "none"];
     answers_in_turn(&rt, &mut parser, &[(b"\n:1\r\n", answers)]);
@@ -282,7 +282,7 @@ fn refuses_bytes(rt: &impl Abort, parser: &mut Parser, bytes: &[u8]) {
 #[test]
 fn a_failed_parser_takes_nothing(rt: HostRuntime) {
     let mut parser = Parser::new(rt.alloc());
-    answers_in_turn(&rt, &mut parser, &[(b"@", &["UnknownType"])]);
+    answers_next(&rt, &mut parser, b"@", "UnknownType");
     assert!(rt; parser.is_failed() && parser.in_progress());
     refuses_bytes(&rt, &mut parser, b":1\r\n");
 }
@@ -343,7 +343,7 @@ fn a_source_that_fails(rt: HostRuntime) {
     shows(&rt, parser.parse_from(&mut source), "TimedOut");
     assert!(rt; !parser.is_failed() && parser.in_progress());
     assert!(rt; source.into_inner().reads == 2);
-    answers_in_turn(&rt, &mut parser, &[(b"2\r\n", &["int(12)"])]);
+    answers_next(&rt, &mut parser, b"2\r\n", "int(12)");
 }
 
 #[test]

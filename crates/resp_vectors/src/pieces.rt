@@ -1,6 +1,6 @@
 //! Replies that come in pieces: wherever the bytes are cut, the answers are the same.
 
-use crate::answers::{Example, answers_in_turn, feed, gives_next, shown_in_pieces};
+use crate::answers::{Example, answers_next, feed, gives_next, shown_in_pieces};
 use crate::parsers::{AGGREGATES, BODIES, SCALARS};
 use crate::replies::FAULTS;
 use resp_core::{Parser, Value};
@@ -136,7 +136,7 @@ fn nested_arrays_in_single_bytes(rt: HostRuntime) {
 #[test]
 fn arrays_that_nest_too_deeply_in_single_bytes(rt: HostRuntime) {
     let mut parser = Parser::new(rt.alloc());
-    answers_in_turn(&rt, &mut parser, &[(b":1\r\n", &["int(1)"])]);
+    answers_next(&rt, &mut parser, b":1\r\n", "int(1)");
     let bytes = around(&rt, 100, "*1\r\n", ":", "");
     feed_singly(&rt, &mut parser, bytes.as_bytes());
     gives_next(&rt, &mut parser, "TooDeep");
@@ -146,16 +146,10 @@ fn arrays_that_nest_too_deeply_in_single_bytes(rt: HostRuntime) {
 fn a_body_in_pieces(rt: HostRuntime) {
     for (last, want) in [("\n", "bulk-string('\"abc\"')"), ("X", "BodyEnd")] {
         let mut parser = Parser::new(rt.alloc());
-        answers_in_turn(
-            &rt,
-            &mut parser,
-            &[
-                (b"$3\r\nab", &["none"]),
-                (b"c", &["none"]),
-                (b"\r", &["none"]),
-                (last.as_bytes(), &[want]),
-            ],
-        );
+        for piece in ["$3\r\nab", "c", "\r"] {
+            answers_next(&rt, &mut parser, piece.as_bytes(), "none");
+        }
+        answers_next(&rt, &mut parser, last.as_bytes(), want);
     }
 }
 
@@ -200,15 +194,20 @@ fn awaits_more(rt: &impl Abort, parser: &mut Parser, bytes: &[u8]) {
     }
 }
 
+/// Feeds the large array but for its last byte.
+fn feed_large_array(rt: &impl Abort, parser: &mut Parser) {
+    awaits_more(rt, parser, HEADER);
+    for _ in 1..ELEMENTS {
+        awaits_more(rt, parser, ELEMENT);
+        awaits_more(rt, parser, b"\n");
+    }
+    awaits_more(rt, parser, ELEMENT);
+}
+
 #[test]
 fn a_large_array_in_single_bytes(rt: HostRuntime) {
     let mut parser = Parser::new(rt.alloc());
-    awaits_more(&rt, &mut parser, HEADER);
-    for _ in 1..ELEMENTS {
-        awaits_more(&rt, &mut parser, ELEMENT);
-        awaits_more(&rt, &mut parser, b"\n");
-    }
-    awaits_more(&rt, &mut parser, ELEMENT);
+    feed_large_array(&rt, &mut parser);
     feed(&rt, &mut parser, b"\n");
     let array = next_value(&rt, &mut parser).expect(&rt, "a value");
     assert!(rt; holds_bodies(&array));

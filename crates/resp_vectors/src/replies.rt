@@ -1,6 +1,6 @@
 //! Replies as bytes, over a parser.
 
-use crate::answers::{Example, answers_in_turn, debug_text, reply, shows};
+use crate::answers::{Example, answers_in_turn, answers_next, debug_text, reply, shows};
 use resp_core::{
     ErrorKind, Parser, Reading, RedisError, ServerErrorKind, Value, parse_redis_value,
 };
@@ -12,9 +12,9 @@ use std::process::Abort;
 fn faults(rt: &(impl Abort + AllocGlobal), bytes: &[u8], wanted: &str) {
     let mut parser = Parser::new(rt.alloc());
     let (prefix, last) = bytes.split_at(bytes.len().saturating_sub(1));
-    answers_in_turn(rt, &mut parser, &[(prefix, &["none"])]);
+    answers_next(rt, &mut parser, prefix, "none");
     assert!(rt; parser.fault_offset().is_none());
-    answers_in_turn(rt, &mut parser, &[(last, &[wanted])]);
+    answers_next(rt, &mut parser, last, wanted);
     has_failed_at(rt, &parser, bytes.len());
 }
 

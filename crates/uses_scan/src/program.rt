@@ -40,6 +40,10 @@ fn scan_words<'a, C: ConnectionLike>(
 
 fn print_answers<C: ConnectionLike, E: Write>(scan: Iter<'_, Value, C>, err: &mut E) {
     for answer in scan {
-        let _ = writeln!(err, "{answer:?}");
+        print_answer(&answer, err);
     }
+}
+
+fn print_answer<E: Write>(answer: &RedisResult<Value>, err: &mut E) {
+    let _ = writeln!(err, "{answer:?}");
 }
