@@ -17,16 +17,17 @@ use std::process::ExitCode;
 use std::{env, io};
 
 fn main(rt: HostRuntime) -> ExitCode {
-    ExitCode::from(run(rt))
+    let status = match words(&rt) {
+        Ok(words) => run(&rt, words.as_slice()),
+        Err(error) => print_no_words(&error, &mut rt.stderr()),
+    };
+    ExitCode::from(status)
 }
 
-fn run(rt: HostRuntime) -> u8 {
+/// Does what the words ask for.
+fn run(rt: &HostRuntime, words: &[String]) -> u8 {
     let alloc = rt.alloc();
-    let words = match words(&rt) {
-        Ok(words) => words,
-        Err(error) => return print_no_words(&error, &mut rt.stderr()),
-    };
-    match task_of(words.as_slice()) {
+    match task_of(words) {
         Task::Pack(words) => pack(alloc, words, &mut rt.stdout(), &mut rt.stderr()),
         Task::Read => read(alloc, &mut rt.stdin(), &mut rt.stdout(), &mut rt.stderr()),
         Task::Query(words) => {

@@ -15,19 +15,18 @@ use std::process::ExitCode;
 use subscriber::{Link, message_of, pushes_of_a_round, subscribe};
 
 fn main(rt: HostRuntime) -> ExitCode {
+    match words(&rt) {
+        Some((channel, rounds)) => ExitCode::from(run(&rt, channel.as_str(), rounds)),
+        None => ExitCode::from(1),
+    }
+}
+
+/// Listens to the channel over standard input and output.
+fn run(rt: &HostRuntime, channel: &str, rounds: u32) -> u8 {
     let mut link = ByteLink::new(rt.alloc(), rt.stdin(), rt.stdout());
-    let Some((channel, rounds)) = words(&rt) else {
-        return ExitCode::from(1);
-    };
-    match listen(
-        rt.alloc(),
-        channel.as_str(),
-        rounds,
-        &mut link,
-        &mut rt.stderr(),
-    ) {
-        Ok(()) => ExitCode::from(0),
-        Err(_) => ExitCode::from(2),
+    match listen(rt.alloc(), channel, rounds, &mut link, &mut rt.stderr()) {
+        Ok(()) => 0,
+        Err(_) => 2,
     }
 }
 
