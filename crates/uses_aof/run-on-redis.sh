@@ -18,7 +18,6 @@ cp appendonlydir/appendonly.aof.1.incr.aof whole
 head -c -7 whole > cut
 sed 's/^\$5/x5/' whole > turned
 for file in whole cut turned; do
-    echo "$file:"
     "$program" "$file"
     echo n | redis-check-aof "$file" 2>&1 | tail -n 3
 done
