@@ -10,7 +10,6 @@ const PIECE: usize = 16_384;
 /// Feeds all of the bytes piece by piece, and takes and drops each value as soon as it is whole.
 #[inline(never)]
 pub fn parse_round(alloc: Global, bytes: &[u8], piece: usize) -> RedisResult<Round> {
-    let piece = if piece == 0 { PIECE } else { piece };
     let mut parser = Parser::new(alloc);
     Ok(Round {
         units: parse_all(&mut parser, bytes, piece)?,
@@ -20,6 +19,7 @@ pub fn parse_round(alloc: Global, bytes: &[u8], piece: usize) -> RedisResult<Rou
 
 /// Feeds the bytes piece by piece, and counts the values.
 fn parse_all(parser: &mut Parser, bytes: &[u8], piece: usize) -> RedisResult<u64> {
+    let piece = if piece == 0 { PIECE } else { piece };
     let mut units: u64 = 0;
     for part in bytes.chunks(piece) {
         parser.feed(part)?;
