@@ -10,22 +10,17 @@ const PIECE: usize = 16_384;
 /// Feeds all of the bytes piece by piece, and takes and drops each value as soon as it is whole.
 #[inline(never)]
 pub fn parse_round(alloc: Global, bytes: &[u8], piece: usize) -> RedisResult<Round> {
-    let mut parser = Parser::new(alloc);
-    Ok(Round {
-        units: parse_all(&mut parser, bytes, piece)?,
-        bytes: bytes.len() as u64,
-    })
-}
-
-/// Feeds the bytes piece by piece, and counts the values.
-fn parse_all(parser: &mut Parser, bytes: &[u8], piece: usize) -> RedisResult<u64> {
     let piece = if piece == 0 { PIECE } else { piece };
+    let mut parser = Parser::new(alloc);
     let mut units: u64 = 0;
     for part in bytes.chunks(piece) {
         parser.feed(part)?;
-        units = units.saturating_add(take_all(parser)?);
+        units = units.saturating_add(take_all(&mut parser)?);
     }
-    Ok(units)
+    Ok(Round {
+        units,
+        bytes: bytes.len() as u64,
+    })
 }
 
 /// Takes the values that are whole, drops them, and counts them.
