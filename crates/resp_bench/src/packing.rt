@@ -72,13 +72,20 @@ pub fn pack_round(
     let mut buffer = Vec::new(alloc);
     for _ in 0..count {
         let packed = match packing {
-            Packing::Set => packed_length(&set_command(alloc)?)?,
-            Packing::SetOnly => written_length(&load.small_command, &mut buffer)?,
-            Packing::Big => packed_length(&large_command(alloc, load.large.as_slice())?)?,
-            Packing::BigOnly => packed_length(&load.large_command)?,
-            Packing::Pipe => set_pipeline(alloc)?.get_packed_pipeline()?.len() as u64,
+            Packing::Set => set_command(alloc)?.get_packed_command()?.len(),
+            Packing::SetOnly => {
+                buffer.clear();
+                load.small_command.write_packed_command(&mut buffer)?;
+                buffer.len()
+            }
+            Packing::Big => {
+                let command = large_command(alloc, load.large.as_slice())?;
+                command.get_packed_command()?.len()
+            }
+            Packing::BigOnly => load.large_command.get_packed_command()?.len(),
+            Packing::Pipe => set_pipeline(alloc)?.get_packed_pipeline()?.len(),
         };
-        bytes = bytes.saturating_add(packed);
+        bytes = bytes.saturating_add(packed as u64);
     }
     let each = match packing {
         Packing::Pipe => COMMANDS as u64,
@@ -88,19 +95,6 @@ pub fn pack_round(
         units: each.saturating_mul(count as u64),
         bytes,
     })
-}
-
-#[inline(never)]
-fn packed_length(command: &Cmd) -> RedisResult<u64> {
-    Ok(command.get_packed_command()?.len() as u64)
-}
-
-/// As [`packed_length`], into a buffer at hand.
-#[inline(never)]
-fn written_length(command: &Cmd, buffer: &mut Vec<u8>) -> RedisResult<u64> {
-    buffer.clear();
-    command.write_packed_command(buffer)?;
-    Ok(buffer.len() as u64)
 }
 
 #[inline(never)]

@@ -238,9 +238,9 @@ pub last_starts : (bytes : List ℕ) (spans : List Span) (h : IsFramed bytes spa
     → start ≡ length (flat_map bulk (take (n - 1) args)) → start ≡ last_start bytes spans h some
 last_starts bytes spans h some args start n view e f = f ∙ ap (λ (xs : Args). length (flat_map bulk (take (n - 1) xs))) (sym view) ∙ ap (λ (k : ℕ). length (flat_map bulk (take (k - 1) (args_at bytes spans)))) e
 
-pub last_from : (bytes : List ℕ) (spans : List Span) (h : IsFramed bytes spans) (some : 0 < length spans) (span : Span) (n : ℕ) → n ≡ length spans → span ≡ get_or spans (n - 1) span
-    → span.from ≡ last_start bytes spans h some + (length (decimal (length (last_arg bytes spans h some))) + 3)
-last_from bytes spans h some span n e f = ap (λ (s : Span). s.from) (f ∙ ap (λ (k : ℕ). get_or spans (k - 1) span) e ∙ last_span bytes spans h some span)
+pub last_from : (bytes : List ℕ) (spans : List Span) (h : IsFramed bytes spans) (some : 0 < length spans) (lent : List Span) (d : Span) (n : ℕ) → n ≡ length spans → lent ≡ spans
+    → (get_or lent (n - 1) d).from ≡ last_start bytes spans h some + (length (decimal (length (last_arg bytes spans h some))) + 3)
+last_from bytes spans h some lent d n e f = ap (λ (ss : List Span). (get_or ss (n - 1) d).from) f ∙ ap (λ (k : ℕ). (get_or spans (k - 1) d).from) e ∙ ap (λ (s : Span). s.from) (last_span bytes spans h some d)
 
 pub some-spans : (bytes : List ℕ) (spans : List Span) → IsFramed bytes spans → (args : Args) → args_at bytes spans ≡ args → 0 < length args → 0 < length spans
 some-spans bytes spans h args view some = omega (arith, counted bytes spans h, ap length view, some)

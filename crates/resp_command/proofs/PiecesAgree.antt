@@ -68,6 +68,12 @@ woven-counted place (cursor ∷ cursors) (arg ∷ args) = by_test (nat_lt place 
     by_test true r s = omega (arith, r)
     by_test false r s = omega (arith, s)
 
+-- where there are no cursors, the ordinary arguments are what is sent
+pub sent-plain : (text : List ℕ) (cursors : List ℕ) (args : Args) → length cursors ≡ 0 → map (sent text) (woven 0 cursors args) ≡ args
+sent-plain text [] [] e = refl
+sent-plain text [] (arg ∷ args) e = ap (λ rest. arg ∷ rest) (sent-plain text [] args e)
+sent-plain text (cursor ∷ cursors) args e = absurd (omega arith)
+
 pub left_counted : (it : ArgsIter) → length (args_left it) ≡ (length it.frames.now - it.taken) + (length it.cursors.now - it.passed)
 left_counted it = let r = woven-counted (it.taken + it.passed) (drop it.passed it.cursors.now) (drop it.taken it.frames.now) in omega (arith, r, length-drop it.taken it.frames.now, length-drop it.passed it.cursors.now)
 

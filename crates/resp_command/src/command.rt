@@ -19,7 +19,7 @@ ghost use Rattle.resp_command.specs.ScanStates.{borrowed, scan_state, state_of};
 use crate::args_iter::ArgsIter;
 use crate::connection::ConnectionLike;
 use crate::frames::Frames;
-use crate::packing::append_pieces;
+use crate::packing::{append_frames, append_pieces};
 use crate::progress::ScanProgress;
 use crate::scan::{Iter, Scan};
 use itoa::Buffer;
@@ -109,11 +109,11 @@ impl Cmd {
         ensures unchanged { OnErr result (self.new ≡ self.old) }
     {
         let before = self.frames.len();
-        if let Err(error) = arg.write_redis_args(&mut self.frames) {
+        let written = arg.write_redis_args(&mut self.frames);
+        if written.is_err() {
             self.frames.truncate(before);
-            return Err(error);
         }
-        Ok(())
+        written
     }
 
     /// Adds a cursor argument, and sets the command's cursor: every cursor argument is sent as the
@@ -255,12 +255,14 @@ impl Cmd {
 
     /// Appends the bytes that send the command with this cursor; refused, it leaves more behind the
     /// old bytes.
-    fn append_packed(&self, cursor: u64, out: &mut Vec<u8>) -> RedisResult<()>
+    fn append_packed(&self, cursor: u64, out: &mut Vec<u8>) -> Result<(), AllocError>
         ensures written { OnOk result (out.new.items
             ≡ out.old.items ++ packed (with_cursor cursor self.now).args) }
         ensures prefix { take (length out.old.items) out.new.items ≡ out.old.items }
-        ensures memory { OnlyMemory result }
     {
+        if self.cursors.is_empty() {
+            return append_frames(out, &self.frames);
+        }
         let mut buffer = Buffer::new();
         let text = buffer.format(cursor).as_bytes();
         append_pieces(out, &self.frames, self.cursors.as_slice(), text)
@@ -274,9 +276,9 @@ impl Cmd {
         ensures memory { OnlyMemory result }
     {
         let before = out.len();
-        if let Err(error) = self.append_packed(self.cursor.unwrap_or(0), out) {
+        if let Err(refused) = self.append_packed(self.cursor.unwrap_or(0), out) {
             out.truncate(before);
-            return Err(error);
+            return Err(refused.into());
         }
         Ok(())
     }

@@ -12,11 +12,15 @@ ghost use Rattle.resp_command.specs.Frames.{IsFramed, args_at};
 use crate::framing::{FRAME, append_frame, extend_frame};
 use resp_args::RedisWrite;
 use resp_value::{RedisError, RedisResult};
+use smallvec::SmallVec;
 use std::alloc::{AllocError, Global};
 use std::marker::Model;
 
+/// How many places are kept without an allocation of their own.
+const FEW: usize = 4;
+
 /// Where an argument stands in a buffer.
-#[derive(Clone, Copy)]
+#[derive(Clone, Copy, Default)]
 pub struct Span {
     pub from: usize,
     pub to: usize,
@@ -27,7 +31,7 @@ pub struct Span {
 #[derive(Drop)]
 pub struct Frames {
     bytes: Vec<u8>,
-    spans: Vec<Span>,
+    spans: SmallVec<Span, FEW>,
 }
 
 impl Model for Frames {
@@ -48,7 +52,7 @@ impl Frames {
     {
         Frames {
             bytes: Vec::new(alloc),
-            spans: Vec::new(alloc),
+            spans: SmallVec::new(alloc),
         }
     }
 
@@ -66,7 +70,7 @@ impl Frames {
         ensures len { result ≡ length self.now }
         ensures bounded { result < 2 ^ 63 }
     {
-        self.spans.len()
+        self.spans.as_slice().len()
     }
 
     /// The frames, joined in order.
@@ -116,12 +120,15 @@ impl Frames {
     pub fn push(&mut self, arg: &[u8]) -> Result<(), AllocError>
         ensures { self.new ≡ (if is_ok result then self.old ++ arg.now ∷ [] else self.old) }
     {
-        self.spans.reserve(1)?;
+        // `reserve` asks the same, by a call that most arguments don't need.
+        if self.spans.len() == self.spans.capacity() {
+            self.spans.reserve(1)?;
+        }
         let to = append_frame(&mut self.bytes, arg)?;
-        self.spans.push(Span {
+        self.spans.push_reserved(Span {
             from: to - arg.len(),
             to,
-        })?;
+        });
         Ok(())
     }
 
@@ -181,7 +188,7 @@ impl Frames {
     {
         Ok(Frames {
             bytes: Vec::from_slice(alloc, self.bytes.as_slice())?,
-            spans: Vec::from_slice(alloc, self.spans.as_slice())?,
+            spans: SmallVec::from_slice(alloc, self.spans.as_slice())?,
         })
     }
 }

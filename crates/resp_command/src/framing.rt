@@ -43,6 +43,7 @@ pub fn write_frame(bytes: &mut Vec<u8>, arg: &[u8]) -> Result<(), AllocError>
 }
 
 /// Appends a mark, a length in decimal and CR LF; refused, it leaves more behind the old bytes.
+#[inline]
 pub fn write_length_line(bytes: &mut Vec<u8>, mark: u8, len: usize) -> Result<(), AllocError>
     ensures written { OnOk result (bytes.new.items ≡ bytes.old.items ++ length_line mark len) }
     ensures prefix { take (length bytes.old.items) bytes.new.items ≡ bytes.old.items }
@@ -53,6 +54,15 @@ pub fn write_length_line(bytes: &mut Vec<u8>, mark: u8, len: usize) -> Result<()
     if len < 100 {
         return bytes.extend_from_slice(&[mark, digit(len / 10), digit(len % 10), b'\r', b'\n']);
     }
+    write_any_length_line(bytes, mark, len)
+}
+
+/// As [`write_length_line`]; not inlined, so that short lines save no registers for it.
+#[inline(never)]
+fn write_any_length_line(bytes: &mut Vec<u8>, mark: u8, len: usize) -> Result<(), AllocError>
+    ensures written { OnOk result (bytes.new.items ≡ bytes.old.items ++ length_line mark len) }
+    ensures prefix { take (length bytes.old.items) bytes.new.items ≡ bytes.old.items }
+{
     bytes.push(mark)?;
     bytes.extend_from_slice(Buffer::new().format(len).as_bytes())?;
     bytes.extend_from_slice(b"\r\n")

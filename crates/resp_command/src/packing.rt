@@ -9,7 +9,7 @@ ghost use Rattle.resp_command.specs.Pieces.{IsWoven, sent, woven};
 use crate::frames::Frames;
 use crate::framing::{FRAME, write_frame, write_length_line};
 use resp_value::RedisResult;
-use std::alloc::Global;
+use std::alloc::{AllocError, Global};
 
 /// The bytes that send a command of these arguments (RESP, "Sending commands to a Redis server").
 ///
@@ -24,6 +24,17 @@ pub fn pack_command(alloc: Global, args: &[Vec<u8>]) -> RedisResult<Vec<u8>>
     Ok(bytes)
 }
 
+/// Appends a packed command of these arguments; refused, it leaves more behind the old bytes.
+pub fn append_frames(out: &mut Vec<u8>, frames: &Frames) -> Result<(), AllocError>
+    ensures written { OnOk result (out.new.items ≡ out.old.items ++ packed frames.now) }
+    ensures prefix { take (length out.old.items) out.new.items ≡ out.old.items }
+{
+    let bytes = frames.as_bytes();
+    out.reserve(bytes.len().saturating_add(FRAME))?;
+    write_length_line(out, b'*', frames.len())?;
+    out.extend_from_slice(bytes)
+}
+
 /// Appends a packed command of these arguments with cursors of this text at the places; refused, it
 /// leaves more behind the old bytes.
 pub fn append_pieces(
@@ -31,12 +42,11 @@ pub fn append_pieces(
     frames: &Frames,
     cursors: &[usize],
     text: &[u8],
-) -> RedisResult<()>
+) -> Result<(), AllocError>
     requires { IsWoven cursors.now frames.now }
     ensures written { OnOk result (out.new.items ≡ out.old.items
         ++ packed (map (sent text.now) (woven 0 cursors.now frames.now))) }
     ensures prefix { take (length out.old.items) out.new.items ≡ out.old.items }
-    ensures memory { OnlyMemory result }
 {
     let room = cursors.len().saturating_mul(text.len() + FRAME);
     out.reserve(
@@ -60,10 +70,9 @@ pub fn append_pieces(
     Ok(())
 }
 
-fn append_packed(out: &mut Vec<u8>, args: &[Vec<u8>]) -> RedisResult<()>
+fn append_packed(out: &mut Vec<u8>, args: &[Vec<u8>]) -> Result<(), AllocError>
     ensures written { OnOk result (out.new.items ≡ out.old.items ++ packed (args_of args.now)) }
     ensures prefix { take (length out.old.items) out.new.items ≡ out.old.items }
-    ensures memory { OnlyMemory result }
 {
     write_length_line(out, b'*', args.len())?;
     for arg in args {
