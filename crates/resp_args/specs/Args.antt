@@ -54,8 +54,8 @@ abbrev pub Writes : (Args → Type 0) → Type 0 → Args → Args → Result (U
 Writes Gives Refused old new (Ok _) = Appends Gives old new × (Refused → ⊥)
 Writes Gives Refused old new (Err e) = IsPrefix old new × IsRefusal Refused e
 
--- what writing values leaves and answers that an iterator gives, one after another: it was asked for
--- these, which were written as far as one is refused, and at Ok it has no more
+-- what writing values leaves and answers that an iterator gives, one after another: it was asked
+-- for these, which were written as far as one is refused, and at Ok it has no more
 pub record WritesItems {S X : Type 0} (steps : S → Option (Bor X) → S → Type 0) (start : S)
     (Gives : List X → Args → Type 0) (Refuses : List X → Type 0) (old new : Args)
     (result : Result (Unit {0}) RedisError) : Type 0 where

@@ -74,8 +74,8 @@ impl Cmd {
         }
     }
 
-    /// A new command with room for this many arguments of so many bytes in all. Fails only with
-    /// `OutOfMemory`.
+    /// A new command with room for `arg_count` arguments of `size_of_data` bytes in all. Fails only
+    /// with `OutOfMemory`.
     pub fn with_capacity(alloc: Global, arg_count: usize, size_of_data: usize) -> RedisResult<Cmd>
         ensures new { IfOk result (λ c. c ≡ new_command) }
         ensures memory { OnlyMemory result }

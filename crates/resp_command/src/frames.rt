@@ -56,7 +56,7 @@ impl Frames {
         }
     }
 
-    /// Makes room for this many arguments of so many bytes in all.
+    /// Makes room for `count` arguments of `size` bytes in all.
     pub fn reserve(&mut self, count: usize, size: usize) -> Result<(), AllocError>
         ensures { self.new ≡ self.old }
     {

@@ -104,8 +104,8 @@ pub fn extend_frame(
     Ok(text.len())
 }
 
-/// Puts a text in the place of so many bytes from `start` on, and moves what follows; refused, the
-/// bytes are as they were.
+/// Puts a text in the place of the `old` bytes from `start` on, and moves what follows; refused,
+/// the bytes are as they were.
 fn mend(bytes: &mut Vec<u8>, start: usize, old: usize, text: &[u8]) -> Result<(), AllocError>
     requires place { start + old ≤ vec_len bytes.old }
     requires grows { old ≤ length text.now }

@@ -13,13 +13,15 @@ pub use Rattle.resp_laws.specs.lemmas.Scalars.{one_signed, one_string, one_truth
 pub use Rattle.resp_laws.specs.lemmas.Tuples.{last_one, one_and, one_tuple}
 pub use Rattle.resp_keyed.specs.Keyed.{Keying, IsDeduplicated, IsMerged, hashed, sorted}
 pub use Rattle.resp_parse.specs.Grammar.{Good, Faulty}
-pub use Rattle.resp_parse.specs.Prefixes.{HasGoodPrefix, HasFaultyPrefix, FaultShownBy, IsUnfinished}
+pub use Rattle.resp_parse.specs.Prefixes.{HasGoodPrefix, HasFaultyPrefix, FaultShownBy}
+pub use Rattle.resp_parse.specs.Prefixes.{IsUnfinished}
 pub use Rattle.resp_parse.specs.Reads.{Reads}
 pub use Rattle.resp_parse.specs.State.{State, StandsAfter, FailedAfter, IsBetweenValues}
 pub use Rattle.resp_parse.specs.State.{KeepsFaultOffset}
 pub use Rattle.resp_parse.specs.Tally.{Tally}
 pub use Rattle.resp_parse.specs.Built.{built}
-pub use Rattle.resp_parse.specs.Bounds.{unseen, WorksWithin, Bounded, FedBy, OneCall, CallsWithin}
+pub use Rattle.resp_parse.specs.Bounds.{not_looked_at, WorksWithin, Bounded, FedBy, OneCall}
+pub use Rattle.resp_parse.specs.Bounds.{CallsWithin}
 pub use Rattle.resp_types.specs.Info.{Gets, HoldsText, OfInfo, SameEntry, entries_of, value_at}
 pub use Rattle.resp_types.specs.Increx.{AreIntegers, OfIncrex}
 pub use Rattle.resp_types.specs.IntegerReplies.{OfIntegerReply, number_of}

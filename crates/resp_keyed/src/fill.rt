@@ -18,7 +18,7 @@ pub trait FillMap<K, V>: Sized + Drop {
 
     /// Puts a value at a key; where an equal key is there, that one stays and takes the value.
     ///
-    /// Fails only for want of memory, and then leaves the entries as they were.
+    /// Fails only when out of memory, and then leaves the entries as they were.
     fn put(&mut self, key: K, value: V) -> Result<(), AllocError>
         ensures merged { OnOk result ((pairs : List (K × V))
             → IsMerged keying pairs (entries self.old)
@@ -39,7 +39,7 @@ pub trait FillSet<T>: Sized + Drop {
 
     /// Adds a member; where an equal one is there, that one stays.
     ///
-    /// Fails only for want of memory, and then leaves the members as they were.
+    /// Fails only when out of memory, and then leaves the members as they were.
     fn put(&mut self, member: T) -> Result<(), AllocError>
         ensures deduplicated { OnOk result ((items : List T)
             → IsDeduplicated keying items (members self.old)

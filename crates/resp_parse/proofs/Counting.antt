@@ -43,8 +43,8 @@ module _ (m new : Machine) (u : List ℕ) (c t e : Tally) (failed : Bool) where
       let r : length (drop n u) ≡ length u - n = grind (arith, common_steps) in
       record {
         turns = omega (arith, b.pays, p.1, g.turns, g.taken, g.calls);
-        taken = omega (arith, b.held, p.0.taken, g.taken, g.came, l, r, s);
-        works = λ _. record { pays = omega (arith, b.pays, p.1, g.turns, g.taken, g.calls); held = omega (arith, b.held, p.0.taken, g.taken, g.came, l, r) };
+        taken = omega (arith, b.accounted, p.0.taken, g.taken, g.came, l, r, s);
+        works = λ _. record { pays = omega (arith, b.pays, p.1, g.turns, g.taken, g.calls); accounted = omega (arith, b.accounted, p.0.taken, g.taken, g.came, l, r) };
       }
 
   pub Counted-stopped : (x : Stop) → Counted m u c failed → failed ≡ false → t ≡ record c { calls = c.calls + 1 } → DrivePays m new u t e (Err x) → (v : List ℕ) → Counted new v e true
@@ -53,7 +53,7 @@ module _ (m new : Machine) (u : List ℕ) (c t e : Tally) (failed : Bool) where
       let g = begun c t e i p.0.same in
       record {
         turns = omega (arith, b.pays, p.1, g.turns, g.taken, g.calls);
-        taken = omega (arith, b.held, p.0.most, g.taken, g.came);
+        taken = omega (arith, b.accounted, p.0.most, g.taken, g.came);
         works = λ z. absurd (let y : true ≡ false = z in cc);
       }
 
@@ -65,7 +65,7 @@ levels-fresh m f = let n = nothing_open m.body m.frames f in rw n.no_frame (omeg
 
 -- nothing was done
 pub Counted-new : (m : Machine) (u : List ℕ) (c : Tally) → c ≡ record { turns = 0; came = 0; taken = 0; calls = 0 } → fresh_of m.body m.frames ≡ true → m.scanned ≡ 0 → u ≡ [] → Counted m u c false
-Counted-new m u c e f s n = rw (e, n) (record { turns = omega arith; taken = omega arith; works = λ _. record { pays = omega (arith, credit-fresh m f s); held = omega (arith, s) } })
+Counted-new m u c e f s n = rw (e, n) (record { turns = omega arith; taken = omega arith; works = λ _. record { pays = omega (arith, credit-fresh m f s); accounted = omega (arith, s) } })
 
 -- bytes came by a call
 pub Counted-fed : (m : Machine) (u v : List ℕ) (n : ℕ) (c d : Tally) (failed : Bool) → Counted m u c failed → d ≡ record c { came = c.came + n; calls = c.calls + 1 } → length v ≡ length u + n → Counted m v d failed
@@ -73,7 +73,7 @@ Counted-fed m u v n c d failed k e l =
     rw e (record {
       turns = omega (arith, k.turns);
       taken = omega (arith, k.taken);
-      works = λ w. let b = k.works w in record { pays = omega (arith, b.pays); held = omega (arith, b.held, l) };
+      works = λ w. let b = k.works w in record { pays = omega (arith, b.pays); accounted = omega (arith, b.accounted, l) };
     })
 
 -- bytes came from a source
@@ -82,7 +82,7 @@ Counted-asked m u v n c d failed k e l =
     rw e (record {
       turns = omega (arith, k.turns);
       taken = omega (arith, k.taken);
-      works = λ w. let b = k.works w in record { pays = omega (arith, b.pays); held = omega (arith, b.held, l) };
+      works = λ w. let b = k.works w in record { pays = omega (arith, b.pays); accounted = omega (arith, b.accounted, l) };
     })
 
 pub Counted-failing : (m : Machine) (u : List ℕ) (c : Tally) (failed : Bool) → Counted m u c failed → Counted m u c true
@@ -109,7 +109,7 @@ Bounded-from_kept m u since failed c n l h k p = record {
       let s : m.scanned ≤ length u = scanned-within m.body m.scanned u r.scanned in
       let d : length (drop m.scanned u) ≡ length u - m.scanned = grind (arith, common_steps) in
       record {
-        held = omega (arith, b.held, s, d);
+        accounted = omega (arith, b.accounted, s, d);
         built = omega (arith, r.weighs, built-weighs m.frames, s, d);
         spelled = omega (arith, (p w).counted, (p w).few, s, d);
       };

@@ -107,7 +107,7 @@ module _ (m new : Machine) (c d e : Tally) (buffer buffer' since since' bytes di
         taken = omega (arith, k.taken, taken, came, taken', came', l);
         works = λ _. record {
           pays = omega (arith, b.pays, f.turns, f.saves, turns, taken, calls, taken', calls');
-          held = omega (arith, b.held, f.looked, taken, came, taken', came', l, v);
+          accounted = omega (arith, b.accounted, f.looked, taken, came, taken', came', l, v);
         };
       }
 

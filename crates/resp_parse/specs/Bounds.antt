@@ -5,16 +5,16 @@ use Rattle.resp_parse.specs.State.{State}
 use Rattle.resp_parse.specs.Prefixes.{SpelledWithin}
 
 -- the buffered bytes that were not looked at
-abbrev pub unseen : State → List ℕ
-unseen s = drop s.looked s.unparsed
+abbrev pub not_looked_at : State → List ℕ
+not_looked_at s = drop s.looked s.unparsed
 
--- all bytes that came were looked at or are held unseen; and three times the values built for the
--- value in progress is at most the bytes of it that were looked at, whatever lengths are announced;
--- and these are at most 2^63 - 1
+-- all bytes that came were looked at or are kept to be looked at; and three times the values built
+-- for the value in progress is at most the bytes of it that were looked at, whatever lengths are
+-- announced; and these are at most 2^63 - 1
 pub record WorksWithin (s : State) : Type 0 where
-  pub held : s.counts.taken + length (unseen s) ≡ s.counts.came
-  pub built : 3 * s.built + length (unseen s) ≤ length s.since
-  pub spelled : SpelledWithin s.since (unseen s)
+  pub accounted : s.counts.taken + length (not_looked_at s) ≡ s.counts.came
+  pub built : 3 * s.built + length (not_looked_at s) ≤ length s.since
+  pub spelled : SpelledWithin s.since (not_looked_at s)
 
 -- no byte is looked at twice but one for each call: the turns are at most three for each byte and
 -- two for each call; at most 100 frames are open

@@ -7,7 +7,7 @@ abbrev pub sum_of_pairs : List (ℕ × ℕ) → ℕ
 sum_of_pairs [] = 0
 sum_of_pairs (p ∷ ps) = p.0 + p.1 + sum_of_pairs ps
 
--- of a value whose elements are built of so many
+-- of a value, by what its elements are built of
 abbrev pub built_step : Value-F ℕ → ℕ
 built_step (Value-F.Array elements) = suc (sum elements)
 built_step (Value-F.Set elements) = suc (sum elements)

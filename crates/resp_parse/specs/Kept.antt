@@ -31,7 +31,7 @@ pub record Holds (m : Machine) (unparsed since : List ℕ) (failed : Bool) : Typ
 -- what came was taken or is unparsed
 pub record Balanced (m : Machine) (unparsed : List ℕ) (counts : Tally) : Type 0 where
   pub pays : counts.turns + credit m ≤ 3 * counts.taken + counts.calls
-  pub held : counts.taken + length unparsed ≡ counts.came + m.scanned
+  pub accounted : counts.taken + length unparsed ≡ counts.came + m.scanned
 
 pub record Counted (m : Machine) (unparsed : List ℕ) (counts : Tally) (failed : Bool) : Type 0 where
   pub turns : counts.turns ≤ 3 * counts.taken + counts.calls

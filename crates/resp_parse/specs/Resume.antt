@@ -40,7 +40,7 @@ fresh_of None [] = true
 fresh_of None (f ∷ fs) = false
 fresh_of (Some b) fs = false
 
--- so many bytes of a line, its type byte among them, were looked at and hold no CR LF
+-- the first n bytes of a line, its type byte among them, were looked at and hold no CR LF
 pub record IsLooked (bytes : List ℕ) (n : ℕ) : Type 0 where
   pub within : n ≤ length bytes
   pub rest : Scanned (drop 1 bytes) (n - 1)

@@ -2,8 +2,8 @@
 use Rattle.std.specs.Prelude.{ℕ}
 
 -- turns of its loops: looking at one byte of a line, taking a header or a part of a body, placing
--- one value or closing one aggregate, joining one pair; bytes that were fed or filled; those of them
--- that were looked at; and calls that it has not refused
+-- one value or closing one aggregate, joining one pair; bytes that were fed or filled; those of
+-- them that were looked at; and calls that it has not refused
 pub record Tally : Type 0 where
   pub turns : ℕ
   pub came : ℕ

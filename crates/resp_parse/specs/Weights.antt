@@ -73,7 +73,7 @@ LooksAt scanned bytes c d (Some n) =
 LooksAt scanned bytes c d None =
     (d ≡ record c { turns = d.turns }) × (d.turns + scanned ≤ c.turns + length bytes)
 
--- a value is placed: of the turns saved and two for the value, so many were made
+-- a value is placed: the turns made are among those saved and two for the value
 abbrev pub Places : {X : Type 0} → Machine → Machine → Tally → Tally → Result X Stop → Type 0
 Places old new c d (Ok x) = d.turns + credit new ≤ c.turns + credit old + 2
 Places old new c d (Err e) = d.turns ≤ c.turns + credit old + 2

@@ -6,7 +6,7 @@ ghost use Rattle.resp_parse.specs.Weights.{LooksAt};
 
 use crate::counts::Counts;
 
-/// The length of the text up to the first CR LF, where so many bytes hold none.
+/// The length of the text up to the first CR LF, where the first `scanned` bytes hold none.
 pub(crate) fn line_end(bytes: &[u8], scanned: usize, counts: &mut Counts) -> Option<usize>
     requires scanned { Scanned bytes.now scanned }
     ensures line { FindsLine bytes.now result }
@@ -21,8 +21,8 @@ pub(crate) fn line_end(bytes: &[u8], scanned: usize, counts: &mut Counts) -> Opt
     None
 }
 
-/// Whether the CR LF after a body is there. Err where another byte is in its place: so many bytes
-/// show it.
+/// Whether the CR LF after a body is there. Err where another byte is in its place, with how
+/// many bytes show it.
 #[tactic(auto, using(crate::proofs::BodyEnds::ends))]
 pub(crate) fn body_ends(bytes: &[u8]) -> Result<bool, usize>
     ensures end { EndsBody bytes.now result }

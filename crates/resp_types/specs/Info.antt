@@ -58,8 +58,8 @@ abbrev pub value_at : List ℕ → InfoDict → Option Value
 value_at key dict = lookup (is_at (λ k. slice_cmp nat_cmp key (string_bytes k))) (entries_of dict)
 
 -- what a dictionary gives of a value as a type: none where there is no value or it doesn't convert
-abbrev pub Gets : {X : Type 0} → (Value → X → Type 0) → Option Value → Result (Option X) ParsingError
-    → Type 0
+abbrev pub Gets : {X : Type 0} → (Value → X → Type 0) → Option Value
+    → Result (Option X) ParsingError → Type 0
 Gets Of (Some value) (Ok (Some x)) = Of value x
 Gets {X} Of (Some value) (Ok None) = (x : X) → Of value x → ⊥
 Gets Of None (Ok found) = found ≡ None

@@ -44,7 +44,7 @@ impl IncrexResult {
         Ok((value, self.actual_increment_as(alloc)?))
     }
 
-    /// An equal reply. Fails only for want of memory.
+    /// An equal reply. Fails only when out of memory.
     pub fn try_clone(&self, alloc: Global) -> Result<IncrexResult, AllocError>
         ensures { IfOk result (λ r. r ≡ self.now) }
     {

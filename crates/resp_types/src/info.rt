@@ -96,7 +96,7 @@ impl InfoDict {
         &self.map
     }
 
-    /// A dictionary of equal entries. Fails only for want of memory.
+    /// A dictionary of equal entries. Fails only when out of memory.
     pub fn try_clone(&self, alloc: Global) -> Result<InfoDict, AllocError>
         ensures { IfOk result (λ copy. AllZip SameEntry (entries_of self.now) (entries_of copy)) }
     {

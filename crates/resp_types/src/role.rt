@@ -54,7 +54,7 @@ pub struct ReplicaInfo {
 }
 
 impl ReplicaInfo {
-    /// An equal replica. Fails only for want of memory.
+    /// An equal replica. Fails only when out of memory.
     pub fn try_clone(&self, alloc: Global) -> Result<ReplicaInfo, AllocError>
         ensures { IfOk result (λ info. info ≡ self.now) }
     {
@@ -67,7 +67,7 @@ impl ReplicaInfo {
 }
 
 impl Role {
-    /// An equal role. Fails only for want of memory.
+    /// An equal role. Fails only when out of memory.
     pub fn try_clone(&self, alloc: Global) -> Result<Role, AllocError>
         ensures { IfOk result (λ role. role ≡ self.now) }
     {

@@ -101,7 +101,7 @@ impl ValueType {
         }
     }
 
-    /// An equal type. Fails only for want of memory.
+    /// An equal type. Fails only when out of memory.
     pub fn try_clone(&self, alloc: Global) -> Result<ValueType, AllocError>
         ensures { IfOk result (λ t. t ≡ self.now) }
     {

@@ -122,7 +122,7 @@ fn add_next(rt: &(impl Abort + AllocGlobal), parser: &mut Parser, text: &mut Str
     }
 }
 
-/// Adds what the next values show, so many at most, and a refusal.
+/// Adds what the next values show, `most` of them at most, and a refusal.
 fn add_all(rt: &(impl Abort + AllocGlobal), parser: &mut Parser, most: usize, text: &mut String) {
     for _ in 0..most {
         if !add_next(rt, parser, text) {

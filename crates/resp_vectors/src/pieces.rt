@@ -103,7 +103,7 @@ fn feed_singly(rt: &(impl Abort + AllocGlobal), parser: &mut Parser, bytes: &[u8
     }
 }
 
-/// The middle, with so many of the first text before it and as many of the last after it.
+/// The middle, with the first text `times` times before it and the last as often after it.
 fn around(
     rt: &(impl Abort + AllocGlobal),
     times: usize,

@@ -18,7 +18,7 @@ fn faults(rt: &(impl Abort + AllocGlobal), bytes: &[u8], wanted: &str) {
     has_failed_at(rt, &parser, bytes.len());
 }
 
-/// The parser has failed, at so many bytes after the last value.
+/// The parser has failed, at `offset` bytes after the last value.
 fn has_failed_at(rt: &impl Abort, parser: &Parser, offset: usize) {
     assert!(rt; parser.is_failed());
     assert_eq!(rt; parser.fault_offset(), Some(offset));

@@ -88,7 +88,7 @@ fn a_push_with_attributes_is_a_reply(rt: HostRuntime) {
     lists(&rt, &link, "[]");
 }
 
-/// Over these bytes a request for so many replies is refused with this fault and breaks the link,
+/// Over these bytes a request for `count` replies is refused with this fault and breaks the link,
 /// which has set aside the push before the fault.
 fn breaks_after_a_push(
     rt: &(impl Abort + AllocGlobal),

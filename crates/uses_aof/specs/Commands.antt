@@ -13,4 +13,5 @@ has_first (name ∷ rest) = true
 
 -- a command is an array of words, one at least
 abbrev pub is_array_of_some : Value → Bool
-is_array_of_some value = elim (out-Value value) [ Value-F.Array words ↦ has_first words | _ ↦ false ]
+is_array_of_some value =
+    elim (out-Value value) [ Value-F.Array words ↦ has_first words | _ ↦ false ]

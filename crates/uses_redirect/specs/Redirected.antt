@@ -1,6 +1,6 @@
 -- What a query does that follows one redirect. `sends` says which errors send to which address and
--- slot, `IsMoved` and `IsAsk` which of them at once and which after ASKING; `asks` and `queries` say
--- what ASKING and the query do over a connection.
+-- slot, `IsMoved` and `IsAsk` which of them at once and which after ASKING; `asks` and `queries`
+-- say what ASKING and the query do over a connection.
 use Rattle.std.specs.Prelude.{◌≡◌, ℕ, ◌⊎◌, List, [], ◌∷◌, Result, Ok, Err, IsErrAnd, IsOk, codes}
 use Rattle.resp_core.specs.Connections.{Command, Connection, new_command}
 

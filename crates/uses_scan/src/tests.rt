@@ -121,7 +121,7 @@ fn refusals(rt: HostRuntime) {
     begins(&rt, &["SCAN"], "-ERR x\r\n", ("refused: ", 2));
 }
 
-/// The cursor of this command comes after so many words.
+/// The cursor of this command comes after `place` words.
 fn stands_at(rt: &(impl Abort + AllocGlobal), name: &str, place: usize) {
     let words = words_of(rt, &[name]);
     assert_eq!(rt; cursor_place(words.as_slice()), place);

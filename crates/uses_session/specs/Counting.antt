@@ -32,8 +32,8 @@ pub record WatchedAndRead (of_watch : Value → Unit {0} → Type 0)
   pub watches : CommandQuery before watched (of_key (codes "WATCH") key) of_watch (Ok tt)
   pub reads : CommandQuery watched now (of_key (codes "GET") key) of_held (Ok held)
 
--- the last thing after these is a transaction that set the key to the number, which is one more than
--- it held; the transaction was done
+-- the last thing after these is a transaction that set the key to the number, which is one more
+-- than it held; the transaction was done
 pub record CountedUp (of_watch : Value → Unit {0} → Type 0) (of_held : Value → Option ℤ → Type 0)
     (of_done : Value → Option (Unit {0}) → Type 0) (now : Connection) (key : List ℕ) (number : ℤ)
     : Type 0 where

@@ -13,7 +13,7 @@ use resp_core::{
 use std::alloc::Global;
 
 /// Raises the number of a key by one and answers what it is then; `None` where other clients
-/// changed it during each of so many attempts.
+/// changed it during each attempt.
 ///
 /// A number that is answered is one more than was read after the key was watched, and was set by
 /// the last request, a transaction that was not aborted.

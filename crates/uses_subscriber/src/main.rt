@@ -2,7 +2,7 @@
 //!
 //! It writes requests to standard output, reads what the server sends from standard input, and
 //! prints each message on a line of standard error, so that a pipe can join it to a server. The
-//! exit status is 0 after so many rounds, 1 for other words, 2 where a call was refused.
+//! exit status is 0 after all rounds, 1 for other words, 2 where a call was refused.
 #![tactic(auto)]
 
 mod subscriber;
