@@ -36,7 +36,7 @@ pub(crate) struct Body {
 }
 
 impl Body {
-    /// Takes what it lacks, or all of the bytes if they are fewer; tells how many.
+    /// Takes what it lacks, or all of the bytes if they are fewer; answers how many.
     fn fill(&mut self, bytes: &[u8]) -> Result<usize, AllocError>
         ensures fills { FillsBody self.old bytes.now self.new result }
     {
@@ -86,9 +86,9 @@ pub(crate) enum Step {
 pub(crate) struct Machine {
     pub(crate) frames: Frames,
     pub(crate) body: Option<Body>,
-    /// So many bytes of the line in progress were looked at and hold no CR LF.
+    /// How many bytes of the line in progress were looked at; they hold no CR LF.
     pub(crate) scanned: usize,
-    /// So many bytes of the call that met a fault show it.
+    /// How many bytes of the call that met a fault show it.
     pub(crate) shown: usize,
 }
 
@@ -122,8 +122,8 @@ impl Machine {
         why
     }
 
-    /// Begins what a header announces; Some is a value that is whole with it. So many bytes are at
-    /// hand after it.
+    /// Begins what a header announces; Some is a value that is whole with it. After it `at_hand`
+    /// bytes are there.
     fn begin(
         &mut self,
         alloc: Global,
@@ -281,7 +281,7 @@ impl Machine {
         }
     }
 
-    /// Goes on until a value is whole or more bytes are needed; tells how many it took.
+    /// Goes on until a value is whole or more bytes are needed; answers how many it took.
     pub(crate) fn drive(
         &mut self,
         alloc: Global,

@@ -72,7 +72,7 @@ impl Write for Full {
 pub enum Step {
     /// These bytes, as many as fit; of a writer, that it took as many.
     Moves(&'static [u8]),
-    /// So many bytes of `x`, as many as fit; of a writer, that it took as many.
+    /// This many bytes of `x`, as many as fit; of a writer, that it took as many.
     Fills(usize),
     /// A failure of this kind.
     Fails(io::ErrorKind),

@@ -297,7 +297,7 @@ fn reads_replies(rt: HostRuntime) {
     }
 }
 
-/// So many times two replies.
+/// Two replies, `times` times.
 fn pairs_of_replies(rt: &(impl Abort + AllocGlobal), times: usize) -> Vec<u8> {
     let mut replies = Vec::new(rt.alloc());
     for _ in 0..times {
