@@ -26,7 +26,7 @@ on_both a b c vs ws h k = record {
 }
 
 -- a value that was parsed, and set aside where it is a push
-on_value : (s t : Source) (unparsed : List ℕ) (new : State) (p : List PushInfo) (v : Value) → (s.observable ≡ true → t.observable ≡ true) → Parses unparsed new s t (Ok v) →
+on_value : {was : State} (s t : Source) (unparsed : List ℕ) (new : State) (p : List PushInfo) (v : Value) → (s.observable ≡ true → t.observable ≡ true) → Parses unparsed was new s t (Ok v) →
     ReadsOn (inflow_of unparsed s p) (inflow_of new.unparsed t (p ++ pushes_in (v ∷ []))) (v ∷ [])
 on_value s t unparsed new p v observable parsed = record {
   observable = observable;
@@ -35,7 +35,7 @@ on_value s t unparsed new p v observable parsed = record {
   failures = parsed.failures;
 }
 
-stops : (Needed : Type 0) (s t : Source) (unparsed : List ℕ) (new : State) (p : List PushInfo) (e : RedisError) → Needed → CannotParse unparsed e new s t → StopsReceiving Needed (inflow_of unparsed s p) (inflow_of new.unparsed t p) e
+stops : {was : State} (Needed : Type 0) (s t : Source) (unparsed : List ℕ) (new : State) (p : List PushInfo) (e : RedisError) → Needed → CannotParse unparsed e was new s t → StopsReceiving Needed (inflow_of unparsed s p) (inflow_of new.unparsed t p) e
 stops Needed s t unparsed new p e needed (faulty f filled is bad failed) =
     receiving.faulty f needed is (λ obs. HasFaultyPrefix-whole unparsed filled s t (failed.came obs) f bad) failed.failures
 stops Needed s t unparsed new p e needed (early_end filled is unfinished nothing failed) =
@@ -65,8 +65,8 @@ pub only_pushes_none : (at : Inflow) → OnlyPushes at at
 only_pushes_none at = record { values = []; on = on_nothing at; none = refl }
 
 -- one push more
-pub only_pushes_more : (old : Inflow) (s t : Source) (unparsed : List ℕ) (new : State) (p p' : List PushInfo) (v : Value) (info : PushInfo) →
-    OnlyPushes old (inflow_of unparsed s p) → (s.observable ≡ true → t.observable ≡ true) → Parses unparsed new s t (Ok v) →
+pub only_pushes_more : {was : State} (old : Inflow) (s t : Source) (unparsed : List ℕ) (new : State) (p p' : List PushInfo) (v : Value) (info : PushInfo) →
+    OnlyPushes old (inflow_of unparsed s p) → (s.observable ≡ true → t.observable ≡ true) → Parses unparsed was new s t (Ok v) →
     as_push v ≡ Some info → p' ≡ p ++ info ∷ [] → OnlyPushes old (inflow_of new.unparsed t p')
 only_pushes_more old s t unparsed new p p' v info so_far observable parsed push listed =
     let step = on_value s t unparsed new p v observable parsed in
@@ -78,8 +78,8 @@ only_pushes_more old s t unparsed new p p' v info so_far observable parsed push 
     }
 
 -- the reply after the pushes
-pub received_one : (old : Inflow) (s t : Source) (unparsed : List ℕ) (new : State) (p : List PushInfo) (v : Value) → OnlyPushes old (inflow_of unparsed s p) →
-    (s.observable ≡ true → t.observable ≡ true) → Parses unparsed new s t (Ok v) → as_push v ≡ None → Receives 1 old (inflow_of new.unparsed t p) (v ∷ [])
+pub received_one : {was : State} (old : Inflow) (s t : Source) (unparsed : List ℕ) (new : State) (p : List PushInfo) (v : Value) → OnlyPushes old (inflow_of unparsed s p) →
+    (s.observable ≡ true → t.observable ≡ true) → Parses unparsed was new s t (Ok v) → as_push v ≡ None → Receives 1 old (inflow_of new.unparsed t p) (v ∷ [])
 received_one old s t unparsed new p v so_far observable parsed reply =
     let step = on_value s t unparsed new p v observable parsed in
     let quiet : p ++ pushes_in (v ∷ []) ≡ p = rw reply (append-nil p) in
@@ -91,8 +91,8 @@ received_one old s t unparsed new p v so_far observable parsed reply =
     }
 
 -- no reply after the pushes
-pub received_none : (old : Inflow) (s t : Source) (unparsed : List ℕ) (new : State) (p : List PushInfo) (e : RedisError) → OnlyPushes old (inflow_of unparsed s p) →
-    (s.observable ≡ true → t.observable ≡ true) → Parses unparsed new s t (Err e) → CannotReceive 1 old (inflow_of new.unparsed t p) e
+pub received_none : {was : State} (old : Inflow) (s t : Source) (unparsed : List ℕ) (new : State) (p : List PushInfo) (e : RedisError) → OnlyPushes old (inflow_of unparsed s p) →
+    (s.observable ≡ true → t.observable ≡ true) → Parses unparsed was new s t (Err e) → CannotReceive 1 old (inflow_of new.unparsed t p) e
 received_none old s t unparsed new p e so_far observable parses = record {
   values = so_far.values;
   at = inflow_of unparsed s p;
@@ -103,8 +103,8 @@ received_none old s t unparsed new p e so_far observable parses = record {
 }
 
 -- a push that found no room
-pub no_room : (old : Inflow) (s t : Source) (unparsed : List ℕ) (new : State) (p : List PushInfo) (v : Value) → OnlyPushes old (inflow_of unparsed s p) →
-    (s.observable ≡ true → t.observable ≡ true) → Parses unparsed new s t (Ok v) → CannotReceive 1 old (inflow_of new.unparsed t p) form.OutOfMemory
+pub no_room : {was : State} (old : Inflow) (s t : Source) (unparsed : List ℕ) (new : State) (p : List PushInfo) (v : Value) → OnlyPushes old (inflow_of unparsed s p) →
+    (s.observable ≡ true → t.observable ≡ true) → Parses unparsed was new s t (Ok v) → CannotReceive 1 old (inflow_of new.unparsed t p) form.OutOfMemory
 no_room old s t unparsed new p v so_far observable parsed = record {
   values = so_far.values;
   at = inflow_of unparsed s p;

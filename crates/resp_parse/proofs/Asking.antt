@@ -5,7 +5,7 @@ use Rattle.resp_errors.specs.declared.kinds.IoKind.TheVariants.{UnexpectedEof}
 use Rattle.resp_errors.specs.declared.redis_error.RedisError.TheVariants as form
 use Rattle.resp_parse.specs.State.{State, StandsAfter}
 use Rattle.resp_parse.specs.Source.{Source, Fills}
-use Rattle.resp_parse.specs.Calls.{Filled, Asks, CannotFill}
+use Rattle.resp_parse.specs.Calls.{Received, Filled, Asks, CannotFill}
 use Rattle.resp_parse.proofs.ParserStates.{StandsAfter-works, StandsAfter-since, StandsAfter-from_since, StandsAfter-fed, FailedAfter-failed}
 
 pub take-some : (n : ℕ) (xs : List ℕ) → (n ≡ 0 → ⊥) → 0 < length xs → 0 < length (take n xs)
@@ -32,17 +32,18 @@ module _ (old new : State) (b : List ℕ) (h : StandsAfter old b) where
   Asks-source_failed w e s t before after kind f =
       CannotFill.source_failed kind refl (λ obs. sym (f.bytes obs)) f.failures (StandsAfter-from_since new b (w ∙ StandsAfter-works old b h) (StandsAfter-since old b h ∙ sym e))
 
-  filled : (s t : Source) (before after : List ℕ) (n : ℕ) → new.failed ≡ old.failed → new.since ≡ old.since ++ take n after → Fills s t before after (Ok n) → Filled b new s t
-  filled s t before after n w e f = record {
+  filled : (s t : Source) (before after : List ℕ) (n : ℕ) → new.failed ≡ old.failed → new.since ≡ old.since ++ take n after → Received (take n after) old new → Fills s t before after (Ok n) → Filled b old new s t
+  filled s t before after n w e k f = record {
     filled = take n after;
     came = λ obs. (f.bytes obs).0;
+    received = k;
     stands = StandsAfter-fed old new b (take n after) h w e;
     failures = f.failures;
   }
 
-  pub Asks-filled : new.failed ≡ old.failed → (s t : Source) (before after : List ℕ) (n : ℕ) → new.since ≡ old.since ++ take n after → Fills s t before after (Ok n) → length before ≤ 4096 → 0 < length (take n after) → Asks b new s t (Ok tt)
+  pub Asks-filled : new.failed ≡ old.failed → (s t : Source) (before after : List ℕ) (n : ℕ) → new.since ≡ old.since ++ take n after → Received (take n after) old new → Fills s t before after (Ok n) → length before ≤ 4096 → 0 < length (take n after) → Asks b old new s t (Ok tt)
   unfolding filled
-  Asks-filled w s t before after n e f size some =
+  Asks-filled w s t before after n e k f size some =
       let most : length (take n after) ≤ n = take-most n after in
       let bound : n ≤ length before = f.bound in
-      record { more = filled s t before after n w e f; some = some; size = omega (arith, most, bound, size) }
+      record { more = filled s t before after n w e k f; some = some; size = omega (arith, most, bound, size) }

@@ -6,7 +6,7 @@ use Rattle.resp_parse.specs.declared.stop.Stop.{Stop}
 use Rattle.resp_parse.specs.declared.frames.Frame.{Frame}
 use Rattle.resp_parse.specs.declared.machine.Body.{Body}
 use Rattle.resp_parse.specs.declared.machine.Machine.{Machine}
-use Rattle.resp_parse.specs.Tally.{Tally}
+use Rattle.resp_parse.specs.Tally.{Tally, nothing_done}
 use Rattle.resp_parse.specs.State.{State}
 use Rattle.resp_parse.specs.Bounds.{Bounded, OneCall}
 use Rattle.resp_parse.specs.Resume.{fresh_of, IsScanned}
@@ -64,7 +64,7 @@ pub levels-fresh : (m : Machine) → fresh_of m.body m.frames ≡ true → lengt
 levels-fresh m f = let n = nothing_open m.body m.frames f in rw n.no_frame (omega arith)
 
 -- nothing was done
-pub Counted-new : (m : Machine) (u : List ℕ) (c : Tally) → c ≡ record { turns = 0; came = 0; taken = 0; calls = 0 } → fresh_of m.body m.frames ≡ true → m.scanned ≡ 0 → u ≡ [] → Counted m u c false
+pub Counted-new : (m : Machine) (u : List ℕ) (c : Tally) → c ≡ nothing_done → fresh_of m.body m.frames ≡ true → m.scanned ≡ 0 → u ≡ [] → Counted m u c false
 Counted-new m u c e f s n = rw (e, n) (record { turns = omega arith; taken = omega arith; works = λ _. record { pays = omega (arith, credit-fresh m f s); accounted = omega (arith, s) } })
 
 -- bytes came by a call

@@ -1,5 +1,6 @@
 -- A parser that took and asked by turns answers as a parsing call has to. No body of `StandsAfter` is used.
-use Rattle.std.proofs.Common.{◌≡◌, ℕ, List, [], ◌++◌, refl, sym, ap, ◌∙◌, append_assoc, subst, arith, true, Option, Result, Ok, Err, Some, None}
+use Rattle.std.proofs.Common.{◌≡◌, ℕ, ◌+◌, length, List, [], ◌++◌, refl, sym, ap, ◌∙◌, append_assoc, subst, arith, true, Option, Result, Ok, Err, Some, None}
+use Rattle.std.proofs.lemmas.Grind.{common_steps}
 use Rattle.std.proofs.lemmas.List.{append-nil}
 use Rattle.resp_value.specs.declared.value.Value.{Value}
 use Rattle.resp_errors.specs.declared.redis_error.RedisError.{RedisError}
@@ -7,68 +8,79 @@ use Rattle.resp_errors.specs.declared.redis_error.RedisError.TheVariants as form
 use Rattle.resp_parse.specs.State.{State, StandsAfter, FailedAfter}
 use Rattle.resp_parse.specs.Source.{Source, Came, source_of}
 use Rattle.resp_parse.specs.Prefixes.{SpelledWithin}
-use Rattle.resp_parse.specs.Calls.{Takes, CannotTake, Filled, Asks, CannotFill, AsNeeded, Parses, ParsesReader, Parsed, Failed, CannotParse}
+use Rattle.resp_parse.specs.Calls.{Received, Takes, CannotTake, Filled, Asks, CannotFill, AsNeeded, Parses, ParsesReader, Parsed, Failed, CannotParse}
 
--- what was filled since the parser stood after b
-pub record FilledAsNeeded (b : List ℕ) (p : State) (s t : Source) : Type 0 where
-  pub more : Filled b p s t
+-- what was filled since the parser was `old` and stood after b
+pub record FilledAsNeeded (b : List ℕ) (old p : State) (s t : Source) : Type 0 where
+  pub more : Filled b old p s t
   pub needed : AsNeeded b more.filled
 
-pub FilledAsNeeded-none : (b : List ℕ) (p : State) (s : Source) → StandsAfter p b → FilledAsNeeded b p s s
+pub FilledAsNeeded-none : (b : List ℕ) (p : State) (s : Source) → StandsAfter p b → FilledAsNeeded b p p s s
 FilledAsNeeded-none b p s h = record {
-  more = record { filled = []; came = λ _. refl; stands = subst (StandsAfter p) (sym (append-nil b)) h; failures = refl };
+  more = record { filled = []; came = λ _. refl; received = omega arith; stands = subst (StandsAfter p) (sym (append-nil b)) h; failures = refl };
   needed = record { before = []; last = []; whole = refl; size = omega arith; unfinished = λ some. absurd (some refl) };
 }
 
 -- after b, the source has filled some bytes, and the parser stands after them
-module _ (b : List ℕ) (p : State) (s t : Source) (k : FilledAsNeeded b p s t) where
-  pub Parsed-taken : (new : State) (v : Value) → Takes (b ++ k.more.filled) new (Ok (Some v)) → SpelledWithin (b ++ k.more.filled) new.unparsed → Parsed b v new s t
-  Parsed-taken new v w l = record { filled = k.more.filled; came = k.more.came; needed = k.needed; value = w.0; spelled = l; rest = w.1; failures = k.more.failures }
+module _ (b : List ℕ) (old p : State) (s t : Source) (k : FilledAsNeeded b old p s t) where
+  -- then nothing was received
+  Received-no_more : (new : State) → new.counts.came ≡ p.counts.came → Received k.more.filled old new
+  Received-no_more new e = e ∙ k.more.received
 
-  Failed-taken : (new : State) → FailedAfter new (b ++ k.more.filled) → Failed b k.more.filled new s t
-  Failed-taken new h = record { came = k.more.came; needed = k.needed; failed = h; failures = k.more.failures }
+  pub Parsed-taken : (new : State) (v : Value) → new.counts.came ≡ p.counts.came → Takes (b ++ k.more.filled) new (Ok (Some v)) → SpelledWithin (b ++ k.more.filled) new.unparsed → Parsed b v old new s t
+  Parsed-taken new v e w l = record { filled = k.more.filled; came = k.more.came; received = Received-no_more new e; needed = k.needed; value = w.0; spelled = l; rest = w.1; failures = k.more.failures }
 
-  pub CannotParse-taken : (new : State) (e : RedisError) → Takes (b ++ k.more.filled) new (Err e) → CannotParse b e new s t
-  CannotParse-taken new e (CannotTake.faulty f i w, h) = CannotParse.faulty f k.more.filled i w (Failed-taken new h)
-  CannotParse-taken new e (CannotTake.out_of_memory i, h) = CannotParse.out_of_memory k.more.filled i (Failed-taken new h)
+  Failed-taken : (new : State) → new.counts.came ≡ p.counts.came → FailedAfter new (b ++ k.more.filled) → Failed b k.more.filled old new s t
+  Failed-taken new e h = record { came = k.more.came; received = Received-no_more new e; needed = k.needed; failed = h; failures = k.more.failures }
+
+  pub CannotParse-taken : (new : State) (e : RedisError) → new.counts.came ≡ p.counts.came → Takes (b ++ k.more.filled) new (Err e) → CannotParse b e old new s t
+  CannotParse-taken new e z (CannotTake.faulty f i w, h) = CannotParse.faulty f k.more.filled i w (Failed-taken new z h)
+  CannotParse-taken new e z (CannotTake.out_of_memory i, h) = CannotParse.out_of_memory k.more.filled i (Failed-taken new z h)
 
   -- what was filled is unfinished, and the source was asked once more
-  module _ (mid : State) (w : Takes (b ++ k.more.filled) mid (Ok None)) (u : Source) (observable : s.observable ≡ true → t.observable ≡ true) where
+  module _ (mid : State) (same : mid.counts.came ≡ p.counts.came) (w : Takes (b ++ k.more.filled) mid (Ok None)) (u : Source) (observable : s.observable ≡ true → t.observable ≡ true) where
     Came-asked : (more : List ℕ) → Came t more u → Came s (k.more.filled ++ more) u
     Came-asked more c = λ obs. k.more.came obs ∙ ap (λ z. k.more.filled ++ z) (c (observable obs)) ∙ sym (append_assoc k.more.filled more u.bytes)
 
     Came-none : Came t [] u → Came s k.more.filled u
     Came-none c = λ obs. k.more.came obs ∙ ap (λ z. k.more.filled ++ z) (c (observable obs))
 
-    pub FilledAsNeeded-asked : (new : State) → Asks (b ++ k.more.filled) new t u (Ok tt) → FilledAsNeeded b new s u
+    Received-asked : (new : State) (more : List ℕ) → Received more mid new → Received (k.more.filled ++ more) old new
+    Received-asked new more r = let before = k.more.received in let both : length (k.more.filled ++ more) ≡ length k.more.filled + length more = grind (arith, common_steps) in omega (arith, r, same, before, both)
+
+    pub FilledAsNeeded-asked : (new : State) → Asks (b ++ k.more.filled) mid new t u (Ok tt) → FilledAsNeeded b old new s u
     FilledAsNeeded-asked new a = record {
       more = record {
         filled = k.more.filled ++ a.more.filled;
         came = Came-asked a.more.filled a.more.came;
+        received = Received-asked new a.more.filled a.more.received;
         stands = subst (StandsAfter new) (append_assoc b k.more.filled a.more.filled) a.more.stands;
         failures = a.more.failures ∙ k.more.failures;
       };
       needed = record { before = k.more.filled; last = a.more.filled; whole = refl; size = a.size; unfinished = λ _. w.0 };
     }
 
-    Failed-asked : (new : State) → Came t [] u → u.failures ≡ t.failures → FailedAfter new (b ++ k.more.filled) → Failed b k.more.filled new s u
-    Failed-asked new c f h = record { came = Came-none c; needed = k.needed; failed = h; failures = f ∙ k.more.failures }
+    -- the source gave nothing
+    module _ (new : State) (none : new.counts.came ≡ mid.counts.came) where
+      Failed-asked : Came t [] u → u.failures ≡ t.failures → FailedAfter new (b ++ k.more.filled) → Failed b k.more.filled old new s u
+      Failed-asked c f h = record { came = Came-none c; received = Received-no_more new (none ∙ same); needed = k.needed; failed = h; failures = f ∙ k.more.failures }
 
-    pub CannotParse-asked : (new : State) (e : RedisError) → CannotFill (b ++ k.more.filled) e new t u → CannotParse b e new s u
-    CannotParse-asked new e (CannotFill.early_end i c end f h) = CannotParse.early_end k.more.filled i w.0 (λ obs. end (observable obs)) (Failed-asked new c f h)
-    CannotParse-asked new e (CannotFill.source_failed kind i c f h) = CannotParse.source_failed kind i (record {
-      filled = k.more.filled;
-      came = Came-none c;
-      unfinished = w.0;
-      stands = h;
-      failures = rw (← k.more.failures) f;
-    })
-    CannotParse-asked new e (CannotFill.out_of_memory i c f h) = CannotParse.out_of_memory k.more.filled i (Failed-asked new c f h)
+      pub CannotParse-asked : (e : RedisError) → CannotFill (b ++ k.more.filled) e new t u → CannotParse b e old new s u
+      CannotParse-asked e (CannotFill.early_end i c end f h) = CannotParse.early_end k.more.filled i w.0 (λ obs. end (observable obs)) (Failed-asked c f h)
+      CannotParse-asked e (CannotFill.source_failed kind i c f h) = CannotParse.source_failed kind i (record {
+        filled = k.more.filled;
+        came = Came-none c;
+        received = Received-no_more new (none ∙ same);
+        unfinished = w.0;
+        stands = h;
+        failures = rw (← k.more.failures) f;
+      })
+      CannotParse-asked e (CannotFill.out_of_memory i c f h) = CannotParse.out_of_memory k.more.filled i (Failed-asked c f h)
 
-  pub CannotParse-failed : (new : State) (e : RedisError) → e ≡ form.OutOfMemory → FailedAfter new (b ++ k.more.filled) → CannotParse b e new s t
-  CannotParse-failed new e i h = CannotParse.out_of_memory k.more.filled i (Failed-taken new h)
+  pub CannotParse-failed : (new : State) (e : RedisError) → new.counts.came ≡ p.counts.came → e ≡ form.OutOfMemory → FailedAfter new (b ++ k.more.filled) → CannotParse b e old new s t
+  CannotParse-failed new e z i h = CannotParse.out_of_memory k.more.filled i (Failed-taken new z h)
 
 -- a reader that was used up, as the source that counted its failures
-pub ParsesReader-source : {R : Type 0} (remaining : R → Option (List ℕ)) (b : List ℕ) (new : State) (reader left : R) (n : ℕ) (s : Source) (r : Result Value RedisError) → s ≡ source_of (remaining reader) 0 →
-    Parses b new s (source_of (remaining left) n) r → ParsesReader remaining b new reader r
-ParsesReader-source remaining b new reader left n s r e h = record { left = left; failures = n; parses = subst (λ (x : Source). Parses b new x (source_of (remaining left) n) r) e h }
+pub ParsesReader-source : {R : Type 0} (remaining : R → Option (List ℕ)) (b : List ℕ) (old new : State) (reader left : R) (n : ℕ) (s : Source) (r : Result Value RedisError) → s ≡ source_of (remaining reader) 0 →
+    Parses b old new s (source_of (remaining left) n) r → ParsesReader remaining b old new reader r
+ParsesReader-source remaining b old new reader left n s r e h = record { left = left; failures = n; parses = subst (λ (x : Source). Parses b old new x (source_of (remaining left) n) r) e h }

@@ -38,7 +38,7 @@ pub record OneCall (c d : Tally) : Type 0 where
 abbrev pub CallsWithin : Tally → Tally → Type 0
 CallsWithin c d = d.calls + c.came ≤ c.calls + 1 + d.came
 
--- asking a source counts no call; some bytes came, unless it is refused
+-- asking a source counts no call; some bytes came, or none where it is refused
 abbrev pub AskedFor : {X E : Type 0} → Tally → Tally → Result X E → Type 0
 AskedFor c d (Ok x) = (d.calls ≡ c.calls) × (c.came + 1 ≤ d.came)
-AskedFor c d (Err e) = (d.calls ≡ c.calls) × (c.came ≤ d.came)
+AskedFor c d (Err e) = (d.calls ≡ c.calls) × (d.came ≡ c.came)

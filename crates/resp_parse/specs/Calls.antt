@@ -1,6 +1,6 @@
 -- What the calls of a parser answer that stood after b: how it stands then, and, where a source was
--- asked, how that went from s to t.
-use Rattle.std.specs.Prelude.{◌≡◌, ◌≢◌, ◌<◌, ◌≤◌, ℕ, true, List, [], ◌++◌, length, Option, None, Some, Result, Ok, Err}
+-- asked, how that went from s to t, and that what was filled is all that was received.
+use Rattle.std.specs.Prelude.{◌≡◌, ◌≢◌, ◌<◌, ◌≤◌, ◌+◌, ℕ, true, List, [], ◌++◌, length, Option, None, Some, Result, Ok, Err}
 use Rattle.resp_value.specs.declared.value.Value.{Value}
 use Rattle.resp_errors.specs.declared.kinds.FrameFault.{FrameFault}
 use Rattle.resp_errors.specs.declared.kinds.IoKind.{IoKind}
@@ -35,10 +35,15 @@ Takes b new (Err e) = CannotTake b e × FailedAfter new b
 
 -- Asking a source once.
 
+-- as many bytes more were received as these are
+abbrev pub Received : List ℕ → State → State → Type 0
+Received filled old new = new.counts.came ≡ old.counts.came + length filled
+
 -- the parser stands after b and what was filled; the source counted no failure
-pub record Filled (b : List ℕ) (new : State) (s t : Source) : Type 0 where
+pub record Filled (b : List ℕ) (old new : State) (s t : Source) : Type 0 where
   pub filled : List ℕ
   pub came : Came s filled t
+  pub received : Received filled old new
   pub stands : StandsAfter new (b ++ filled)
   pub failures : t.failures ≡ s.failures
 
@@ -52,15 +57,15 @@ pub data CannotFill (b : List ℕ) (e : RedisError) (new : State) (s t : Source)
       FailedAfter new b → CannotFill b e new s t
 
 -- some bytes were filled, at most 4,096
-pub record FilledSome (b : List ℕ) (new : State) (s t : Source) : Type 0 where
-  pub more : Filled b new s t
+pub record FilledSome (b : List ℕ) (old new : State) (s t : Source) : Type 0 where
+  pub more : Filled b old new s t
   pub some : 0 < length more.filled
   pub size : length more.filled ≤ 4096
 
 -- some bytes were filled, or why none were
-abbrev pub Asks : List ℕ → State → Source → Source → Result (Unit {0}) RedisError → Type 0
-Asks b new s t (Ok u) = FilledSome b new s t
-Asks b new s t (Err e) = CannotFill b e new s t
+abbrev pub Asks : List ℕ → State → State → Source → Source → Result (Unit {0}) RedisError → Type 0
+Asks b old new s t (Ok u) = FilledSome b old new s t
+Asks b old new s t (Err e) = CannotFill b e new s t
 
 -- Parsing: a source is asked as often as a value needs.
 
@@ -75,9 +80,10 @@ pub record AsNeeded (b filled : List ℕ) : Type 0 where
 
 -- the value at the start of b and what was filled, in at most 2^63 - 1 bytes: all that follows it
 -- is buffered; the source counted no failure
-pub record Parsed (b : List ℕ) (v : Value) (new : State) (s t : Source) : Type 0 where
+pub record Parsed (b : List ℕ) (v : Value) (old new : State) (s t : Source) : Type 0 where
   pub filled : List ℕ
   pub came : Came s filled t
+  pub received : Received filled old new
   pub needed : AsNeeded b filled
   pub value : HasGoodPrefix 100 (b ++ filled) v new.unparsed
   pub spelled : SpelledWithin (b ++ filled) new.unparsed
@@ -85,39 +91,44 @@ pub record Parsed (b : List ℕ) (v : Value) (new : State) (s t : Source) : Type
   pub failures : t.failures ≡ s.failures
 
 -- the parser has failed after b and what was filled; the source counted no failure
-pub record Failed (b filled : List ℕ) (new : State) (s t : Source) : Type 0 where
+pub record Failed (b filled : List ℕ) (old new : State) (s t : Source) : Type 0 where
   pub came : Came s filled t
+  pub received : Received filled old new
   pub needed : AsNeeded b filled
   pub failed : FailedAfter new (b ++ filled)
   pub failures : t.failures ≡ s.failures
 
 -- the source failed: the parser stands after b and what was filled, which are unfinished
-pub record StandsMidway (b : List ℕ) (new : State) (s t : Source) : Type 0 where
+pub record StandsMidway (b : List ℕ) (old new : State) (s t : Source) : Type 0 where
   pub filled : List ℕ
   pub came : Came s filled t
+  pub received : Received filled old new
   pub unfinished : IsUnfinished 100 (b ++ filled)
   pub stands : StandsAfter new (b ++ filled)
   pub failures : FailureCounted s.failures t.failures
 
 -- why no value is parsed: a fault in b and what was filled; the end of the source before that of a
 -- value; its failure; out of memory
-pub data CannotParse (b : List ℕ) (e : RedisError) (new : State) (s t : Source) : Type 0 where
+pub data CannotParse (b : List ℕ) (e : RedisError) (old new : State) (s t : Source) : Type 0 where
   faulty : (f : FrameFault) (filled : List ℕ) → e ≡ form.Parse (parsing.Fault f) →
-      HasFaultyPrefix 100 (b ++ filled) f → Failed b filled new s t → CannotParse b e new s t
+      HasFaultyPrefix 100 (b ++ filled) f → Failed b filled old new s t →
+      CannotParse b e old new s t
   early_end : (filled : List ℕ) → e ≡ form.Io UnexpectedEof → IsUnfinished 100 (b ++ filled) →
-      (s.observable ≡ true → t.bytes ≡ []) → Failed b filled new s t → CannotParse b e new s t
-  source_failed : (kind : IoKind) → e ≡ form.Io kind → StandsMidway b new s t →
-      CannotParse b e new s t
-  out_of_memory : (filled : List ℕ) → e ≡ form.OutOfMemory → Failed b filled new s t →
-      CannotParse b e new s t
+      (s.observable ≡ true → t.bytes ≡ []) → Failed b filled old new s t →
+      CannotParse b e old new s t
+  source_failed : (kind : IoKind) → e ≡ form.Io kind → StandsMidway b old new s t →
+      CannotParse b e old new s t
+  out_of_memory : (filled : List ℕ) → e ≡ form.OutOfMemory → Failed b filled old new s t →
+      CannotParse b e old new s t
 
-abbrev pub Parses : List ℕ → State → Source → Source → Result Value RedisError → Type 0
-Parses b new s t (Ok v) = Parsed b v new s t
-Parses b new s t (Err e) = CannotParse b e new s t
+abbrev pub Parses : List ℕ → State → State → Source → Source → Result Value RedisError → Type 0
+Parses b old new s t (Ok v) = Parsed b v old new s t
+Parses b old new s t (Err e) = CannotParse b e old new s t
 
 -- the same of a reader that was used up, for a state that it came to, and its failures
-pub record ParsesReader {R : Type 0} (remaining : R → Option (List ℕ)) (b : List ℕ) (new : State)
-    (reader : R) (r : Result Value RedisError) : Type 0 where
+pub record ParsesReader {R : Type 0} (remaining : R → Option (List ℕ)) (b : List ℕ)
+    (old new : State) (reader : R) (r : Result Value RedisError) : Type 0 where
   pub left : R
   pub failures : ℕ
-  pub parses : Parses b new (source_of (remaining reader) 0) (source_of (remaining left) failures) r
+  pub parses : Parses b old new (source_of (remaining reader) 0)
+      (source_of (remaining left) failures) r

@@ -9,3 +9,7 @@ pub record Tally : Type 0 where
   pub came : ℕ
   pub taken : ℕ
   pub calls : ℕ
+
+-- a parser that was made just now has done nothing
+abbrev pub nothing_done : Tally
+nothing_done = record { turns = 0; came = 0; taken = 0; calls = 0 }

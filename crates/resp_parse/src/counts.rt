@@ -1,6 +1,7 @@
 //! What a parser has done, which contracts alone see.
 
 ghost use Rattle.std.specs.Prelude.{◌≡◌, ◌+◌, length};
+ghost use Rattle.resp_parse.specs.Tally.{nothing_done};
 
 use boxcar::tag::{Names, Tag};
 use std::marker::Model;
@@ -53,7 +54,7 @@ fn add(tag: &mut Tag, n: usize)
 impl Counts {
     /// Nothing was done.
     pub(crate) fn new() -> Counts
-        ensures { result ≡ record { turns = 0; came = 0; taken = 0; calls = 0 } }
+        ensures { result ≡ nothing_done }
     {
         Counts {
             turns: Tag::empty(),

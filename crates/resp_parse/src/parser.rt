@@ -7,6 +7,7 @@ ghost use Rattle.resp_parse.specs.State.{KeepsFaultOffset};
 ghost use Rattle.resp_parse.specs.Prefixes.{SpelledWithin, FaultShownBy};
 ghost use Rattle.resp_parse.specs.Calls.{Feeds, Takes, Asks, Parses, ParsesReader};
 ghost use Rattle.resp_parse.specs.Bounds.{Bounded, FedBy, OneCall, CallsWithin, AskedFor};
+ghost use Rattle.resp_parse.specs.Tally.{nothing_done};
 
 use crate::counts::Counts;
 use crate::machine::Machine;
@@ -84,6 +85,7 @@ impl Parser {
         ensures rest { IsBetweenValues result }
         ensures empty { result.unparsed ≡ [] }
         ensures bounds { Bounded result }
+        ensures counts { result.counts ≡ nothing_done }
     {
         Parser {
             buffer: Vec::new(alloc),
@@ -194,7 +196,7 @@ impl Parser {
         ensures failed { self.old.failed ≡ true → (result ≡ Err has_failed) × (self.new ≡ self.old)
             × (S.source source.new ≡ S.source source.old) }
         ensures parses { (b : List ℕ) → StandsAfter self.old b →
-            Parses b self.new (S.source source.old) (S.source source.new) result }
+            Parses b self.old self.new (S.source source.old) (S.source source.new) result }
         ensures offset { self.old.failed ≡ false → KeepsFaultOffset self.new result }
         ensures bounds { Bounded self.new }
         ensures calls { CallsWithin self.old.counts self.new.counts }
@@ -222,7 +224,7 @@ impl Parser {
         ensures failed { self.old.failed ≡ true → (result ≡ Err has_failed)
             × (self.new ≡ self.old) }
         ensures parses { (b : List ℕ) → StandsAfter self.old b →
-            ParsesReader R.remaining b self.new reader result }
+            ParsesReader R.remaining b self.old self.new reader result }
         ensures offset { self.old.failed ≡ false → KeepsFaultOffset self.new result }
         ensures bounds { Bounded self.new }
         ensures calls { CallsWithin self.old.counts self.new.counts }
@@ -268,7 +270,7 @@ impl Parser {
     /// Asks the source once, for at most 4,096 bytes, and holds what it gives.
     fn ask<S: ReplySource>(&mut self, source: &mut S) -> RedisResult<()>
         ensures asks { (b : List ℕ) → StandsAfter self.old b →
-            Asks b self.new (S.source source.old) (S.source source.new) result }
+            Asks b self.old self.new (S.source source.old) (S.source source.new) result }
         ensures offset { self.new.fault_offset ≡ self.old.fault_offset }
         ensures bounds { Bounded self.new }
         ensures asked { AskedFor self.old.counts self.new.counts result }

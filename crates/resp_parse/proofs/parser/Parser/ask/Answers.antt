@@ -1,6 +1,7 @@
-use Rattle.std.proofs.Common.{◌≡◌, ◌+◌, ◌++◌, ℕ, length, take, drop, refl, ap, ◌∙◌, arith}
+use Rattle.std.proofs.Common.{◌≡◌, ◌+◌, ◌++◌, ℕ, length, take, drop, refl, ap, sym, ◌∙◌, arith}
 use Rattle.std.proofs.lemmas.Grind.{common_steps}
 use Rattle.resp_parse.specs.State.{State}
+use Rattle.resp_parse.specs.Tally.{Tally}
 use Rattle.resp_parse.proofs.Asking.{Asks-out_of_memory, Asks-early_end, Asks-source_failed, Asks-filled, take-some}
 use Rattle.resp_parse.proofs.Holding.{Holds-asked, fed-fits, fed-length}
 use Rattle.resp_parse.proofs.FaultOffsets.{Placed-longer}
@@ -28,7 +29,9 @@ returns-in_ok-extend_from_slice-in-Ok-clause-asks g c = λ b h.
     let e = c.self.view_is ∙ c.compact.ensures.same in
     Asks-filled c.args.self.now _ b h (ap (λ (s : State). s.failed) e)
     (g.S.ReplySource.source c.args.source.now) (g.S.ReplySource.source c.fill.new.self) _ c.fill.new.buf c.in-Ok.n
-    (c.append.ensures ∙ ap (λ (s : State). s.since ++ take c.in-Ok.n c.fill.new.buf) e) c.in-Ok.ensures.fills (grind (arith, common_steps))
+    (c.append.ensures ∙ ap (λ (s : State). s.since ++ take c.in-Ok.n c.fill.new.buf) e)
+    (let l : length (take c.in-Ok.n c.fill.new.buf) ≡ c.in-Ok.n = grind (arith, common_steps) in ap (λ (t : Tally). t.came) c.come.ensures ∙ ap (λ (s : State). s.counts.came + c.in-Ok.n) e ∙ ap (λ (k : ℕ). c.args.self.now.counts.came + k) (sym l))
+    c.in-Ok.ensures.fills (grind (arith, common_steps))
     (take-some c.in-Ok.n c.fill.new.buf c.in-Ok.n-test.1 (grind (arith, common_steps)))
 
 pub invariant_of-self-in-Ok : goal.invariant_of-self-in-Ok

@@ -11,5 +11,5 @@ invariant-loop g l =
       observable : (source l.fn.source).observable ≡ true → (source l.source).observable ≡ true;
       calls : l.self.counts.calls + l.fn.self.counts.came ≤ l.fn.self.counts.calls + l.self.counts.came;
       offset : l.fn.self.failed ≡ false → l.self.fault_offset ≡ None;
-      filled : (b : List ℕ) → StandsAfter l.fn.self b → FilledAsNeeded b l.self (source l.fn.source) (source l.source);
+      filled : (b : List ℕ) → StandsAfter l.fn.self b → FilledAsNeeded b l.fn.self l.self (source l.fn.source) (source l.source);
     }
