@@ -6,7 +6,7 @@ use Rattle.resp_value.specs.declared.value.Value.TheOpen.{Value-F}
 use Rattle.resp_value.specs.declared.names.PushKind.{PushKind}
 use Rattle.resp_value.specs.declared.names.VerbatimFormat.{VerbatimFormat}
 use Rattle.resp_errors.specs.declared.server_error.ServerError.{ServerError as Error}
-use Rattle.resp_parse.specs.Built.{sum_of_pairs, built_step, built}
+use Rattle.resp_parse.specs.Built.{sum_of_pairs, first_built, built_step, built}
 
 abbrev pub built_pair : Value × Value → ℕ × ℕ
 built_pair p = (built p.0, built p.1)
@@ -47,7 +47,7 @@ built-Array vs = ap built (sym (rolls-Array vs)) ∙ fold-roll-Value ℕ built_s
 pub built-Set : (vs : List Value) → built (Set vs) ≡ suc (sum (map built vs))
 built-Set vs = ap built (sym (rolls-Set vs)) ∙ fold-roll-Value ℕ built_step (Value-F.Set vs)
 
-pub built-Push : (k : PushKind) (vs : List Value) → built (Push k vs) ≡ suc (sum (map built vs))
+pub built-Push : (k : PushKind) (vs : List Value) → built (Push k vs) ≡ suc (first_built k (map built vs) + sum (map built vs))
 built-Push k vs = ap built (sym (rolls-Push k vs)) ∙ fold-roll-Value ℕ built_step (Value-F.Push k vs)
 
 pub built-Map : (ps : List (Value × Value)) → built (Map ps) ≡ suc (sum_of_pairs (map built_pair ps))

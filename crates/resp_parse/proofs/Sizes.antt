@@ -7,6 +7,7 @@ use Rattle.resp_errors.specs.ServerErrors.{server_error}
 use Rattle.resp_errors.specs.declared.kinds.FrameFault.TheVariants.{LineNotUtf8, NotDouble, NotBoolean, NoVerbatimFormat, BadPushKind}
 use Rattle.resp_value.specs.declared.value.Value.{Value, Okay, Int, SimpleString, BulkString, Array, Map, Boolean, Set, VerbatimString, Push, Double}
 use Rattle.resp_value.specs.declared.names.PushKind.{PushKind}
+use Rattle.resp_value.specs.declared.names.PushKind.TheVariants.{Other}
 use Rattle.resp_errors.specs.declared.kinds.FrameFault.{FrameFault}
 use Rattle.resp_value.specs.Views.{pairs}
 use Rattle.resp_parse.specs.declared.type_byte.TypeByte.{TypeByte}
@@ -20,7 +21,7 @@ use Rattle.resp_parse.specs.Double.{double_in, is_double}
 use Rattle.resp_containers.specs.Lossy.{lossy}
 use Rattle.resp_parse.specs.Grammar.{Announcement, complete, body, elements, invalid, with_valid, or_nil, or_empty_push, simple, boolean_in, bulk_error, verbatim_text, verbatim, is_colon, last_element, attribute, push_kind, push, announced}
 use Rattle.resp_parse.specs.Shapes.{body_value, elements_value, announced_in_line}
-use Rattle.resp_parse.specs.Built.{sum_of_pairs, built}
+use Rattle.resp_parse.specs.Built.{sum_of_pairs, first_built, built}
 use Rattle.std.proofs.lemmas.List.Sums.{sum_by-cons, sum-map}
 use Rattle.resp_parse.proofs.BuiltOf.{built_pair, built-Nil, built-Okay, built-Int, built-SimpleString, built-BulkString, built-ServerError, built-Boolean, built-Double, built-BigNumber, built-VerbatimString, built-Array, built-Set, built-Push, built-Map, built-Attribute}
 use Rattle.resp_parse.specs.Weights.{built_of}
@@ -41,13 +42,23 @@ attribute-small v vs =
     let p : sum_of_pairs (map built_pair (pairs (take (length vs) (v ∷ vs)))) ≤ built_of (take (length vs) (v ∷ vs)) = pairs-small (take (length vs) (v ∷ vs)) in
     rw e (omega (arith, last-small v vs, p, built-Attribute (last_element (v ∷ vs)) (pairs (take (length vs) (v ∷ vs)))))
 
+first-most : (k : PushKind) (ns : List ℕ) → first_built k ns ≤ 1
+first-most (Other []) [] = omega arith
+first-most _ _ = omega arith
+
+-- the first element of a push is one value
+named-built : (v : Value) (k : PushKind) → push_kind v ≡ Some k → built v ≡ 1
+named-built (SimpleString name) k e = built-SimpleString name
+named-built (BulkString name) k e = built-BulkString name
+named-built _ k e = absurd (cc)
+
 push-small : (vs : List Value) (v : Value) → push vs ≡ Ok v → built v ≤ suc (built_of vs)
 push-small [] v e = absurd (cc)
-push-small (first ∷ vs) v e = by_kind (push_kind first) e
+push-small (first ∷ vs) v e = by_kind (push_kind first) refl e
   where
-    by_kind : (k : Option PushKind) → elim k as (λ _. Result Value FrameFault) [ Some kind ↦ Ok (Push kind vs) | None ↦ Err BadPushKind ] ≡ Ok v → built v ≤ suc (built_of (first ∷ vs))
-    by_kind (Some kind) i = let z : Push kind vs ≡ v = cc in rw (← z) (omega (arith, built-Push kind vs, sum-map built vs, sum_by-cons built first vs))
-    by_kind None i = absurd (cc)
+    by_kind : (k : Option PushKind) → push_kind first ≡ k → elim k as (λ _. Result Value FrameFault) [ Some kind ↦ Ok (Push kind vs) | None ↦ Err BadPushKind ] ≡ Ok v → built v ≤ suc (built_of (first ∷ vs))
+    by_kind (Some kind) h i = let z : Push kind vs ≡ v = cc in rw (← z) (omega (arith, built-Push kind vs, first-most kind (map built vs), named-built first kind h, sum-map built vs, sum_by-cons built first vs))
+    by_kind None h i = absurd (cc)
 
 pub elements-small : (kind : ElementsKind) (vs : List Value) (v : Value) → 0 < length vs → elements_value kind vs ≡ Ok v → built v ≤ suc (built_of vs)
 elements-small elements_kind.Array vs v l e = let z : Array vs ≡ v = cc in rw (← z) (omega (arith, built-Array vs, sum-map built vs))
@@ -84,10 +95,15 @@ nil-small : (follows : ℕ → Announcement) (n : ℤ) → ((k : ℕ) → Small 
 nil-small follows (pos k) h = h k
 nil-small follows (negsuc k) h = built-Nil
 
+-- a push of no elements
+empty_push-small : built (Push (kind_named []) []) ≡ 1
+unfolding kind_named
+empty_push-small = built-Push (kind_named []) []
+
 push-or-small : (follows : ℕ → Announcement) (n : ℤ) → ((k : ℕ) → Small (follows k)) → Small (or_empty_push follows n)
-push-or-small follows (pos zero) h = built-Push (kind_named []) []
+push-or-small follows (pos zero) h = empty_push-small
 push-or-small follows (pos (suc k)) h = h (suc k)
-push-or-small follows (negsuc k) h = built-Push (kind_named []) []
+push-or-small follows (negsuc k) h = empty_push-small
 
 simple-small : (text : List ℕ) → built (simple text) ≡ 1
 simple-small text = by_test (bytes_eq text (codes "OK"))

@@ -21,8 +21,8 @@ pub fn law_of_completion()
     ensures law { (d : ℕ) (b : List ℕ) → IsUnfinished d b → Completion d b }
 {}
 
-/// A value is built of at most one third as many values as it has bytes, itself among them,
-/// whatever lengths its headers announce.
+/// A value is built of at most one third as many values as it has bytes, itself and the first
+/// elements of pushes among them, whatever lengths its headers announce.
 pub fn law_of_sizes()
     ensures law { (d : ℕ) (b : List ℕ) (v : Value) → Good d b v → 3 * built v ≤ length b }
 {}
