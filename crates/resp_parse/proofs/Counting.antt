@@ -17,11 +17,12 @@ use Rattle.resp_parse.proofs.Holding.{nothing_open}
 -- what a call began with, t, of what was counted before it, c, and what it came to, e
 record Begun (c t e : Tally) : Type 0 where
   turns : t.turns ≡ c.turns
+  looks : t.looks ≡ c.looks
   taken : t.taken ≡ c.taken
   came : e.came ≡ c.came
   calls : e.calls ≡ c.calls + 1
 
-begun : (c t e : Tally) → t ≡ record c { calls = c.calls + 1 } → e ≡ record t { turns = e.turns; taken = e.taken } → Begun c t e
+begun : (c t e : Tally) → t ≡ record c { calls = c.calls + 1 } → e ≡ record t { turns = e.turns; looks = e.looks; taken = e.taken } → Begun c t e
 begun c t e i s =
     let came : t.came ≡ c.came = ap (λ (x : Tally). x.came) i in
     let calls : t.calls ≡ c.calls + 1 = ap (λ (x : Tally). x.calls) i in
@@ -29,6 +30,7 @@ begun c t e i s =
     let calls' : e.calls ≡ t.calls = ap (λ (x : Tally). x.calls) s in
     record {
       turns = ap (λ (x : Tally). x.turns) i;
+      looks = ap (λ (x : Tally). x.looks) i;
       taken = ap (λ (x : Tally). x.taken) i;
       came = omega (arith, came, came');
       calls = omega (arith, calls, calls');
@@ -43,6 +45,7 @@ module _ (m new : Machine) (u : List ℕ) (c t e : Tally) (failed : Bool) where
       let r : length (drop n u) ≡ length u - n = grind (arith, common_steps) in
       record {
         turns = omega (arith, b.pays, p.1, g.turns, g.taken, g.calls);
+        looks = omega (arith, k.looks, p.0.once, g.looks, g.taken);
         taken = omega (arith, b.accounted, p.0.taken, g.taken, g.came, l, r, s);
         works = λ _. record { pays = omega (arith, b.pays, p.1, g.turns, g.taken, g.calls); accounted = omega (arith, b.accounted, p.0.taken, g.taken, g.came, l, r) };
       }
@@ -53,6 +56,7 @@ module _ (m new : Machine) (u : List ℕ) (c t e : Tally) (failed : Bool) where
       let g = begun c t e i p.0.same in
       record {
         turns = omega (arith, b.pays, p.1, g.turns, g.taken, g.calls);
+        looks = omega (arith, k.looks, p.0.once, g.looks, g.taken);
         taken = omega (arith, b.accounted, p.0.most, g.taken, g.came);
         works = λ z. absurd (let y : true ≡ false = z in cc);
       }
@@ -65,13 +69,14 @@ levels-fresh m f = let n = nothing_open m.body m.frames f in rw n.no_frame (omeg
 
 -- nothing was done
 pub Counted-new : (m : Machine) (u : List ℕ) (c : Tally) → c ≡ nothing_done → fresh_of m.body m.frames ≡ true → m.scanned ≡ 0 → u ≡ [] → Counted m u c false
-Counted-new m u c e f s n = rw (e, n) (record { turns = omega arith; taken = omega arith; works = λ _. record { pays = omega (arith, credit-fresh m f s); accounted = omega (arith, s) } })
+Counted-new m u c e f s n = rw (e, n) (record { turns = omega arith; looks = omega arith; taken = omega arith; works = λ _. record { pays = omega (arith, credit-fresh m f s); accounted = omega (arith, s) } })
 
 -- bytes came by a call
 pub Counted-fed : (m : Machine) (u v : List ℕ) (n : ℕ) (c d : Tally) (failed : Bool) → Counted m u c failed → d ≡ record c { came = c.came + n; calls = c.calls + 1 } → length v ≡ length u + n → Counted m v d failed
 Counted-fed m u v n c d failed k e l =
     rw e (record {
       turns = omega (arith, k.turns);
+      looks = k.looks;
       taken = omega (arith, k.taken);
       works = λ w. let b = k.works w in record { pays = omega (arith, b.pays); accounted = omega (arith, b.accounted, l) };
     })
@@ -81,12 +86,13 @@ pub Counted-asked : (m : Machine) (u v : List ℕ) (n : ℕ) (c d : Tally) (fail
 Counted-asked m u v n c d failed k e l =
     rw e (record {
       turns = omega (arith, k.turns);
+      looks = k.looks;
       taken = omega (arith, k.taken);
       works = λ w. let b = k.works w in record { pays = omega (arith, b.pays); accounted = omega (arith, b.accounted, l) };
     })
 
 pub Counted-failing : (m : Machine) (u : List ℕ) (c : Tally) (failed : Bool) → Counted m u c failed → Counted m u c true
-Counted-failing m u c failed k = record { turns = k.turns; taken = k.taken; works = λ e. absurd (let z : true ≡ false = e in cc) }
+Counted-failing m u c failed k = record { turns = k.turns; looks = k.looks; taken = k.taken; works = λ e. absurd (let z : true ≡ false = e in cc) }
 
 pub scanned-within : (b : Option Body) (n : ℕ) (u : List ℕ) → IsScanned b n u → n ≤ length u
 scanned-within None n u h = h.within
@@ -101,6 +107,7 @@ pub Bounded-from_kept : {offset : Option ℕ} (m : Machine) (u since : List ℕ)
     Bounded (record { unparsed = u; looked = m.scanned; since = since; failed = failed; fault_offset = offset; frames = length m.frames; built = built_in m.frames; counts = c })
 Bounded-from_kept m u since failed c n l h k p = record {
   turns = omega (arith, k.turns);
+  looks = k.looks;
   taken = k.taken;
   frames = l;
   works = λ w.

@@ -100,10 +100,13 @@ module _ (m new : Machine) (c d e : Tally) (buffer buffer' since since' bytes di
       let taken' : d.taken ≡ c.taken + length direct = ap (λ (x : Tally). x.taken) f.counts in
       let came' : d.came ≡ c.came = ap (λ (x : Tally). x.came) f.counts in
       let calls' : d.calls ≡ c.calls = ap (λ (x : Tally). x.calls) f.counts in
+      let looks : e.looks ≡ d.looks = ap (λ (x : Tally). x.looks) counted in
+      let looks' : d.looks ≡ c.looks = ap (λ (x : Tally). x.looks) f.counts in
       let l : length bytes ≡ length direct + length rest = ap length (sym joined) ∙ grind (arith, common_steps) in
       let v : length (drop consumed buffer') ≡ length (drop consumed buffer) + length rest = ap length unparsed ∙ grind (arith, common_steps) in
       record {
         turns = omega (arith, b.pays, f.turns, turns, taken, calls, taken', calls');
+        looks = omega (arith, k.looks, looks, looks', taken, taken');
         taken = omega (arith, k.taken, taken, came, taken', came', l);
         works = λ _. record {
           pays = omega (arith, b.pays, f.turns, f.saves, turns, taken, calls, taken', calls');

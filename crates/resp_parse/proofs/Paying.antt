@@ -7,7 +7,7 @@ use Rattle.resp_parse.specs.Tally.{Tally}
 use Rattle.resp_parse.specs.declared.machine.Step.TheVariants as step
 use Rattle.resp_parse.specs.Built.{built}
 use Rattle.resp_parse.specs.Weights.{weight, Weighs, StepWeighs, credit, frames_credit, body_credit, LooksAt, Places, Looks, Stopped, StepPays, DrivePays}
-use Rattle.resp_parse.proofs.Tallies.{SameButTurns, SameButTaken, taken-turns, taken-take, taken-both}
+use Rattle.resp_parse.proofs.Tallies.{SameButTurns, SameButTaken, taken-turns, taken-looks, taken-take, taken-both}
 
 -- a header of len + 3 bytes was looked at, of which some had been before, and begun
 module _ (m new : Machine) (c d e f : Tally) (len looked : ℕ) (bytes : List ℕ) (looked_is : looked ≡ m.scanned - 1) (looks : LooksAt looked bytes c d (Some len))
@@ -19,15 +19,23 @@ module _ (m new : Machine) (c d e f : Tally) (len looked : ℕ) (bytes : List �
   taken-now =
       let a : f.taken ≡ e.taken = ap (λ (t : Tally). t.taken) begun in
       let b : e.taken ≡ d.taken + (len + 3 - m.scanned) = ap (λ (t : Tally). t.taken) take in
-      let g : d.taken ≡ c.taken = ap (λ (t : Tally). t.taken) looks.0 in
+      let g : d.taken ≡ c.taken = ap (λ (t : Tally). t.taken) looks.0.same in
       let l : looked ≤ len + 1 = looks.2 in
       omega (arith, a, b, g, l, looked_is)
 
   same : SameButTaken c f
-  same = taken-both c d f (taken-turns c d looks.0) (taken-both d e f (taken-take d e (len + 3 - m.scanned) take) (taken-turns e f begun))
+  same = taken-both c d f (taken-looks c d looks.0.same) (taken-both d e f (taken-take d e (len + 3 - m.scanned) take) (taken-turns e f begun))
+
+  once : f.looks + c.taken ≤ c.looks + f.taken
+  once =
+      let a : f.looks ≡ e.looks = ap (λ (t : Tally). t.looks) begun in
+      let b : e.looks ≡ d.looks = ap (λ (t : Tally). t.looks) take in
+      let g : d.turns + c.looks ≡ c.turns + d.looks = looks.0.each in
+      let l : d.turns + looked ≤ c.turns + len + 2 = looks.1 in
+      omega (arith, a, b, g, l, looked_is, taken-now)
 
   pub header-looks : new.scanned ≡ 0 → Looks m new c f (len + 3)
-  header-looks z = record { same = same; taken = omega (arith, taken-now, z) }
+  header-looks z = record { same = same; once = once; taken = omega (arith, taken-now, z) }
 
   -- what began it may have made turns of its own
   pub header-pays : f.turns + (body_credit new.body + frames_credit new.frames) ≤ e.turns + (body_credit m.body + frames_credit m.frames) + 2 → new.scanned ≡ 0 →
@@ -37,7 +45,7 @@ module _ (m new : Machine) (c d e f : Tally) (len looked : ℕ) (bytes : List �
       omega (arith, p, z, l, looked_is, turns-looked, taken-now)
 
   pub header-stopped : len + 2 ≤ length bytes → (n : ℕ) → n ≡ length bytes + 1 → Stopped m c f n
-  header-stopped l n e = record { same = same; most = omega (arith, taken-now, l, e) }
+  header-stopped l n e = record { same = same; once = once; most = omega (arith, taken-now, l, e) }
 
   pub header-stop-pays : f.turns ≤ e.turns + (body_credit m.body + frames_credit m.frames) + 2 → f.turns + 3 * c.taken ≤ c.turns + credit m + 3 * f.taken
   header-stop-pays p =
@@ -51,11 +59,11 @@ pub record Spent (old m : Machine) (c d : Tally) (n : ℕ) : Type 0 where
   pub weighs : weight m ≤ weight old + n
 
 pub Spent-start : (m : Machine) (c : Tally) → Spent m m c c 0
-Spent-start m c = record { looks = record { same = refl; taken = omega arith }; pays = omega arith; weighs = omega arith }
+Spent-start m c = record { looks = record { same = refl; once = omega arith; taken = omega arith }; pays = omega arith; weighs = omega arith }
 
 module _ (old m : Machine) (c d : Tally) (at : ℕ) (h : Spent old m c d at) where
   looks-on : (new : Machine) (e : Tally) (n : ℕ) → Looks m new d e n → Looks old new c e (at + n)
-  looks-on new e n l = record { same = taken-both c d e h.looks.same l.same; taken = omega (arith, h.looks.taken, l.taken) }
+  looks-on new e n l = record { same = taken-both c d e h.looks.same l.same; once = omega (arith, h.looks.once, l.once); taken = omega (arith, h.looks.taken, l.taken) }
 
   pub Spent-end : (bytes : List ℕ) → DrivePays old m bytes c d (Ok (at, None))
   Spent-end bytes = (h.looks, omega (arith, h.pays))
@@ -70,6 +78,7 @@ module _ (old m : Machine) (c d : Tally) (at : ℕ) (h : Spent old m c d at) whe
   Spent-stops new e rest bytes x l s = (
     record {
       same = taken-both c d e h.looks.same s.0.same;
+      once = omega (arith, h.looks.once, s.0.once);
       most = omega (arith, h.looks.taken, s.0.most, l);
     },
     omega (arith, h.pays, s.1),
@@ -80,8 +89,11 @@ module _ (old m : Machine) (c d : Tally) (at : ℕ) (h : Spent old m c d at) whe
     taken-same : f.taken ≡ e.taken
     taken-same = ap (λ (t : Tally). t.taken) turns
 
+    once-settled : f.looks + c.taken ≤ c.looks + f.taken
+    once-settled = let looks-same : f.looks ≡ e.looks = ap (λ (t : Tally). t.looks) turns in omega (arith, h.looks.once, s.0.once, taken-same, looks-same)
+
     looks-settled : new.scanned ≡ mid.scanned → Looks old new c f (at + n)
-    looks-settled z = record { same = taken-both c d f h.looks.same (taken-both d e f s.0.same (taken-turns e f turns)); taken = omega (arith, h.looks.taken, s.0.taken, taken-same, z) }
+    looks-settled z = record { same = taken-both c d f h.looks.same (taken-both d e f s.0.same (taken-turns e f turns)); once = once-settled; taken = omega (arith, h.looks.taken, s.0.taken, taken-same, z) }
 
     pub Spent-settles : Places {X = Unit {0}} mid new e f (Ok tt) → Weighs new (weight mid + 3 * built v) (Ok None) → new.scanned ≡ mid.scanned → Spent old new c f (at + n)
     Spent-settles p k z = record { looks = looks-settled z; pays = omega (arith, h.pays, s.1, p, taken-same); weighs = omega (arith, h.weighs, w, k) }
@@ -96,6 +108,7 @@ module _ (old m : Machine) (c d : Tally) (at : ℕ) (h : Spent old m c d at) whe
     Spent-refused x bytes l z p = (
       record {
         same = taken-both c d f h.looks.same (taken-both d e f s.0.same (taken-turns e f turns));
+        once = once-settled;
         most = omega (arith, h.looks.taken, s.0.taken, taken-same, z, l);
       },
       omega (arith, h.pays, s.1, p, taken-same),

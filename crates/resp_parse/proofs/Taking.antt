@@ -74,7 +74,7 @@ module _ (buffer since : List ℕ) (consumed : ℕ) (failed : Bool) (m new : Mac
   pub long-counted : (n : ℕ) (o : Option Value) (c t e : Tally) → n ≤ length u → new.scanned ≤ length (drop n u) → Counted m (drop consumed buffer) c failed → t ≡ record c { calls = c.calls + 1 } → DrivePays m new u t e (Ok (n, o)) → Counted new (drop consumed buffer) e true
   long-counted n o c t e l s k i p =
       let now = Counted-taken m new u c t e failed n o l s (subst (λ x. Counted m x c failed) (sym u_is) k) w i p in
-      record { turns = now.turns; taken = now.taken; works = λ z. absurd (let y : true ≡ false = z in cc) }
+      record { turns = now.turns; looks = now.looks; taken = now.taken; works = λ z. absurd (let y : true ≡ false = z in cc) }
 
   pub stops-counted : (x : Stop) (c t e : Tally) → Counted m (drop consumed buffer) c failed → t ≡ record c { calls = c.calls + 1 } → DrivePays m new u t e (Err x) → Counted new (drop consumed buffer) e true
   stops-counted x c t e k i p = Counted-stopped m new u c t e failed x (subst (λ y. Counted m y c failed) (sym u_is) k) w i p (drop consumed buffer)

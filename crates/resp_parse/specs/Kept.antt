@@ -35,6 +35,7 @@ pub record Balanced (m : Machine) (unparsed : List ℕ) (counts : Tally) : Type 
 
 pub record Counted (m : Machine) (unparsed : List ℕ) (counts : Tally) (failed : Bool) : Type 0 where
   pub turns : counts.turns ≤ 3 * counts.taken + counts.calls
+  pub looks : counts.looks ≤ counts.taken
   pub taken : counts.taken ≤ counts.came
   pub works : failed ≡ false → Balanced m unparsed counts
 

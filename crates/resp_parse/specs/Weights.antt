@@ -66,26 +66,33 @@ pub record Turns (c d : Tally) (n : ℕ) : Type 0 where
   pub same : d ≡ record c { turns = d.turns }
   pub most : d.turns ≤ c.turns + n
 
+-- only looks at bytes of a line were counted, each a turn
+pub record LooksAlone (c d : Tally) : Type 0 where
+  pub same : d ≡ record c { turns = d.turns; looks = d.looks }
+  pub each : d.turns + c.looks ≡ c.turns + d.looks
+
 -- a line's bytes were looked at from the first that was not, one turn each
 abbrev pub LooksAt : ℕ → List ℕ → Tally → Tally → Option ℕ → Type 0
 LooksAt scanned bytes c d (Some n) =
-    (d ≡ record c { turns = d.turns }) × (d.turns + scanned ≤ c.turns + n + 2) × (scanned ≤ n + 1)
+    LooksAlone c d × (d.turns + scanned ≤ c.turns + n + 2) × (scanned ≤ n + 1)
 LooksAt scanned bytes c d None =
-    (d ≡ record c { turns = d.turns }) × (d.turns + scanned ≤ c.turns + length bytes)
+    LooksAlone c d × (d.turns + scanned ≤ c.turns + length bytes)
 
 -- a value is placed: the turns made are among those saved and two for the value
 abbrev pub Places : {X : Type 0} → Machine → Machine → Tally → Tally → Result X Stop → Type 0
 Places old new c d (Ok x) = d.turns + credit new ≤ c.turns + credit old + 2
 Places old new c d (Err e) = d.turns ≤ c.turns + credit old + 2
 
--- bytes were looked at, and all came before
+-- bytes were looked at, and all came before; those of lines one look each
 pub record Looks (old new : Machine) (c d : Tally) (n : ℕ) : Type 0 where
-  pub same : d ≡ record c { turns = d.turns; taken = d.taken }
+  pub same : d ≡ record c { turns = d.turns; looks = d.looks; taken = d.taken }
+  pub once : d.looks + c.taken ≤ c.looks + d.taken
   pub taken : d.taken + old.scanned ≡ c.taken + n + new.scanned
 
--- of n bytes some were looked at
+-- of n bytes some were looked at, those of lines one look each
 pub record Stopped (old : Machine) (c d : Tally) (n : ℕ) : Type 0 where
-  pub same : d ≡ record c { turns = d.turns; taken = d.taken }
+  pub same : d ≡ record c { turns = d.turns; looks = d.looks; taken = d.taken }
+  pub once : d.looks + c.taken ≤ c.looks + d.taken
   pub most : d.taken + old.scanned ≤ c.taken + n
 
 -- the bytes taken and one call pay for the turns; a whole value keeps two

@@ -8,12 +8,13 @@ use std::marker::Model;
 use std::mem;
 use std::mem::size_of;
 
-/// What a parser has done since it was made: the turns of its loops, the bytes that came to it,
-/// those of them that it has looked at, and the calls. It takes no memory and no time:
-/// contracts alone see it.
+/// What a parser has done since it was made: the turns of its loops, those of them that looked at a
+/// byte of a line, the bytes that came to it, those of them that it has looked at, and the calls.
+/// It takes no memory and no time: contracts alone see it.
 #[derive(Drop)]
 pub(crate) struct Counts {
     turns: Tag,
+    looks: Tag,
     came: Tag,
     taken: Tag,
     calls: Tag,
@@ -29,6 +30,7 @@ impl Model for Counts {
 
     ghost view = { λ c. record {
       turns = length c.turns.numbers;
+      looks = length c.looks.numbers;
       came = length c.came.numbers;
       taken = length c.taken.numbers;
       calls = length c.calls.numbers;
@@ -58,6 +60,7 @@ impl Counts {
     {
         Counts {
             turns: Tag::empty(),
+            looks: Tag::empty(),
             came: Tag::empty(),
             taken: Tag::empty(),
             calls: Tag::empty(),
@@ -69,6 +72,17 @@ impl Counts {
         ensures { self.new ≡ record self.old { turns = self.old.turns + 1 } }
     {
         add(&mut self.turns, 1);
+    }
+
+    /// A loop makes a turn that looks at one byte of a line.
+    pub(crate) fn look(&mut self)
+        ensures { self.new ≡ record self.old {
+          turns = self.old.turns + 1;
+          looks = self.old.looks + 1;
+        } }
+    {
+        self.turn();
+        add(&mut self.looks, 1);
     }
 
     /// Bytes came.

@@ -13,7 +13,7 @@ pub(crate) fn line_end(bytes: &[u8], scanned: usize, counts: &mut Counts) -> Opt
     ensures looks { LooksAt scanned bytes.now counts.old counts.new result }
 {
     for at in scanned.max(1)..bytes.len() {
-        counts.turn();
+        counts.look();
         if bytes[at] == b'\n' && bytes[at - 1] == b'\r' {
             return Some(at - 1);
         }

@@ -6,7 +6,8 @@ use Rattle.resp_parse.proofs.line.line_end.Given as goal
 abbrev pub invariant-loop-at : goal.invariant-loop-at
 invariant-loop-at l = record {
   none : NoneBefore l.bytes l.at;
-  same : l.counts ≡ record l.fn.counts { turns = l.counts.turns };
+  same : l.counts ≡ record l.fn.counts { turns = l.counts.turns; looks = l.counts.looks };
+  each : l.counts.turns + l.fn.counts.looks ≡ l.fn.counts.turns + l.counts.looks;
   turns : l.counts.turns + l.scanned ≤ l.fn.counts.turns + l.at;
   most : l.counts.turns + l.scanned ≤ l.fn.counts.turns + length l.bytes;
 }
