@@ -27,14 +27,14 @@ pub record Holds (m : Machine) (unparsed since : List ℕ) (failed : Bool) : Typ
   pub resumes : failed ≡ false → Resumes m unparsed since
   pub progress : (since ≡ []) ↔ Rests m unparsed
 
--- the bytes taken and the calls pay for the turns made and for those that the machine has saved;
+-- the bytes taken and the calls pay for the turns made and for what the machine has saved;
 -- what came was taken or is unparsed
 pub record Balanced (m : Machine) (unparsed : List ℕ) (counts : Tally) : Type 0 where
-  pub pays : counts.turns + credit m ≤ 3 * counts.taken + counts.calls
+  pub pays : 3 * counts.turns + credit m ≤ 4 * counts.taken + 3 * counts.calls
   pub accounted : counts.taken + length unparsed ≡ counts.came + m.scanned
 
 pub record Counted (m : Machine) (unparsed : List ℕ) (counts : Tally) (failed : Bool) : Type 0 where
-  pub turns : counts.turns ≤ 3 * counts.taken + counts.calls
+  pub turns : 3 * counts.turns ≤ 4 * counts.taken + 3 * counts.calls
   pub looks : counts.looks ≤ counts.taken
   pub taken : counts.taken ≤ counts.came
   pub works : failed ≡ false → Balanced m unparsed counts

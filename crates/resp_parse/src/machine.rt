@@ -10,7 +10,7 @@ ghost use Rattle.resp_parse.specs.Resume.{place, resume, fresh_of, IsScanned, Go
 ghost use Rattle.resp_parse.specs.Resume.{Drives, FillsBody};
 ghost use Rattle.resp_parse.specs.Filling.{lacks_of, Fills};
 ghost use Rattle.resp_parse.specs.Built.{built};
-ghost use Rattle.resp_parse.specs.Weights.{weight, Weighs, StepWeighs, DriveWeighs, Places};
+ghost use Rattle.resp_parse.specs.Weights.{weight, Weighs, StepWeighs, DriveWeighs, Places, Begins};
 ghost use Rattle.resp_parse.specs.Weights.{HeaderPays, StepPays, DrivePays};
 
 use crate::counts::Counts;
@@ -139,7 +139,7 @@ impl Machine {
         ensures levels { length self.new.frames ≤ 100 }
         ensures scanned { self.new.scanned ≡ self.old.scanned }
         ensures weighs { Weighs self.new (3 + weight self.old) result }
-        ensures places { Places self.old self.new counts.old counts.new result }
+        ensures begins { Begins self.old self.new counts.old counts.new result }
         ensures turns { counts.new ≡ record counts.old { turns = counts.new.turns } }
     {
         match shape_of(alloc, kind, line)? {

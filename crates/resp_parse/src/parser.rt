@@ -33,7 +33,7 @@ const LONGEST: usize = isize::MAX as usize;
 /// how the bytes are cut: the values are those of the pieces joined.
 ///
 /// Nor does it matter for the work: the parser goes on where it stopped. Its loops make at most
-/// three turns for each byte that it has looked at and two for each call, at most 100 aggregates
+/// four turns for three bytes that it has looked at and one for each call, at most 100 aggregates
 /// are open, and of the value in progress it has built at most one value for each three bytes
 /// looked at, whatever lengths are announced. Contracts see these numbers in its state.
 ///

@@ -1,4 +1,4 @@
-use Rattle.std.proofs.Common.{◌≡◌, ◌≤◌, ◌+◌, length}
+use Rattle.std.proofs.Common.{◌≡◌, ◌≤◌, ◌+◌, ◌-◌, length}
 use Rattle.resp_parse.specs.Lines.{NoneBefore}
 use Rattle.resp_parse.proofs.line.line_end.Given as goal
 
@@ -8,6 +8,6 @@ invariant-loop-at l = record {
   none : NoneBefore l.bytes l.at;
   same : l.counts ≡ record l.fn.counts { turns = l.counts.turns; looks = l.counts.looks };
   each : l.counts.turns + l.fn.counts.looks ≡ l.fn.counts.turns + l.counts.looks;
-  turns : l.counts.turns + l.scanned ≤ l.fn.counts.turns + l.at;
-  most : l.counts.turns + l.scanned ≤ l.fn.counts.turns + length l.bytes;
+  turns : l.counts.turns + (l.scanned - 1) + 1 ≤ l.fn.counts.turns + l.at;
+  most : l.counts.turns + (l.scanned - 1) ≤ l.fn.counts.turns + (length l.bytes - 1);
 }

@@ -37,15 +37,16 @@ overflow_sub-len c = omega (arith, c.in-Some-line_end.ensures.looks.2, c.saturat
 
 pub returns-in-Ok-Some-clause-pays : goal.returns-in-Ok-Some-clause-pays
 returns-in-Ok-Some-clause-pays c =
-    let p = c.in-Ok-Some.ensures.places in (
+    let p = rw c.in-Ok-Some.field-0-is at c.in-Ok-Some.ensures.begins in
+    let q = header-pays c.args.self.now c.begin.new.self c.args.counts.now c.line_end.new.counts c.take-2.new.self c.begin.new.counts c.in-Some-line_end.len c.saturating_sub.result c.in-Some.after.now c.saturating_sub.ensures c.in-Some-line_end.ensures.looks c.take-2.ensures c.in-Ok-Some.ensures.turns 2 (omega (arith, p)) c.in-Ok-Some.ensures.scanned in (
       header-looks c.args.self.now c.begin.new.self c.args.counts.now c.line_end.new.counts c.take-2.new.self c.begin.new.counts c.in-Some-line_end.len c.saturating_sub.result c.in-Some.after.now c.saturating_sub.ensures c.in-Some-line_end.ensures.looks c.take-2.ensures c.in-Ok-Some.ensures.turns c.in-Ok-Some.ensures.scanned,
-      header-pays c.args.self.now c.begin.new.self c.args.counts.now c.line_end.new.counts c.take-2.new.self c.begin.new.counts c.in-Some-line_end.len c.saturating_sub.result c.in-Some.after.now c.saturating_sub.ensures c.in-Some-line_end.ensures.looks c.take-2.ensures c.in-Ok-Some.ensures.turns (omega (arith, p, c.in-Ok-Some.ensures.scanned)) c.in-Ok-Some.ensures.scanned,
+      omega (arith, q),
     )
 
 pub returns-in-Ok-None-clause-pays : goal.returns-in-Ok-None-clause-pays
 returns-in-Ok-None-clause-pays c =
-    let p = c.in-Ok-None.ensures.places in
-    let q = header-pays c.args.self.now c.begin.new.self c.args.counts.now c.line_end.new.counts c.take-2.new.self c.begin.new.counts c.in-Some-line_end.len c.saturating_sub.result c.in-Some.after.now c.saturating_sub.ensures c.in-Some-line_end.ensures.looks c.take-2.ensures c.in-Ok-None.ensures.turns (omega (arith, p, c.in-Ok-None.ensures.scanned)) c.in-Ok-None.ensures.scanned in (
+    let p = rw c.in-Ok-None.field-0-is at c.in-Ok-None.ensures.begins in
+    let q = header-pays c.args.self.now c.begin.new.self c.args.counts.now c.line_end.new.counts c.take-2.new.self c.begin.new.counts c.in-Some-line_end.len c.saturating_sub.result c.in-Some.after.now c.saturating_sub.ensures c.in-Some-line_end.ensures.looks c.take-2.ensures c.in-Ok-None.ensures.turns 0 (omega (arith, p)) c.in-Ok-None.ensures.scanned in (
       header-looks c.args.self.now c.begin.new.self c.args.counts.now c.line_end.new.counts c.take-2.new.self c.begin.new.counts c.in-Some-line_end.len c.saturating_sub.result c.in-Some.after.now c.saturating_sub.ensures c.in-Some-line_end.ensures.looks c.take-2.ensures c.in-Ok-None.ensures.turns c.in-Ok-None.ensures.scanned,
       omega (arith, q),
     )
