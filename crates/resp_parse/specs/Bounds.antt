@@ -16,10 +16,11 @@ pub record WorksWithin (s : State) : Type 0 where
   pub built : 3 * s.built + length (not_looked_at s) ≤ length s.since
   pub spelled : SpelledWithin s.since (not_looked_at s)
 
--- the turns are at most four for three bytes that were looked at and one for each call, too few to
--- look at lines twice; of these, the looks at a byte of a line are at most one for each; at most 100
--- frames are open. Only turns that the code counts are seen here: it counts none for copying bytes
--- or for making a value of a line or a body that is all there
+-- the turns are at most four for three bytes that were looked at and one for each call: where only
+-- lines came, too few to look at each byte twice; of these, the looks at a byte of a line are at most
+-- as many as the bytes looked at; at most 100 frames are open. Only turns that the code counts are
+-- seen here: none is counted for copying bytes, or for making a value of a line or a body that is
+-- all there
 pub record Bounded (s : State) : Type 0 where
   pub turns : 3 * s.counts.turns ≤ 4 * s.counts.taken + 3 * s.counts.calls
   pub looks : s.counts.looks ≤ s.counts.taken
