@@ -8,8 +8,7 @@ use Rattle.std.proofs.lemmas.List.{flat_map_more, get_or_append_left, map_push}
 use Rattle.std.proofs.Math.Seq.{get_or-append_seam}
 use Rattle.std.specs.List.{AllZip, Any}
 use Rattle.resp_errors.specs.declared.redis_error.RedisError.{RedisError}
-use Rattle.resp_errors.specs.declared.redis_error.RedisError.TheVariants.{OutOfMemory}
-use Rattle.resp_args.specs.Args.{Args, args_of, extended, Appends, GivesEach, IsPrefix, IsRefusal, Writes, GivesBoth, InSomeOrder, GivesInSomeOrder, IfRefused, RefusedPair, RefusedAt, RefusedInSomeOrder}
+use Rattle.resp_args.specs.Args.{Args, args_of, extended, Appends, GivesEach, IsPrefix, IsRefusal, Writes, GivesBoth, InSomeOrder, GivesInSomeOrder, Failure, IsFailure, FailsEach, FailsAfter, FailsBoth, FailsInSomeOrder}
 
 AllZip-append : {A B : Type 0} (R : A → B → Type 0) (xs : List A) (ys : List B) (x : A) (y : B) → AllZip R xs ys → R x y → AllZip R (xs ++ x ∷ []) (ys ++ y ∷ [])
 AllZip-append R [] [] x y h r = (r, tt)
@@ -95,10 +94,10 @@ progress_fails Gives Refuses all x rest old mid new (Err d) e p fails is =
       subst (IsRefusal (Any Refuses all)) (sym is.1) (⊎_elim (λ memory. inl memory) (λ refused. inr (refused.0, subst (Any Refuses) (sym p.split) (Any-amid Refuses p.done x rest refused.1))) fails.1),
     )
 
-pub progress_refused : {X : Type 0} (Gives : X → Args → Type 0) (Wide Refuses : X → Type 0) (all : List X) (x : X) (rest : List X) (old mid new : Args) (r : Result (Unit {0}) RedisError) (e : RedisError) → Progress Gives (λ p. Wide p ⊎ Refuses p) all (x ∷ rest) old mid → (e ≡ OutOfMemory) ⊎ RefusedPair (Wide x) (Refuses x) mid new e → IsErr r × IsErrAnd r (λ d. d ≡ e) → IfRefused r (RefusedAt Gives Wide Refuses all old new)
-progress_refused Gives Wide Refuses all x rest old mid new (Ok y) e p refused is = tt
-progress_refused Gives Wide Refuses all x rest old mid new (Err d) e p refused is =
-    subst (λ d. (d ≡ OutOfMemory) ⊎ RefusedAt Gives Wide Refuses all old new d) (sym is.1) (⊎_elim (λ memory. inl memory) (λ at. inr (record { before = p.done; pair = x; after = rest; in_order = p.split; taken = p.taken; reached = mid; whole = p.appended; refused = at })) refused)
+pub progress_failed : {X : Type 0} (Gives : X → Args → Type 0) (Refuses : X → Type 0) (Fails : X → Failure) (all : List X) (x : X) (rest : List X) (old mid new : Args) (r : Result (Unit {0}) RedisError) (e : RedisError) → Progress Gives Refuses all (x ∷ rest) old mid → IsPrefix mid new × IsRefusal (Refuses x) e → Fails x mid new (Err e) → IsErr r × IsErrAnd r (λ d. d ≡ e) → FailsEach Gives Refuses Fails all old new r
+progress_failed Gives Refuses Fails all x rest old mid new (Ok y) e p written failed is = tt
+progress_failed Gives Refuses Fails all x rest old mid new (Err d) e p written failed is =
+    record { before = p.done; item = x; after = rest; in_order = p.split; taken = p.taken; reached = mid; whole = p.appended; prefix = written.0; refusal = subst (IsRefusal (Refuses x)) (sym is.1) written.1; failed = subst (λ d. Fails x mid new (Err d)) (sym is.1) failed }
 
 -- the order in which the items stand is one of them
 standing : {X : Type 0} (items : List X) (P : List X → Type 0) → P items → InSomeOrder items P
@@ -120,10 +119,19 @@ writes_both P Q R S old mid new (Err e) first second =
       ⊎_elim (λ memory. inl memory) (λ refused. inr (refused.0, inr refused.1)) second.1,
     )
 
-pub refused_in_some_order : {X : Type 0} (Gives : X → Args → Type 0) (Wide Refuses : X → Type 0) (items : List X) (old new : Args) (r : Result (Unit {0}) RedisError) → IfRefused r (RefusedAt Gives Wide Refuses items old new) → IfRefused r (RefusedInSomeOrder Gives Wide Refuses items old new)
-refused_in_some_order Gives Wide Refuses items old new (Ok x) refused = tt
-refused_in_some_order Gives Wide Refuses items old new (Err e) refused =
-    ⊎_elim (λ memory. inl memory) (λ at. inr (standing items (λ order. RefusedAt Gives Wide Refuses order old new e) at)) refused
+-- the first of two values fails
+pub fails_first : (P : Args → Type 0) (F G : Failure) (old new : Args) (r : Result (Unit {0}) RedisError) (e : RedisError) → F old new (Err e) → IsErr r × IsErrAnd r (λ d. d ≡ e) → FailsBoth P F G old new r
+fails_first P F G old new (Ok x) e failed is = tt
+fails_first P F G old new (Err d) e failed is = inl (subst (λ d. F old new (Err d)) (sym is.1) failed)
+
+-- the second of two values fails, where it fails
+pub fails_second : (P Q : Args → Type 0) (S : Type 0) (F G : Failure) (old mid new : Args) (r : Result (Unit {0}) RedisError) → Appends P old mid → Writes Q S mid new r → G mid new r → FailsBoth P F G old new r
+fails_second P Q S F G old mid new (Ok x) first second failed = tt
+fails_second P Q S F G old mid new (Err e) first second failed = inr (record { reached = mid; whole = first; prefix = second.0; failed = failed })
+
+pub failed_in_some_order : {X : Type 0} (Gives : X → Args → Type 0) (Refuses : X → Type 0) (Fails : X → Failure) (items : List X) (old new : Args) (r : Result (Unit {0}) RedisError) → FailsEach Gives Refuses Fails items old new r → FailsInSomeOrder Gives Refuses Fails items old new r
+failed_in_some_order Gives Refuses Fails items old new (Ok x) failed = tt
+failed_in_some_order Gives Refuses Fails items old new (Err e) failed = standing items _ failed
 
 length-extended : (args : Args) (more : List ℕ) → length (extended args more) ≡ length args
 length-extended [] more = refl

@@ -1,6 +1,6 @@
 -- Arguments of a command (RESP, "Sending commands to a Redis server"): a client sends a command as
 -- an array of bulk strings, so every argument is a list of bytes.
-use Rattle.std.specs.Prelude.{◌<◌, ◌≡◌, ℕ, Bool, true, false, List, [], ◌∷◌, ◌++◌, map, Result, Ok, Err, IfErr, Vec, nat_le, ◌⊎◌, Option, None, Some, ◌+◌, if◌then◌else◌, codes, length, IfSome, OnOk}
+use Rattle.std.specs.Prelude.{◌<◌, ◌≡◌, ℕ, Bool, true, false, List, [], ◌∷◌, ◌++◌, map, Result, Ok, Err, IfErr, Vec, nat_le, ◌⊎◌, Option, None, Some, ◌+◌, if◌then◌else◌, codes, length, IfSome, OnOk, ⊤}
 use Rattle.std.specs.Borrow.{Bor}
 use Rattle.std.specs.Iterator.{Yields}
 use Rattle.std.specs.Global.{Global}
@@ -54,17 +54,30 @@ abbrev pub Writes : (Args → Type 0) → Type 0 → Args → Args → Result (U
 Writes Gives Refused old new (Ok _) = Appends Gives old new × (Refused → ⊥)
 Writes Gives Refused old new (Err e) = IsPrefix old new × IsRefusal Refused e
 
+-- how writing a value fails: the arguments before and after it, and what it answers
+abbrev pub Failure : Type 1
+Failure = Args → Args → Result (Unit {0}) RedisError → Type 0
+
+-- nothing more is said of how it fails
+abbrev pub AnyFailure : {X : Type 0} → X → Failure
+AnyFailure _ _ _ _ = ⊤
+
+-- an error that writing a value to some list answers
+abbrev pub IsFailure : Failure → RedisError → Type 0
+IsFailure Fails e = (old : Args) × (new : Args) × Fails old new (Err e)
+
 -- what writing values leaves and answers that an iterator gives, one after another: it was asked
--- for these, which were written as far as one is refused, and at Ok it has no more
+-- for these, which were written as far as one fails, and at Ok it has no more
 pub record WritesItems {S X : Type 0} (steps : S → Option (Bor X) → S → Type 0) (start : S)
-    (Gives : List X → Args → Type 0) (Refuses : List X → Type 0) (old new : Args)
-    (result : Result (Unit {0}) RedisError) : Type 0 where
+    (Gives : List X → Args → Type 0) (Refuses : List X → Type 0) (Fails : List X → Failure)
+    (old new : Args) (result : Result (Unit {0}) RedisError) : Type 0 where
   pub items : List (Bor X)
   pub rest : S
   pub yielded : Yields steps start items rest
   pub whole : OnOk result ((end : S) × steps rest None end)
   pub written : Writes (Gives (map (λ item. item.now) items))
       (Refuses (map (λ item. item.now) items)) old new result
+  pub failed : Fails (map (λ item. item.now) items) old new result
 
 -- just this argument
 abbrev pub IsOnly : List ℕ → Args → Type 0
@@ -80,6 +93,26 @@ pub record GivesEach {X : Type 0} (Gives : X → Args → Type 0) (items : List 
   pub lists : List Args
   pub each : AllZip Gives items lists
   pub joined : args ≡ flat_map (λ given. given) lists
+
+-- items fail at one of them: those before it are none that is refused and were written whole, and
+-- writing this one then left and answered that
+pub record FailsAt {X : Type 0} (Gives : X → Args → Type 0) (Refuses : X → Type 0)
+    (Fails : X → Failure) (items : List X) (old new : Args) (e : RedisError) : Type 0 where
+  pub before : List X
+  pub item : X
+  pub after : List X
+  pub in_order : items ≡ before ++ item ∷ after
+  pub taken : Any Refuses before → ⊥
+  pub reached : Args
+  pub whole : Appends (GivesEach Gives before) old reached
+  pub prefix : IsPrefix reached new
+  pub refusal : IsRefusal (Refuses item) e
+  pub failed : Fails item reached new (Err e)
+
+abbrev pub FailsEach : {X : Type 0} → (X → Args → Type 0) → (X → Type 0) → (X → Failure) → List X
+    → Failure
+FailsEach Gives Refuses Fails items old new result =
+    IfErr result (FailsAt Gives Refuses Fails items old new)
 
 -- no value is refused
 abbrev pub Never : {X : Type 0} → X → Type 0
@@ -115,6 +148,11 @@ abbrev pub RefusesSlice : {X : Type 0} → Slices X → (X → Type 0) → List 
 RefusesSlice by_item Refuses items = Any Refuses items
 RefusesSlice (by_rule rule) Refuses items = rule.Refuses items
 
+abbrev pub FailsSlice : {X : Type 0} → Slices X → (X → Args → Type 0) → (X → Type 0)
+    → (X → Failure) → List X → Failure
+FailsSlice by_item Gives Refuses Fails items = FailsEach Gives Refuses Fails items
+FailsSlice (by_rule rule) Gives Refuses Fails items = AnyFailure items
+
 abbrev pub is_single_slice : {X : Type 0} → Slices X → (X → ℕ) → List X → Bool
 is_single_slice by_item count items = is_single count items
 is_single_slice (by_rule rule) count items = rule.is_single items
@@ -139,6 +177,10 @@ abbrev pub RefusesOption : {X : Type 0} → (X → Type 0) → Option X → Type
 RefusesOption Refuses None = ⊥
 RefusesOption Refuses (Some item) = Refuses item
 
+abbrev pub FailsOption : {X : Type 0} → (X → Failure) → Option X → Failure
+FailsOption Fails None = λ _ _ _. ⊤
+FailsOption Fails (Some item) = Fails item
+
 abbrev pub count_of_option : {X : Type 0} → (X → ℕ) → Option X → ℕ
 count_of_option count None = 0
 count_of_option count (Some item) = count item
@@ -159,6 +201,19 @@ pub record GivesBoth (First Second : Args → Type 0) (args : Args) : Type 0 whe
   pub first : First before
   pub second : Second after
   pub joined : args ≡ before ++ after
+
+-- one value was written whole, and then another fails
+pub record FailsAfter (Gives : Args → Type 0) (Fails : Failure) (old new : Args)
+    (e : RedisError) : Type 0 where
+  pub reached : Args
+  pub whole : Appends Gives old reached
+  pub prefix : IsPrefix reached new
+  pub failed : Fails reached new (Err e)
+
+-- of two values the first fails, or the second after the first was written whole
+abbrev pub FailsBoth : (Args → Type 0) → Failure → Failure → Failure
+FailsBoth Gives Fails FailsNext old new result =
+    IfErr result (λ e. Fails old new (Err e) ⊎ FailsAfter Gives FailsNext old new e)
 
 -- a pair gives what its key gives, and then what its value gives
 abbrev pub GivesPair : {K V : Type 0} → (K → Args → Type 0) → (V → Args → Type 0) → K × V → Args
@@ -189,42 +244,28 @@ pub record InSomeOrder {X : Type 0} (items : List X) (P : List X → Type 0) : T
 abbrev pub GivesInSomeOrder : {X : Type 0} → (X → Args → Type 0) → List X → Args → Type 0
 GivesInSomeOrder Gives items args = InSomeOrder items (λ order. GivesEach Gives order args)
 
--- an error is `OutOfMemory`, or is such a refusal
-abbrev pub IfRefused : Result (Unit {0}) RedisError → (RedisError → Type 0) → Type 0
-IfRefused result P = IfErr result (λ e. (e ≡ OutOfMemory) ⊎ P e)
-
 -- a wide pair is refused, and nothing of it is written
 pub record RefusedAsWide (Wide : Type 0) (old new : Args) (e : RedisError) : Type 0 where
   pub wide : Wide
   pub error : e ≡ General Client (codes "map key or value is more than one argument") None
   pub unchanged : new ≡ old
 
--- a pair that is not wide is refused since its key or value is, and the old arguments come first
-pub record RefusedWithin (Wide Refuses : Type 0) (old new : Args) (e : RedisError) : Type 0 where
+-- a pair that is not wide fails as its key and value do
+pub record FailsWithin (Wide : Type 0) (Fails : Failure) (old new : Args) (e : RedisError)
+    : Type 0 where
   pub narrow : Wide → ⊥
-  pub refuses : Refuses
-  pub client : kind_of e ≡ Client
-  pub prefix : IsPrefix old new
+  pub failed : Fails old new (Err e)
 
--- how a pair of a map is refused
-abbrev pub RefusedPair : Type 0 → Type 0 → Args → Args → RedisError → Type 0
-RefusedPair Wide Refuses old new e =
-    RefusedAsWide Wide old new e ⊎ RefusedWithin Wide Refuses old new e
+-- how a pair of a map fails
+abbrev pub FailsPair : {K V : Type 0} → (K → ℕ) → (V → ℕ) → (K → Args → Type 0) → (K → Failure)
+    → (V → Failure) → K × V → Failure
+FailsPair count_key count_value Gives FailsKey FailsValue pair old new result = IfErr result (λ e.
+    RefusedAsWide (IsWide count_key count_value pair) old new e
+    ⊎ FailsWithin (IsWide count_key count_value pair)
+    (FailsBoth (Gives pair.0) (FailsKey pair.0) (FailsValue pair.1)) old new e)
 
--- pairs are refused at one of them: those before it are none that is refused and were written whole
-pub record RefusedAt {X : Type 0} (Gives : X → Args → Type 0) (Wide Refuses : X → Type 0)
-    (pairs : List X) (old new : Args) (e : RedisError) : Type 0 where
-  pub before : List X
-  pub pair : X
-  pub after : List X
-  pub in_order : pairs ≡ before ++ pair ∷ after
-  pub taken : Any (λ p. Wide p ⊎ Refuses p) before → ⊥
-  pub reached : Args
-  pub whole : Appends (GivesEach Gives before) old reached
-  pub refused : RefusedPair (Wide pair) (Refuses pair) reached new e
-
--- pairs are refused at one of them, in some order
-abbrev pub RefusedInSomeOrder : {X : Type 0} → (X → Args → Type 0) → (X → Type 0) → (X → Type 0)
-    → List X → Args → Args → RedisError → Type 0
-RefusedInSomeOrder Gives Wide Refuses pairs old new e =
-    InSomeOrder pairs (λ order. RefusedAt Gives Wide Refuses order old new e)
+-- items fail at one of them, in some order
+abbrev pub FailsInSomeOrder : {X : Type 0} → (X → Args → Type 0) → (X → Type 0) → (X → Failure)
+    → List X → Failure
+FailsInSomeOrder Gives Refuses Fails items old new result = IfErr result (λ e.
+    InSomeOrder items (λ order. FailsAt Gives Refuses Fails order old new e))

@@ -4,9 +4,11 @@ ghost use Rattle.std.specs.Prelude.{◌≡◌, ℕ, Bool, List, IfOk, IfErr};
 ghost use Rattle.std.specs.List.{Any};
 ghost use Rattle.resp_args.specs.Args.{Args, args_of, Writes, IsRefusal, Never, GivesEach};
 ghost use Rattle.std.specs.Iterator.{IsFinite};
-ghost use Rattle.resp_args.specs.Args.{WritesItems};
-ghost use Rattle.resp_args.specs.Args.{GivesSlice, RefusesSlice, is_single_slice, Slices};
+ghost use Rattle.resp_args.specs.Args.{WritesItems, Failure, AnyFailure, IsFailure, FailsEach};
+ghost use Rattle.resp_args.specs.Args.{GivesSlice, RefusesSlice, FailsSlice, is_single_slice};
+ghost use Rattle.resp_args.specs.Args.{Slices};
 ghost use Rattle.resp_args.specs.Args.Slices.{by_item};
+ghost use Rattle.resp_args.specs.Kept.{Stays};
 ghost use Rattle.resp_args.specs.declared.args.NumericBehavior.{NumericBehavior};
 ghost use Rattle.resp_args.specs.declared.args.NumericBehavior.TheVariants.{NonNumeric};
 
@@ -28,8 +30,8 @@ pub enum NumericBehavior {
 /// A value that can be written as arguments of a command.
 ///
 /// An own type says in a line which arguments a value gives, and has five short functions. The
-/// other ghost members have defaults: no value is refused, each counts for one argument and is no
-/// number, and a slice is written item by item.
+/// other ghost members have defaults: no value is refused, nothing more is said of how one fails,
+/// each counts for one argument and is no number, and a slice is written item by item.
 ///
 /// ```text
 /// impl ToRedisArgs for Point {
@@ -61,12 +63,14 @@ pub enum NumericBehavior {
 ///
 /// Fields may also be written one after another, or as a slice; a tuple of them takes references. A
 /// type that is written as another one says so by that one's members, and where that one can be
-/// refused, it says this too:
+/// refused, it says this too, and may say how:
 ///
 /// ```text
 /// ghost gives = { λ f. ⟦<BTreeMap<String, i64> as ToRedisArgs>⟧.gives f.pairs };
 ///
 /// ghost refuses = { λ f. ⟦<BTreeMap<String, i64> as ToRedisArgs>⟧.refuses f.pairs };
+///
+/// ghost fails = { λ f. ⟦<BTreeMap<String, i64> as ToRedisArgs>⟧.fails f.pairs };
 /// ```
 pub trait ToRedisArgs: Sized {
     /// Which arguments a value gives.
@@ -74,6 +78,9 @@ pub trait ToRedisArgs: Sized {
 
     /// The value can't be written.
     ghost refuses: { Self → Type 0 } = { Never };
+
+    /// How writing a value fails: what it answers then, and what is written before.
+    ghost fails: { Self → Failure } = { AnyFailure };
 
     /// What `num_of_args` answers.
     ghost count: { Self → ℕ } = { λ _. 1 };
@@ -88,14 +95,19 @@ pub trait ToRedisArgs: Sized {
     /// and else only with `OutOfMemory`; the old arguments then come first.
     fn write_redis_args<W: RedisWrite>(&self, out: &mut W) -> RedisResult<()>
         ensures written { Writes (gives self.now) (refuses self.now) (W.args out.old)
-            (W.args out.new) result };
+            (W.args out.new) result }
+        ensures failed { fails self.now (W.args out.old) (W.args out.new) result }
+        ensures kept { Stays W.kept out.old out.new };
 
     /// Appends the arguments of a slice of values: item by item, by `write_each_arg`, unless the
     /// type has a rule of its own, as `u8`, whose slices are one argument. Fails as
     /// `write_redis_args` does.
     fn write_args_from_slice<W: RedisWrite>(items: &[Self], out: &mut W) -> RedisResult<()>
         ensures written { Writes (GivesSlice slices gives items.now)
-            (RefusesSlice slices refuses items.now) (W.args out.old) (W.args out.new) result };
+            (RefusesSlice slices refuses items.now) (W.args out.old) (W.args out.new) result }
+        ensures failed { FailsSlice slices gives refuses fails items.now (W.args out.old)
+            (W.args out.new) result }
+        ensures kept { Stays W.kept out.old out.new };
 
     /// How many arguments the value counts for, which need not be as many as it writes.
     fn num_of_args(&self) -> usize
@@ -114,6 +126,9 @@ pub trait ToRedisArgs: Sized {
     fn write_each_arg<W: RedisWrite>(items: &[Self], out: &mut W) -> RedisResult<()>
         ensures written { Writes (GivesEach gives items.now) (Any refuses items.now)
             (W.args out.old) (W.args out.new) result }
+        ensures failed { FailsEach gives refuses fails items.now (W.args out.old) (W.args out.new)
+            result }
+        ensures kept { Stays W.kept out.old out.new }
     {
         for item in items {
             item.write_redis_args(out)?;
@@ -131,7 +146,8 @@ pub trait ToRedisArgs: Sized {
         Self: 'a,
         requires { I.can_next values × IsFinite (I.remaining values) }
         ensures written { WritesItems I.next_gives values (GivesEach gives) (Any refuses)
-            (W.args out.old) (W.args out.new) result }
+            (FailsEach gives refuses fails) (W.args out.old) (W.args out.new) result }
+        ensures kept { Stays W.kept out.old out.new }
     {
         for value in values {
             value.write_redis_args(out)?;
@@ -145,6 +161,7 @@ pub trait ToRedisArgs: Sized {
         ensures given { IfOk result (λ args. gives self.now (args_of args.items)
             × (refuses self.now → ⊥)) }
         ensures refused { IfErr result (IsRefusal (refuses self.now)) }
+        ensures failed { IfErr result (IsFailure (fails self.now)) }
     {
         let mut args = Vec::new(alloc);
         self.write_redis_args(&mut args)?;
@@ -157,6 +174,9 @@ pub trait ToRedisArgs: Sized {
 pub fn write_each_arg<T: ToRedisArgs, W: RedisWrite>(items: &[T], out: &mut W) -> RedisResult<()>
     ensures written { Writes (GivesEach T.gives items.now) (Any T.refuses items.now)
         (W.args out.old) (W.args out.new) result }
+    ensures failed { FailsEach T.gives T.refuses T.fails items.now (W.args out.old) (W.args out.new)
+        result }
+    ensures kept { Stays W.kept out.old out.new }
 {
     T::write_each_arg(items, out)
 }

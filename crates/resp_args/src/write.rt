@@ -3,6 +3,7 @@
 ghost use Rattle.std.specs.Prelude.{◌≡◌, ◌<◌, [], ◌∷◌, ◌++◌, length, OnOk, OnErr, IfOk, IfErr};
 ghost use Rattle.std.specs.Iterator.{IsFiniteIterable};
 ghost use Rattle.resp_args.specs.Args.{Args, AppendsShown, IsUnformatted, args_of, extended};
+ghost use Rattle.resp_args.specs.Kept.{Kept, Stays, nothing};
 ghost use Rattle.resp_errors.specs.Memory.{OnlyMemory};
 
 use crate::shown::shown_bytes;
@@ -19,19 +20,24 @@ pub trait RedisWrite {
     /// The arguments so far.
     ghost args: { Self → Args };
 
+    /// What else of it writing leaves as it is; by default nothing is said.
+    ghost kept: { Kept Self } = { nothing };
+
     /// Appends one argument of these bytes. Fails only with `OutOfMemory`, and then leaves the
     /// arguments as they were.
     fn write_arg(&mut self, arg: &[u8]) -> RedisResult<()>
         ensures ok { OnOk result (args self.new ≡ args self.old ++ arg.now ∷ []) }
         ensures err { OnErr result (args self.new ≡ args self.old) }
-        ensures memory { OnlyMemory result };
+        ensures memory { OnlyMemory result }
+        ensures kept { Stays kept self.old self.new };
 
     /// Appends an empty argument. Fails only with `OutOfMemory`, and then leaves the arguments as
     /// they were.
     fn open_arg(&mut self) -> RedisResult<()>
         ensures ok { OnOk result (args self.new ≡ args self.old ++ [] ∷ []) }
         ensures err { OnErr result (args self.new ≡ args self.old) }
-        ensures memory { OnlyMemory result };
+        ensures memory { OnlyMemory result }
+        ensures kept { Stays kept self.old self.new };
 
     /// Appends bytes to the last argument, which has to be there. Fails only with `OutOfMemory`,
     /// and then leaves the arguments as they were.
@@ -39,7 +45,8 @@ pub trait RedisWrite {
         requires { 0 < length (args self.old) }
         ensures ok { OnOk result (args self.new ≡ extended (args self.old) more.now) }
         ensures err { OnErr result (args self.new ≡ args self.old) }
-        ensures memory { OnlyMemory result };
+        ensures memory { OnlyMemory result }
+        ensures kept { Stays kept self.old self.new };
 
     /// Appends an empty argument, and hands out a writer that appends to it. Fails only with
     /// `OutOfMemory`, and then leaves the arguments as they were.
@@ -48,6 +55,7 @@ pub trait RedisWrite {
         Self: Sized,
         ensures same_reference { IfOk result (λ w. w.out.ghost_name ≡ self.entry.ghost_name) }
         ensures opened { IfOk result (λ w. args w.out.now ≡ args self.old ++ [] ∷ []) }
+        ensures kept { IfOk result (λ w. Stays kept self.old w.out.now) }
         ensures memory { OnlyMemory result }
     {
         self.open_arg()?;
@@ -62,6 +70,7 @@ pub trait RedisWrite {
         ensures ok { OnOk result (AppendsShown (D.output arg) (args self.old) (args self.new)) }
         ensures err { OnErr result (args self.new ≡ args self.old) }
         ensures refused { IfErr result IsUnformatted }
+        ensures kept { Stays kept self.old self.new }
     {
         let shown = shown_bytes(alloc, arg)?;
         self.write_arg(shown.as_slice())
@@ -80,6 +89,7 @@ pub trait RedisWrite {
             additional }
         ensures same { args self.new ≡ args self.old }
         ensures memory { OnlyMemory result }
+        ensures kept { Stays kept self.old self.new }
     {
         drop(additional);
         Ok(())

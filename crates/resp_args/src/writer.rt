@@ -2,6 +2,7 @@
 
 ghost use Rattle.std.specs.Prelude.{◌≡◌, ◌<◌, length, IsOk, OnOk, OnErr};
 ghost use Rattle.resp_args.specs.Args.{extended};
+ghost use Rattle.resp_args.specs.Kept.{Stays};
 ghost use Rattle.resp_errors.specs.Memory.{OnlyMemory};
 
 use crate::write::RedisWrite;
@@ -29,6 +30,7 @@ impl<'a, W: RedisWrite> ArgWriter<'a, W> {
         ensures err { OnErr result (W.args self.new.out.now ≡ W.args self.old.out.now) }
         ensures memory { OnlyMemory result }
         ensures there { 0 < length (W.args self.new.out.now) }
+        ensures kept { Stays W.kept self.old.out.now self.new.out.now }
     {
         self.out.extend_arg(more)
     }

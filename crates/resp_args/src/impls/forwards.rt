@@ -1,6 +1,6 @@
 //! Optional values, references and owners are written as what they hold.
 
-ghost use Rattle.resp_args.specs.Args.{GivesOption, RefusesOption, count_of_option};
+ghost use Rattle.resp_args.specs.Args.{GivesOption, RefusesOption, FailsOption, count_of_option};
 ghost use Rattle.resp_args.specs.Args.{behaviour_of_option};
 
 use crate::args::{NumericBehavior, ToRedisArgs};
@@ -13,6 +13,8 @@ impl<T: ToRedisArgs> ToRedisArgs for Option<T> {
     ghost gives = { GivesOption T.gives };
 
     ghost refuses = { RefusesOption T.refuses };
+
+    ghost fails = { FailsOption T.fails };
 
     ghost count = { count_of_option T.count };
 
@@ -56,6 +58,8 @@ impl<T: ToRedisArgs> ToRedisArgs for &T {
 
     ghost refuses = { λ x. T.refuses x.now };
 
+    ghost fails = { λ x. T.fails x.now };
+
     ghost count = { λ x. T.count x.now };
 
     ghost behaviour = { λ x. T.behaviour x.now };
@@ -88,6 +92,8 @@ impl<T: ToRedisArgs> ToRedisArgs for &mut T {
     ghost gives = { λ x. T.gives x.now };
 
     ghost refuses = { λ x. T.refuses x.now };
+
+    ghost fails = { λ x. T.fails x.now };
 
     ghost count = { λ x. T.count x.now };
 
@@ -122,6 +128,8 @@ impl<T: ToRedisArgs> ToRedisArgs for Box<T> {
 
     ghost refuses = { λ x. T.refuses x.value };
 
+    ghost fails = { λ x. T.fails x.value };
+
     ghost count = { λ x. T.count x.value };
 
     ghost behaviour = { λ x. T.behaviour x.value };
@@ -154,6 +162,8 @@ impl<T: ToRedisArgs> ToRedisArgs for Rc<T> {
     ghost gives = { λ x. T.gives x.value };
 
     ghost refuses = { λ x. T.refuses x.value };
+
+    ghost fails = { λ x. T.fails x.value };
 
     ghost count = { λ x. T.count x.value };
 

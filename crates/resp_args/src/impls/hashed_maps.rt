@@ -2,8 +2,9 @@
 
 ghost use Rattle.std.specs.Prelude.{length};
 ghost use Rattle.std.specs.List.{Any};
-ghost use Rattle.resp_args.specs.Args.{Writes, GivesInSomeOrder, GivesPair, IsWide, RefusesPart};
-ghost use Rattle.resp_args.specs.Args.{RefusesPair, RefusedInSomeOrder, IfRefused};
+ghost use Rattle.resp_args.specs.Args.{Writes, GivesInSomeOrder, GivesPair, RefusesPair};
+ghost use Rattle.resp_args.specs.Args.{FailsInSomeOrder, FailsPair};
+ghost use Rattle.resp_args.specs.Kept.{Stays};
 
 use super::pairs::write_pair;
 use crate::args::{NumericBehavior, ToRedisArgs};
@@ -19,9 +20,11 @@ fn write_pairs<K: ToRedisArgs + Eq + Hash, V: ToRedisArgs, W: RedisWrite>(
     ensures written { Writes (GivesInSomeOrder (GivesPair K.gives V.gives) pairs.now.entries)
         (Any (RefusesPair K.count V.count K.refuses V.refuses) pairs.now.entries) (W.args out.old)
         (W.args out.new) result }
-    ensures refused { IfRefused result (RefusedInSomeOrder (GivesPair K.gives V.gives)
-        (IsWide K.count V.count) (RefusesPart K.refuses V.refuses) pairs.now.entries
-        (W.args out.old) (W.args out.new)) }
+    ensures failed { FailsInSomeOrder (GivesPair K.gives V.gives)
+        (RefusesPair K.count V.count K.refuses V.refuses)
+        (FailsPair K.count V.count K.gives K.fails V.fails) pairs.now.entries (W.args out.old)
+        (W.args out.new) result }
+    ensures kept { Stays W.kept out.old out.new }
 {
     for (key, value) in pairs {
         write_pair(key, value, out)?;
@@ -37,16 +40,13 @@ impl<K: ToRedisArgs + Eq + Hash, V: ToRedisArgs> ToRedisArgs for HashMap<K, V> {
 
     ghost refuses = { λ m. Any (RefusesPair K.count V.count K.refuses V.refuses) m.entries };
 
+    ghost fails = { λ m. FailsInSomeOrder (GivesPair K.gives V.gives)
+        (RefusesPair K.count V.count K.refuses V.refuses)
+        (FailsPair K.count V.count K.gives K.fails V.fails) m.entries };
+
     ghost count = { λ m. length m.entries };
 
-    fn write_redis_args<W: RedisWrite>(&self, out: &mut W) -> RedisResult<()>
-        ensures written { Writes (GivesInSomeOrder (GivesPair K.gives V.gives) self.now.entries)
-            (Any (RefusesPair K.count V.count K.refuses V.refuses) self.now.entries)
-            (W.args out.old) (W.args out.new) result }
-        ensures refused { IfRefused result (RefusedInSomeOrder (GivesPair K.gives V.gives)
-            (IsWide K.count V.count) (RefusesPart K.refuses V.refuses) self.now.entries
-            (W.args out.old) (W.args out.new)) }
-    {
+    fn write_redis_args<W: RedisWrite>(&self, out: &mut W) -> RedisResult<()> {
         write_pairs(self, out)
     }
 

@@ -2,7 +2,8 @@
 
 ghost use Rattle.std.specs.Prelude.{length};
 ghost use Rattle.std.specs.List.{Any};
-ghost use Rattle.resp_args.specs.Args.{Writes, GivesEach, GivesInSomeOrder};
+ghost use Rattle.resp_args.specs.Args.{Writes, GivesInSomeOrder, FailsInSomeOrder};
+ghost use Rattle.resp_args.specs.Kept.{Stays};
 
 use crate::args::{NumericBehavior, ToRedisArgs};
 use crate::write::RedisWrite;
@@ -14,8 +15,11 @@ fn write_members<T: ToRedisArgs + Eq + Hash, W: RedisWrite>(
     members: &HashSet<T>,
     out: &mut W,
 ) -> RedisResult<()>
-    ensures written { Writes (GivesEach T.gives members.now.keys) (Any T.refuses members.now.keys)
-        (W.args out.old) (W.args out.new) result }
+    ensures written { Writes (GivesInSomeOrder T.gives members.now.keys)
+        (Any T.refuses members.now.keys) (W.args out.old) (W.args out.new) result }
+    ensures failed { FailsInSomeOrder T.gives T.refuses T.fails members.now.keys (W.args out.old)
+        (W.args out.new) result }
+    ensures kept { Stays W.kept out.old out.new }
 {
     for member in members {
         member.write_redis_args(out)?;
@@ -27,6 +31,8 @@ impl<T: ToRedisArgs + Eq + Hash> ToRedisArgs for HashSet<T> {
     ghost gives = { λ s. GivesInSomeOrder T.gives s.keys };
 
     ghost refuses = { λ s. Any T.refuses s.keys };
+
+    ghost fails = { λ s. FailsInSomeOrder T.gives T.refuses T.fails s.keys };
 
     ghost count = { λ s. length s.keys };
 

@@ -4,6 +4,7 @@ ghost use Rattle.std.specs.Prelude.{◌≡◌, [], ◌∷◌, ◌++◌, OnOk, On
 ghost use Rattle.std.specs.Fmt.{decimal, signed_decimal};
 ghost use Rattle.resp_args.specs.Args.{GivesOne, bytes_as_one};
 ghost use Rattle.resp_args.specs.Args.Slices.{by_rule};
+ghost use Rattle.resp_args.specs.Kept.{Stays};
 ghost use Rattle.resp_args.specs.declared.args.NumericBehavior.TheVariants.{NumberIsInteger};
 ghost use Rattle.resp_errors.specs.Memory.{OnlyMemory};
 
@@ -17,6 +18,7 @@ fn write_decimal<I: Integer, W: RedisWrite>(n: I, out: &mut W) -> RedisResult<()
     ensures ok { OnOk result (W.args out.new ≡ W.args out.old ++ I.text n ∷ []) }
     ensures err { OnErr result (W.args out.new ≡ W.args out.old) }
     ensures memory { OnlyMemory result }
+    ensures kept { Stays W.kept out.old out.new }
 {
     let mut buffer = Buffer::new();
     out.write_arg(buffer.format(n).as_bytes())

@@ -1,7 +1,7 @@
 //! A pair of a map.
 
-ghost use Rattle.resp_args.specs.Args.{Writes, GivesPair, IsWide, RefusesPart, RefusesPair};
-ghost use Rattle.resp_args.specs.Args.{RefusedPair, IfRefused};
+ghost use Rattle.resp_args.specs.Args.{Writes, GivesPair, RefusesPair, FailsPair};
+ghost use Rattle.resp_args.specs.Kept.{Stays};
 
 use crate::args::ToRedisArgs;
 use crate::write::RedisWrite;
@@ -17,8 +17,9 @@ pub(super) fn write_pair<K: ToRedisArgs, V: ToRedisArgs, W: RedisWrite>(
     ensures written { Writes (GivesPair K.gives V.gives (key.now, value.now))
         (RefusesPair K.count V.count K.refuses V.refuses (key.now, value.now)) (W.args out.old)
         (W.args out.new) result }
-    ensures refused { IfRefused result (RefusedPair (IsWide K.count V.count (key.now, value.now))
-        (RefusesPart K.refuses V.refuses (key.now, value.now)) (W.args out.old) (W.args out.new)) }
+    ensures failed { FailsPair K.count V.count K.gives K.fails V.fails (key.now, value.now)
+        (W.args out.old) (W.args out.new) result }
+    ensures kept { Stays W.kept out.old out.new }
 {
     if key.num_of_args() > 1 || value.num_of_args() > 1 {
         return Err(RedisError::from((

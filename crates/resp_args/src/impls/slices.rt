@@ -1,7 +1,8 @@
 //! Slices, arrays and vectors are written as their items, those of bytes as one argument.
 
 ghost use Rattle.std.specs.Prelude.{◌≡◌};
-ghost use Rattle.resp_args.specs.Args.{GivesSlice, RefusesSlice, count_of_slice, GivesOne};
+ghost use Rattle.resp_args.specs.Args.{GivesSlice, RefusesSlice, FailsSlice, count_of_slice};
+ghost use Rattle.resp_args.specs.Args.{GivesOne};
 
 use crate::args::{NumericBehavior, ToRedisArgs};
 use crate::write::RedisWrite;
@@ -28,6 +29,8 @@ impl<T: ToRedisArgs> ToRedisArgs for &[T] {
     ghost gives = { λ s. GivesSlice T.slices T.gives s.now };
 
     ghost refuses = { λ s. RefusesSlice T.slices T.refuses s.now };
+
+    ghost fails = { λ s. FailsSlice T.slices T.gives T.refuses T.fails s.now };
 
     ghost count = { λ s. count_of_slice T.slices T.count s.now };
 
@@ -60,6 +63,8 @@ impl<T: ToRedisArgs> ToRedisArgs for &mut [T] {
 
     ghost refuses = { λ s. RefusesSlice T.slices T.refuses s.now };
 
+    ghost fails = { λ s. FailsSlice T.slices T.gives T.refuses T.fails s.now };
+
     ghost count = { λ s. count_of_slice T.slices T.count s.now };
 
     fn write_redis_args<W: RedisWrite>(&self, out: &mut W) -> RedisResult<()> {
@@ -91,6 +96,8 @@ impl<T: ToRedisArgs, const N: usize> ToRedisArgs for &[T; N] {
 
     ghost refuses = { λ s. RefusesSlice T.slices T.refuses s.now };
 
+    ghost fails = { λ s. FailsSlice T.slices T.gives T.refuses T.fails s.now };
+
     ghost count = { λ s. count_of_slice T.slices T.count s.now };
 
     fn write_redis_args<W: RedisWrite>(&self, out: &mut W) -> RedisResult<()> {
@@ -121,6 +128,8 @@ impl<T: ToRedisArgs> ToRedisArgs for Vec<T> {
     ghost gives = { λ s. GivesSlice T.slices T.gives s.items };
 
     ghost refuses = { λ s. RefusesSlice T.slices T.refuses s.items };
+
+    ghost fails = { λ s. FailsSlice T.slices T.gives T.refuses T.fails s.items };
 
     ghost count = { λ s. count_of_slice T.slices T.count s.items };
 
@@ -155,6 +164,8 @@ impl<T: ToRedisArgs> ToRedisArgs for BoxedSlice<T> {
 
     ghost refuses = { λ s. RefusesSlice T.slices T.refuses (boxed_slice_items s) };
 
+    ghost fails = { λ s. FailsSlice T.slices T.gives T.refuses T.fails (boxed_slice_items s) };
+
     ghost count = { λ s. count_of_slice T.slices T.count (boxed_slice_items s) };
 
     fn write_redis_args<W: RedisWrite>(&self, out: &mut W) -> RedisResult<()> {
@@ -187,6 +198,8 @@ impl<T: ToRedisArgs> ToRedisArgs for RcSlice<T> {
     ghost gives = { λ s. GivesSlice T.slices T.gives (rc_slice_items s) };
 
     ghost refuses = { λ s. RefusesSlice T.slices T.refuses (rc_slice_items s) };
+
+    ghost fails = { λ s. FailsSlice T.slices T.gives T.refuses T.fails (rc_slice_items s) };
 
     ghost count = { λ s. count_of_slice T.slices T.count (rc_slice_items s) };
 

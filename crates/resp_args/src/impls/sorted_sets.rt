@@ -2,7 +2,8 @@
 
 ghost use Rattle.std.specs.Prelude.{length};
 ghost use Rattle.std.specs.List.{Any};
-ghost use Rattle.resp_args.specs.Args.{Writes, GivesEach};
+ghost use Rattle.resp_args.specs.Args.{Writes, GivesEach, FailsEach};
+ghost use Rattle.resp_args.specs.Kept.{Stays};
 
 use crate::args::{NumericBehavior, ToRedisArgs};
 use crate::write::RedisWrite;
@@ -15,6 +16,9 @@ fn write_members<T: ToRedisArgs + Ord, W: RedisWrite>(
 ) -> RedisResult<()>
     ensures written { Writes (GivesEach T.gives members.now.keys) (Any T.refuses members.now.keys)
         (W.args out.old) (W.args out.new) result }
+    ensures failed { FailsEach T.gives T.refuses T.fails members.now.keys (W.args out.old)
+        (W.args out.new) result }
+    ensures kept { Stays W.kept out.old out.new }
 {
     for member in members {
         member.write_redis_args(out)?;
@@ -26,6 +30,8 @@ impl<T: ToRedisArgs + Ord> ToRedisArgs for BTreeSet<T> {
     ghost gives = { λ s. GivesEach T.gives s.keys };
 
     ghost refuses = { λ s. Any T.refuses s.keys };
+
+    ghost fails = { λ s. FailsEach T.gives T.refuses T.fails s.keys };
 
     ghost count = { λ s. length s.keys };
 

@@ -2,7 +2,7 @@
 //! and a tuple of the rest.
 
 ghost use Rattle.std.specs.Prelude.{◌≡◌, ◌⊎◌};
-ghost use Rattle.resp_args.specs.Args.{GivesBoth};
+ghost use Rattle.resp_args.specs.Args.{GivesBoth, FailsBoth};
 
 use crate::args::{NumericBehavior, ToRedisArgs};
 use crate::write::RedisWrite;
@@ -12,6 +12,8 @@ impl<A: ToRedisArgs> ToRedisArgs for (A,) {
     ghost gives = { λ x. A.gives x.0 };
 
     ghost refuses = { λ x. A.refuses x.0 };
+
+    ghost fails = { λ x. A.fails x.0 };
 
     fn write_redis_args<W: RedisWrite>(&self, out: &mut W) -> RedisResult<()> {
         self.0.write_redis_args(out)
@@ -38,6 +40,8 @@ impl<A: ToRedisArgs, B: ToRedisArgs> ToRedisArgs for (A, B) {
     ghost gives = { λ x. GivesBoth (A.gives x.0) (B.gives x.1) };
 
     ghost refuses = { λ x. A.refuses x.0 ⊎ B.refuses x.1 };
+
+    ghost fails = { λ x. FailsBoth (A.gives x.0) (A.fails x.0) (B.fails x.1) };
 
     ghost count = { λ _. 2 };
 
@@ -68,6 +72,9 @@ impl<A: ToRedisArgs, B: ToRedisArgs, C: ToRedisArgs> ToRedisArgs for (A, B, C) {
 
     ghost refuses = { λ x. A.refuses x.0 ⊎ (B.refuses x.1 ⊎ C.refuses x.2) };
 
+    ghost fails = { λ x. FailsBoth (A.gives x.0) (A.fails x.0)
+        (FailsBoth (B.gives x.1) (B.fails x.1) (C.fails x.2)) };
+
     ghost count = { λ _. 3 };
 
     fn write_redis_args<W: RedisWrite>(&self, out: &mut W) -> RedisResult<()> {
@@ -97,6 +104,10 @@ impl<A: ToRedisArgs, B: ToRedisArgs, C: ToRedisArgs, D: ToRedisArgs> ToRedisArgs
         (GivesBoth (B.gives x.1) (GivesBoth (C.gives x.2) (D.gives x.3))) };
 
     ghost refuses = { λ x. A.refuses x.0 ⊎ (B.refuses x.1 ⊎ (C.refuses x.2 ⊎ D.refuses x.3)) };
+
+    ghost fails = { λ x. FailsBoth (A.gives x.0) (A.fails x.0)
+        (FailsBoth (B.gives x.1) (B.fails x.1)
+        (FailsBoth (C.gives x.2) (C.fails x.2) (D.fails x.3))) };
 
     ghost count = { λ _. 4 };
 
@@ -129,6 +140,10 @@ impl<A: ToRedisArgs, B: ToRedisArgs, C: ToRedisArgs, D: ToRedisArgs, E: ToRedisA
 
     ghost refuses = { λ x. A.refuses x.0
         ⊎ (B.refuses x.1 ⊎ (C.refuses x.2 ⊎ (D.refuses x.3 ⊎ E.refuses x.4))) };
+
+    ghost fails = { λ x. FailsBoth (A.gives x.0) (A.fails x.0)
+        (FailsBoth (B.gives x.1) (B.fails x.1) (FailsBoth (C.gives x.2) (C.fails x.2)
+        (FailsBoth (D.gives x.3) (D.fails x.3) (E.fails x.4)))) };
 
     ghost count = { λ _. 5 };
 
@@ -168,6 +183,11 @@ impl<
 
     ghost refuses = { λ x. A.refuses x.0
         ⊎ (B.refuses x.1 ⊎ (C.refuses x.2 ⊎ (D.refuses x.3 ⊎ (E.refuses x.4 ⊎ F.refuses x.5)))) };
+
+    ghost fails = { λ x. FailsBoth (A.gives x.0) (A.fails x.0)
+        (FailsBoth (B.gives x.1) (B.fails x.1) (FailsBoth (C.gives x.2) (C.fails x.2)
+        (FailsBoth (D.gives x.3) (D.fails x.3)
+        (FailsBoth (E.gives x.4) (E.fails x.4) (F.fails x.5))))) };
 
     ghost count = { λ _. 6 };
 
@@ -211,6 +231,11 @@ impl<
         ⊎ (B.refuses x.1 ⊎ (C.refuses x.2 ⊎ (D.refuses x.3 ⊎
         (E.refuses x.4 ⊎ (F.refuses x.5 ⊎ G.refuses x.6))))) };
 
+    ghost fails = { λ x. FailsBoth (A.gives x.0) (A.fails x.0)
+        (FailsBoth (B.gives x.1) (B.fails x.1) (FailsBoth (C.gives x.2) (C.fails x.2)
+        (FailsBoth (D.gives x.3) (D.fails x.3) (FailsBoth (E.gives x.4) (E.fails x.4)
+        (FailsBoth (F.gives x.5) (F.fails x.5) (G.fails x.6)))))) };
+
     ghost count = { λ _. 7 };
 
     fn write_redis_args<W: RedisWrite>(&self, out: &mut W) -> RedisResult<()> {
@@ -253,6 +278,12 @@ impl<
     ghost refuses = { λ x. A.refuses x.0
         ⊎ (B.refuses x.1 ⊎ (C.refuses x.2 ⊎ (D.refuses x.3 ⊎
         (E.refuses x.4 ⊎ (F.refuses x.5 ⊎ (G.refuses x.6 ⊎ H.refuses x.7)))))) };
+
+    ghost fails = { λ x. FailsBoth (A.gives x.0) (A.fails x.0)
+        (FailsBoth (B.gives x.1) (B.fails x.1) (FailsBoth (C.gives x.2) (C.fails x.2)
+        (FailsBoth (D.gives x.3) (D.fails x.3) (FailsBoth (E.gives x.4) (E.fails x.4)
+        (FailsBoth (F.gives x.5) (F.fails x.5)
+        (FailsBoth (G.gives x.6) (G.fails x.6) (H.fails x.7))))))) };
 
     ghost count = { λ _. 8 };
 
@@ -300,6 +331,12 @@ impl<
     ghost refuses = { λ x. A.refuses x.0
         ⊎ (B.refuses x.1 ⊎ (C.refuses x.2 ⊎ (D.refuses x.3 ⊎
         (E.refuses x.4 ⊎ (F.refuses x.5 ⊎ (G.refuses x.6 ⊎ (H.refuses x.7 ⊎ I.refuses x.8))))))) };
+
+    ghost fails = { λ x. FailsBoth (A.gives x.0) (A.fails x.0)
+        (FailsBoth (B.gives x.1) (B.fails x.1) (FailsBoth (C.gives x.2) (C.fails x.2)
+        (FailsBoth (D.gives x.3) (D.fails x.3) (FailsBoth (E.gives x.4) (E.fails x.4)
+        (FailsBoth (F.gives x.5) (F.fails x.5) (FailsBoth (G.gives x.6) (G.fails x.6)
+        (FailsBoth (H.gives x.7) (H.fails x.7) (I.fails x.8)))))))) };
 
     ghost count = { λ _. 9 };
 
@@ -349,6 +386,13 @@ impl<
         ⊎ (B.refuses x.1 ⊎ (C.refuses x.2 ⊎ (D.refuses x.3 ⊎
         (E.refuses x.4 ⊎ (F.refuses x.5 ⊎ (G.refuses x.6 ⊎
         (H.refuses x.7 ⊎ (I.refuses x.8 ⊎ J.refuses x.9)))))))) };
+
+    ghost fails = { λ x. FailsBoth (A.gives x.0) (A.fails x.0)
+        (FailsBoth (B.gives x.1) (B.fails x.1) (FailsBoth (C.gives x.2) (C.fails x.2)
+        (FailsBoth (D.gives x.3) (D.fails x.3) (FailsBoth (E.gives x.4) (E.fails x.4)
+        (FailsBoth (F.gives x.5) (F.fails x.5) (FailsBoth (G.gives x.6) (G.fails x.6)
+        (FailsBoth (H.gives x.7) (H.fails x.7)
+        (FailsBoth (I.gives x.8) (I.fails x.8) (J.fails x.9))))))))) };
 
     ghost count = { λ _. 10 };
 
@@ -400,6 +444,13 @@ impl<
         ⊎ (B.refuses x.1 ⊎ (C.refuses x.2 ⊎ (D.refuses x.3 ⊎
         (E.refuses x.4 ⊎ (F.refuses x.5 ⊎ (G.refuses x.6 ⊎
         (H.refuses x.7 ⊎ (I.refuses x.8 ⊎ (J.refuses x.9 ⊎ K.refuses x.10))))))))) };
+
+    ghost fails = { λ x. FailsBoth (A.gives x.0) (A.fails x.0)
+        (FailsBoth (B.gives x.1) (B.fails x.1) (FailsBoth (C.gives x.2) (C.fails x.2)
+        (FailsBoth (D.gives x.3) (D.fails x.3) (FailsBoth (E.gives x.4) (E.fails x.4)
+        (FailsBoth (F.gives x.5) (F.fails x.5) (FailsBoth (G.gives x.6) (G.fails x.6)
+        (FailsBoth (H.gives x.7) (H.fails x.7) (FailsBoth (I.gives x.8) (I.fails x.8)
+        (FailsBoth (J.gives x.9) (J.fails x.9) (K.fails x.10)))))))))) };
 
     ghost count = { λ _. 11 };
 
@@ -454,6 +505,14 @@ impl<
         (E.refuses x.4 ⊎ (F.refuses x.5 ⊎ (G.refuses x.6 ⊎
         (H.refuses x.7 ⊎ (I.refuses x.8 ⊎ (J.refuses x.9 ⊎
         (K.refuses x.10 ⊎ L.refuses x.11)))))))))) };
+
+    ghost fails = { λ x. FailsBoth (A.gives x.0) (A.fails x.0)
+        (FailsBoth (B.gives x.1) (B.fails x.1) (FailsBoth (C.gives x.2) (C.fails x.2)
+        (FailsBoth (D.gives x.3) (D.fails x.3) (FailsBoth (E.gives x.4) (E.fails x.4)
+        (FailsBoth (F.gives x.5) (F.fails x.5) (FailsBoth (G.gives x.6) (G.fails x.6)
+        (FailsBoth (H.gives x.7) (H.fails x.7) (FailsBoth (I.gives x.8) (I.fails x.8)
+        (FailsBoth (J.gives x.9) (J.fails x.9)
+        (FailsBoth (K.gives x.10) (K.fails x.10) (L.fails x.11))))))))))) };
 
     ghost count = { λ _. 12 };
 

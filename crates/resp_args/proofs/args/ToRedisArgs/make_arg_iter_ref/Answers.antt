@@ -1,8 +1,8 @@
-use Rattle.std.proofs.Common.{List, [], ◌∷◌, ◌++◌, sym, subst, refl, Option, Some, Result, Ok, Err, OnOk}
+use Rattle.std.proofs.Common.{List, [], ◌∷◌, ◌++◌, sym, subst, refl, ◌∙◌, Option, Some, Result, Ok, Err, OnOk}
 use Rattle.std.specs.Iterator.{Yields}
 use Rattle.std.specs.Result.{IsErr}
 use Rattle.resp_errors.specs.declared.redis_error.RedisError.{RedisError}
-use Rattle.resp_args.proofs.GrowingArgs.{progress_step, progress_more, progress_fails}
+use Rattle.resp_args.proofs.GrowingArgs.{progress_step, progress_more, progress_fails, progress_failed}
 use Rattle.resp_args.proofs.args.ToRedisArgs.make_arg_iter_ref.Goals as goal
 
 Yields-push : {S A : Type 0} (steps : S → Option A → S → Type 0) (s : S) (xs : List A) (t : S) (x : A) (u : S) → Yields steps s xs t → steps t (Some x) u → Yields steps s (xs ++ x ∷ []) u
@@ -17,8 +17,8 @@ no_end End (Err e) h = tt
 pub loop-value-preserved : goal.loop-value-preserved
 loop-value-preserved g c =
     let goes = c.in-Some.ensures.goes.on c.loop-value.invariant.1 in
-    let written = c.in_ok-write_redis_args.ensures.written in
-    (goes.0, goes.1, progress_step _ _ _ c.in-Some.value.now [] _ _ _ (progress_more _ _ c.loop-value.yielded c.in-Some.value _ _ c.loop-value.invariant.2) written.0 written.1)
+    let ensures = c.in_ok-write_redis_args.ensures in
+    (goes.0, goes.1, progress_step _ _ _ c.in-Some.value.now [] _ _ _ (progress_more _ _ c.loop-value.yielded c.in-Some.value _ _ c.loop-value.invariant.2) ensures.written.0 ensures.written.1, ensures.kept ∙ c.loop-value.invariant.3)
 
 pub returns-in_err-write_redis_args : goal.returns-in_err-write_redis_args
 returns-in_err-write_redis_args g c =
@@ -26,12 +26,16 @@ returns-in_err-write_redis_args g c =
     let given = c.loop-value.yielded in
     let last = c.in-Some.value in
     let before : Yields steps c.args.values given c.loop-value.value-iterator = subst (λ start. Yields steps start given c.loop-value.value-iterator) c.into_iter-value-iterator.ensures.into_iter_gives c.loop-value.yielded_by in
+    let progress = progress_more _ _ given last _ _ c.loop-value.invariant.2 in
+    let ensures = c.in_err-write_redis_args.ensures in
     record {
       written = record {
         items = given ++ last ∷ [];
         rest = c.next.new.self;
         yielded = Yields-push steps c.args.values given c.loop-value.value-iterator last c.next.new.self before c.in-Some.ensures.steps;
         whole = no_end _ c.from_residual.result c.from_residual.ensures.0;
-        written = progress_fails _ _ _ last.now [] _ _ _ _ _ (progress_more _ _ given last _ _ c.loop-value.invariant.2) c.in_err-write_redis_args.ensures.written c.from_residual.ensures;
+        written = progress_fails _ _ _ last.now [] _ _ _ _ _ progress ensures.written c.from_residual.ensures;
+        failed = progress_failed _ _ _ _ last.now [] _ _ _ _ _ progress ensures.written ensures.failed c.from_residual.ensures;
       };
+      kept = ensures.kept ∙ c.loop-value.invariant.3;
     }
