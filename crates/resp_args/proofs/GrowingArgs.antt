@@ -8,7 +8,7 @@ use Rattle.std.proofs.lemmas.List.{flat_map_more, get_or_append_left, map_push}
 use Rattle.std.proofs.Math.Seq.{get_or-append_seam}
 use Rattle.std.specs.List.{AllZip, Any}
 use Rattle.resp_errors.specs.declared.redis_error.RedisError.{RedisError}
-use Rattle.resp_args.specs.Args.{Args, args_of, extended, Appends, GivesEach, IsPrefix, IsRefusal, Writes, GivesBoth, InSomeOrder, GivesInSomeOrder, Failure, IsFailure, FailsEach, FailsAfter, FailsBoth, FailsInSomeOrder}
+use Rattle.resp_args.specs.Args.{Args, args_of, extended, Appends, GivesEach, IsPrefix, IsRefusal, Writes, GivesBoth, InSomeOrder, GivesInSomeOrder, Failure, FailsEach, FailsLast, FailsBoth, FailsInSomeOrder}
 
 AllZip-append : {A B : Type 0} (R : A → B → Type 0) (xs : List A) (ys : List B) (x : A) (y : B) → AllZip R xs ys → R x y → AllZip R (xs ++ x ∷ []) (ys ++ y ∷ [])
 AllZip-append R [] [] x y h r = (r, tt)
@@ -98,6 +98,11 @@ pub progress_failed : {X : Type 0} (Gives : X → Args → Type 0) (Refuses : X 
 progress_failed Gives Refuses Fails all x rest old mid new (Ok y) e p written failed is = tt
 progress_failed Gives Refuses Fails all x rest old mid new (Err d) e p written failed is =
     record { before = p.done; item = x; after = rest; in_order = p.split; taken = p.taken; reached = mid; whole = p.appended; prefix = written.0; refusal = subst (IsRefusal (Refuses x)) (sym is.1) written.1; failed = subst (λ d. Fails x mid new (Err d)) (sym is.1) failed }
+
+pub progress_failed_last : {X : Type 0} (Gives : X → Args → Type 0) (Refuses : X → Type 0) (Fails : X → Failure) (all : List X) (x : X) (old mid new : Args) (r : Result (Unit {0}) RedisError) (e : RedisError) → Progress Gives Refuses all (x ∷ []) old mid → IsPrefix mid new × IsRefusal (Refuses x) e → Fails x mid new (Err e) → IsErr r × IsErrAnd r (λ d. d ≡ e) → FailsLast Gives Refuses Fails all old new r
+unfolding progress_failed
+progress_failed_last Gives Refuses Fails all x old mid new (Ok y) e p written failed is = tt
+progress_failed_last Gives Refuses Fails all x old mid new (Err d) e p written failed is = (progress_failed Gives Refuses Fails all x [] old mid new (Err d) e p written failed is, refl)
 
 -- the order in which the items stand is one of them
 standing : {X : Type 0} (items : List X) (P : List X → Type 0) → P items → InSomeOrder items P

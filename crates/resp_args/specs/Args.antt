@@ -67,7 +67,7 @@ abbrev pub IsFailure : Failure → RedisError → Type 0
 IsFailure Fails e = (old : Args) × (new : Args) × Fails old new (Err e)
 
 -- what writing values leaves and answers that an iterator gives, one after another: it was asked
--- for these, which were written as far as one fails, and at Ok it has no more
+-- for these, which were written, and at Ok it has no more
 pub record WritesItems {S X : Type 0} (steps : S → Option (Bor X) → S → Type 0) (start : S)
     (Gives : List X → Args → Type 0) (Refuses : List X → Type 0) (Fails : List X → Failure)
     (old new : Args) (result : Result (Unit {0}) RedisError) : Type 0 where
@@ -113,6 +113,12 @@ abbrev pub FailsEach : {X : Type 0} → (X → Args → Type 0) → (X → Type 
     → Failure
 FailsEach Gives Refuses Fails items old new result =
     IfErr result (FailsAt Gives Refuses Fails items old new)
+
+-- items fail at the last of them
+abbrev pub FailsLast : {X : Type 0} → (X → Args → Type 0) → (X → Type 0) → (X → Failure) → List X
+    → Failure
+FailsLast Gives Refuses Fails items old new result = IfErr result (λ e.
+    (at : FailsAt Gives Refuses Fails items old new e) × (at.after ≡ []))
 
 -- no value is refused
 abbrev pub Never : {X : Type 0} → X → Type 0

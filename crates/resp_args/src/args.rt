@@ -5,6 +5,7 @@ ghost use Rattle.std.specs.List.{Any};
 ghost use Rattle.resp_args.specs.Args.{Args, args_of, Writes, IsRefusal, Never, GivesEach};
 ghost use Rattle.std.specs.Iterator.{IsFinite};
 ghost use Rattle.resp_args.specs.Args.{WritesItems, Failure, AnyFailure, IsFailure, FailsEach};
+ghost use Rattle.resp_args.specs.Args.{FailsLast};
 ghost use Rattle.resp_args.specs.Args.{GivesSlice, RefusesSlice, FailsSlice, is_single_slice};
 ghost use Rattle.resp_args.specs.Args.{Slices};
 ghost use Rattle.resp_args.specs.Args.Slices.{by_item};
@@ -146,7 +147,7 @@ pub trait ToRedisArgs: Sized {
         Self: 'a,
         requires { I.can_next values × IsFinite (I.remaining values) }
         ensures written { WritesItems I.next_gives values (GivesEach gives) (Any refuses)
-            (FailsEach gives refuses fails) (W.args out.old) (W.args out.new) result }
+            (FailsLast gives refuses fails) (W.args out.old) (W.args out.new) result }
         ensures kept { Stays W.kept out.old out.new }
     {
         for value in values {

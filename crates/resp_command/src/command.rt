@@ -5,7 +5,7 @@ ghost use Rattle.std.specs.Prelude.{OnOk, OnErr, IsTrue, true, false, length, ta
 ghost use Rattle.std.specs.Prelude.{Err, MatchResult};
 ghost use Rattle.std.specs.Iterator.{IsFiniteIterable};
 ghost use Rattle.resp_errors.specs.Memory.{OnlyMemory};
-ghost use Rattle.resp_args.specs.Args.{Appends, IsRefusal, extended};
+ghost use Rattle.resp_args.specs.Args.{Appends, IsFailure, IsRefusal, extended};
 ghost use Rattle.resp_command.specs.Command.{new_command};
 ghost use Rattle.resp_command.specs.Cursors.{HoldsCursor, with_cursor, with_cursor_arg};
 ghost use Rattle.resp_command.specs.Cursors.{with_extended_arg};
@@ -95,6 +95,7 @@ impl Cmd {
         ensures rest { IfOk result (λ c. c.now ≡ record self.old { args = c.now.args }) }
         ensures accepted { OnOk result (T.refuses arg → ⊥) }
         ensures refused { IfErr result (IsRefusal (T.refuses arg)) }
+        ensures failed { IfErr result (IsFailure (T.fails arg)) }
     {
         self.push_arg(arg)?;
         Ok(self)
@@ -106,6 +107,7 @@ impl Cmd {
         ensures accepted { OnOk result (T.refuses arg → ⊥) }
         ensures rest { OnOk result (self.new ≡ record self.old { args = self.new.args }) }
         ensures refused { IfErr result (IsRefusal (T.refuses arg)) }
+        ensures failed { IfErr result (IsFailure (T.fails arg)) }
         ensures unchanged { OnErr result (self.new ≡ self.old) }
     {
         let before = self.frames.len();
@@ -378,7 +380,12 @@ fn answer<T: FromRedisValue>(alloc: Global, reply: Value) -> RedisResult<T>
 }
 
 impl RedisWrite for Cmd {
+    ghost use Rattle.std.specs.Prelude.{ℕ, Bool, Option};
+
     ghost args = { λ c. c.args };
+
+    /// Whether a reply is waited for, and the cursor.
+    ghost kept = { record { What = Bool × Option ℕ; of = λ c. (c.no_response, c.cursor) } };
 
     fn write_arg(&mut self, arg: &[u8]) -> RedisResult<()>
         ensures ok { OnOk result (self.new.args ≡ self.old.args ++ arg.now ∷ []) }

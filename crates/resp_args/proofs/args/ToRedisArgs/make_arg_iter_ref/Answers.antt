@@ -2,7 +2,7 @@ use Rattle.std.proofs.Common.{List, [], ◌∷◌, ◌++◌, sym, subst, refl, �
 use Rattle.std.specs.Iterator.{Yields}
 use Rattle.std.specs.Result.{IsErr}
 use Rattle.resp_errors.specs.declared.redis_error.RedisError.{RedisError}
-use Rattle.resp_args.proofs.GrowingArgs.{progress_step, progress_more, progress_fails, progress_failed}
+use Rattle.resp_args.proofs.GrowingArgs.{progress_step, progress_more, progress_fails, progress_failed_last}
 use Rattle.resp_args.proofs.args.ToRedisArgs.make_arg_iter_ref.Goals as goal
 
 Yields-push : {S A : Type 0} (steps : S → Option A → S → Type 0) (s : S) (xs : List A) (t : S) (x : A) (u : S) → Yields steps s xs t → steps t (Some x) u → Yields steps s (xs ++ x ∷ []) u
@@ -35,7 +35,7 @@ returns-in_err-write_redis_args g c =
         yielded = Yields-push steps c.args.values given c.loop-value.value-iterator last c.next.new.self before c.in-Some.ensures.steps;
         whole = no_end _ c.from_residual.result c.from_residual.ensures.0;
         written = progress_fails _ _ _ last.now [] _ _ _ _ _ progress ensures.written c.from_residual.ensures;
-        failed = progress_failed _ _ _ _ last.now [] _ _ _ _ _ progress ensures.written ensures.failed c.from_residual.ensures;
+        failed = progress_failed_last _ _ _ _ last.now _ _ _ _ _ progress ensures.written ensures.failed c.from_residual.ensures;
       };
       kept = ensures.kept ∙ c.loop-value.invariant.3;
     }

@@ -1,6 +1,6 @@
-use Rattle.std.proofs.Common.{rules, true, false, is_err, ◌≡◌, ◌++◌, ◌∙◌, Result, Ok, Err, OnOk, ap, sym, subst}
+use Rattle.std.proofs.Common.{rules, true, false, is_err, IfErr, ◌≡◌, ◌++◌, ◌∙◌, Result, Ok, Err, OnOk, ap, sym, subst}
 use Rattle.resp_errors.specs.declared.redis_error.RedisError.{RedisError}
-use Rattle.resp_args.specs.Args.{Args, Appends, Writes}
+use Rattle.resp_args.specs.Args.{Args, Appends, Writes, Failure, IsFailure}
 use Rattle.resp_command.specs.Pieces.{Keeps, sent_args}
 use Rattle.resp_command.proofs.PiecesAgree.{keeps_appended, sent-appended}
 use Rattle.resp_command.proofs.command.Cmd.push_arg.Goals as goal
@@ -18,6 +18,11 @@ no_claim Claim (Err x) e = tt
 on_ok : (Claim : Type 0) (r : Result (Unit {0}) RedisError) → Claim → OnOk r Claim
 on_ok Claim (Ok x) h = h
 on_ok Claim (Err x) h = tt
+
+-- what was answered is what writing to these arguments answers
+answered : (Fails : Failure) (old new : Args) (r : Result (Unit {0}) RedisError) → Fails old new r → IfErr r (IsFailure Fails)
+answered Fails old new (Ok x) failed = tt
+answered Fails old new (Err e) failed = (old, new, failed)
 
 pub invariant_of-self-else-is_err : goal.invariant_of-self-else-is_err
 invariant_of-self-else-is_err g c =
@@ -38,3 +43,8 @@ returns-clause-given g c =
             w.2,
           )
     ]
+
+pub returns-clause-failed : goal.returns-clause-failed
+returns-clause-failed g c =
+    let written = c.write_redis_args-written in
+    answered (g.T.ToRedisArgs.fails c.args.arg) _ _ written.result written.ensures.failed
