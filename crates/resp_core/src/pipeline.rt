@@ -5,7 +5,7 @@ ghost use Rattle.std.specs.Prelude.{IfOk, IfErr, OnOk, OnErr, true};
 ghost use Rattle.std.specs.List.{flat_map};
 ghost use Rattle.std.specs.Slice.Iter.{iter_rest};
 ghost use Rattle.resp_errors.specs.Memory.{OnlyMemory};
-ghost use Rattle.resp_args.specs.Args.{Args, IsRefusal};
+ghost use Rattle.resp_args.specs.Args.{Args, IsFailure, IsRefusal};
 ghost use Rattle.resp_core.specs.Outcome.{Composes, Concludes, Outcome};
 ghost use Rattle.resp_command.specs.Command.{new_command};
 ghost use Rattle.resp_command.specs.Packed.{packed};
@@ -154,6 +154,7 @@ impl Pipeline {
         ensures given { IfOk result (λ p. AppendsToLast (T.gives arg) self.old p.now) }
         ensures accepted { OnOk result (T.refuses arg → ⊥) }
         ensures refused { IfErr result (IsRefusal (T.refuses arg)) }
+        ensures failed { IfErr result (IsFailure (T.fails arg)) }
     {
         self.push_arg(arg)?;
         Ok(self)
@@ -165,6 +166,7 @@ impl Pipeline {
         ensures given { OnOk result (AppendsToLast (T.gives arg) self.old self.new) }
         ensures accepted { OnOk result (T.refuses arg → ⊥) }
         ensures refused { IfErr result (IsRefusal (T.refuses arg)) }
+        ensures failed { IfErr result (IsFailure (T.fails arg)) }
         ensures unchanged { OnErr result (self.new ≡ self.old) }
     {
         let last = self.commands.len() - 1;
