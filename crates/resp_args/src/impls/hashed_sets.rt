@@ -1,4 +1,5 @@
-//! A hashed set is written as its members, in some order.
+//! A hashed set is written as its members, in some order. Refused at the first member that
+//! is refused; those before it are written whole.
 
 ghost use Rattle.std.specs.Prelude.{length};
 ghost use Rattle.std.specs.List.{Any};

@@ -1,4 +1,5 @@
-//! A sorted set is written as its members, in their order.
+//! A sorted set is written as its members, in their order. Refused at the first member that
+//! is refused; those before it are written whole.
 
 ghost use Rattle.std.specs.Prelude.{length};
 ghost use Rattle.std.specs.List.{Any};

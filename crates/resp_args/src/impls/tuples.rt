@@ -1,5 +1,6 @@
 //! Tuples are written as their elements, in order: from three elements on, as the pair of the first
-//! and a tuple of the rest.
+//! and a tuple of the rest. Refused at the first element that is refused; those before it are
+//! written whole.
 
 ghost use Rattle.std.specs.Prelude.{◌≡◌, ◌⊎◌};
 ghost use Rattle.resp_args.specs.Args.{GivesBoth, FailsBoth};
