@@ -1,7 +1,7 @@
 -- Comparisons of a value, or of its digest, as arguments (Redis commands, "SET", "DELEX").
 use Rattle.std.specs.Prelude.{◌≡◌, ℕ, List, [], ◌∷◌, codes}
 use Rattle.resp_containers.specs.Lossy.{lossy}
-use Rattle.resp_args.specs.Args.{Args, IsOnly}
+use Rattle.resp_args.specs.Args.{Args}
 use Rattle.resp_args.specs.declared.comparison.ValueComparison.{ValueComparison}
 use Rattle.resp_args.specs.declared.comparison.ValueComparison.TheVariants as compare
 
