@@ -2,9 +2,13 @@
 #![tactic(auto)]
 
 mod boxed;
+mod clones;
+mod equality;
 mod items;
 mod text;
 
 pub use boxed::Boxed;
+pub use clones::{ExactClone, law_of_clones};
+pub use equality::{StructuralEq, law_of_equal_values};
 pub use items::Items;
 pub use text::Text;

@@ -1,2 +1,2 @@
-pub mod EqualErrors
+pub mod ErrorTexts
 pub mod Words

@@ -2,7 +2,9 @@
 //! what a call over a connection can fail with.
 #![tactic(auto)]
 
+mod clones;
 mod description;
+mod equality;
 mod kinds;
 pub mod laws;
 mod parsing_error;

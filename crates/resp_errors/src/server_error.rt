@@ -1,9 +1,9 @@
 //! Errors that a server answers.
 
-ghost use Rattle.std.specs.Prelude.{◌≡◌, ◌++◌, IfOk};
+ghost use Rattle.std.specs.Prelude.{◌≡◌, IfOk};
 ghost use Rattle.std.specs.Option.{option_copied};
 ghost use Rattle.resp_errors.specs.ServerErrors.{server_kind_of, server_code_of};
-ghost use Rattle.resp_errors.specs.ServerErrors.{server_details_of, text_of, after_code};
+ghost use Rattle.resp_errors.specs.ServerErrors.{server_details_of};
 ghost use Rattle.resp_errors.specs.ServerErrors.{server_error, error_with, name_of_server_kind};
 ghost use Rattle.resp_errors.specs.ServerErrors.{display_of};
 ghost use Rattle.resp_errors.specs.Memory.{OnlyMemory};
@@ -40,12 +40,12 @@ pub enum ServerError {
 impl ServerError {
     /// The error of an error reply's text: the code up to the first space, then the detail.
     ///
-    /// Without a space the whole text is the code and there is no detail. Fails only with
+    /// Without a space the whole text is the code and there is no detail. Code and detail join to
+    /// the text ([`law_of_error_texts`](crate::laws::law_of_error_texts)). Fails only with
     /// `OutOfMemory`.
     #[tactic(auto, unfolding(crate::specs::ServerErrors::server_error))]
     pub fn from_text(alloc: Global, text: &str) -> RedisResult<ServerError>
         ensures read { IfOk result (λ e. e ≡ server_error text.now) }
-        ensures joins { IfOk result (λ e. text_of e ≡ text.now) }
         ensures memory { OnlyMemory result }
     {
         match text.split_once(' ') {
@@ -59,7 +59,6 @@ impl ServerError {
 
     fn with_code(alloc: Global, code: &str, detail: Option<Text>) -> RedisResult<ServerError>
         ensures read { IfOk result (λ e. e ≡ error_with code.now detail) }
-        ensures joins { IfOk result (λ e. text_of e ≡ code.now ++ after_code detail) }
         ensures memory { OnlyMemory result }
     {
         match ServerErrorKind::from_code(code) {

@@ -1,4 +1,5 @@
 pub mod FirstError
+pub mod lemmas
 pub mod MapIters
 pub mod Names
 pub mod Views
