@@ -2,6 +2,7 @@
 //! two answers that are no number.
 #![tactic(auto)]
 
+mod equality;
 mod increx;
 mod info;
 mod integer_reply;
