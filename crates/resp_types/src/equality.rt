@@ -12,26 +12,15 @@ use crate::value_type::ValueType;
 use resp_value::{ExactClone, StructuralEq};
 
 impl StructuralEq for IntegerReplyOrNoOp {
-    ghost use Rattle.resp_types.specs.contracts.integer_reply.IntegerReplyOrNoOp.{enum};
+    ghost use Rattle.std.proofs.Common.{rules};
 
-    ghost structural = { same_enum enum _ (one_field same_numbers, tt) };
+    ghost structural = { Prim.search (rules, same_numbers) };
 }
 
 impl ExactClone for IntegerReplyOrNoOp {
-    ghost use Rattle.resp_types.specs.declared.integer_reply.IntegerReplyOrNoOp.TheVariants as is;
-    ghost use Rattle.std.proofs.Common.{ap, refl};
+    ghost use Rattle.std.proofs.Common.{rules};
 
-    ghost exact = { record {
-      same = elim [
-        | is.IntegerReply n ↦ elim [ is.IntegerReply m ↦ ap is.IntegerReply | _ ↦ λ no. absurd no ]
-        | is.NotExists ↦ elim [ is.NotExists ↦ λ _. refl | _ ↦ λ no. absurd no ]
-        | is.ExistsButNotRelevant ↦ elim [
-          | is.ExistsButNotRelevant ↦ λ _. refl
-          | _ ↦ λ no. absurd no
-        ]
-      ];
-      succeeds = elim [ is.IntegerReply n ↦ tt | is.NotExists ↦ tt | is.ExistsButNotRelevant ↦ tt ];
-    } };
+    ghost exact = { record { same = Prim.search rules; succeeds = Prim.search rules } };
 }
 
 impl StructuralEq for ValueType {
