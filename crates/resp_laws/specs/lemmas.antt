@@ -1,3 +1,4 @@
+pub mod Commands
 pub mod InOrder
 pub mod Lists
 pub mod LookUps

@@ -1,21 +1,15 @@
 //! Laws of every conversion, and of what scalars are written as.
 
-ghost use Rattle.std.specs.Prelude.{ℕ, ℤ, Bool, List, true, ◌<◌, ◌^◌, codes, if◌then◌else◌};
-ghost use Rattle.std.specs.Prelude.{FitsSigned, Result};
-ghost use Rattle.std.specs.Fmt.{decimal, signed_decimal};
+ghost use Rattle.std.specs.Prelude.{⊤, FitsSigned, Result, string_bytes};
 ghost use Rattle.std.specs.List.{AllByRecursion};
 ghost use Rattle.std.specs.Str.{IsUtf8};
-ghost use Rattle.std.specs.Int.{Width};
-ghost use Rattle.resp_from.specs.Booleans.{OfBool};
-ghost use Rattle.resp_from.specs.Integers.{OfInteger, SignedNumber, SignedText, UnsignedNumber};
-ghost use Rattle.resp_from.specs.Integers.{UnsignedText};
+ghost use Rattle.std.specs.Int.{w8, w16, w32, w64, w128};
 ghost use Rattle.resp_from.specs.Conversion.{Converts};
-ghost use Rattle.resp_laws.specs.Laws.{Agree};
+ghost use Rattle.resp_laws.specs.Laws.{Agree, FitsUnsigned, ReadsBack};
 ghost use Rattle.resp_errors.specs.declared.parsing_error.ParsingError.{ParsingError};
-ghost use Rattle.resp_value.specs.declared.value.Value.{BulkString, Value};
-ghost use Rattle.resp_from.specs.Lists.{OfVec};
-ghost use Rattle.resp_from.specs.Texts.{OfText};
+ghost use Rattle.resp_value.specs.declared.value.Value.{Value};
 
+use resp_args::ToRedisArgs;
 use resp_from::FromRedisValue;
 
 /// Two conversions of one reply agree, such as an owned and a borrowed one: both give values of the
@@ -27,17 +21,37 @@ pub fn law_of_owned_and_borrowed<T: FromRedisValue>()
         → Agree (T.of_value reply) owned borrowed }
 {}
 
-/// What a scalar is written as, as one argument, converts back to it as a bulk string: an integer
-/// of a type of up to 128 bits in plain decimal, a truth value as a digit, a text and bytes as they
-/// are.
-#[tactic(auto, using(crate::proofs::ReadBack::back))]
+/// A scalar that is written as one argument converts back from it, as a bulk string, by the same
+/// type: each integer in its type's range, truth values, texts and bytes.
 pub fn law_of_written_scalars()
-    ensures signed { (w : Width) (n : ℤ) → FitsSigned w n
-        → OfInteger (SignedNumber w) (SignedText w) (BulkString (signed_decimal n)) n }
-    ensures unsigned { (k n : ℕ) → n < 2 ^ k → n < 10 ^ 64
-        → OfInteger (UnsignedNumber k) (UnsignedText k) (BulkString (decimal n)) n }
-    ensures truth { (b : Bool) → OfBool (BulkString (if b then codes "1" else codes "0")) b }
-    ensures text { (text : List ℕ) → IsUtf8 text → OfText (BulkString text) text }
-    ensures bytes { (bytes : List ℕ) → AllByRecursion (λ byte. byte < 256) bytes
-        → OfVec 0 true (OfInteger (UnsignedNumber 8) (UnsignedText 8)) (BulkString bytes) bytes }
+    ensures of_i8 { ReadsBack (FitsSigned w8) ⟦<i8 as ToRedisArgs>⟧.gives
+        ⟦<i8 as FromRedisValue>⟧.of_value }
+    ensures of_i16 { ReadsBack (FitsSigned w16) ⟦<i16 as ToRedisArgs>⟧.gives
+        ⟦<i16 as FromRedisValue>⟧.of_value }
+    ensures of_i32 { ReadsBack (FitsSigned w32) ⟦<i32 as ToRedisArgs>⟧.gives
+        ⟦<i32 as FromRedisValue>⟧.of_value }
+    ensures of_i64 { ReadsBack (FitsSigned w64) ⟦<i64 as ToRedisArgs>⟧.gives
+        ⟦<i64 as FromRedisValue>⟧.of_value }
+    ensures of_i128 { ReadsBack (FitsSigned w128) ⟦<i128 as ToRedisArgs>⟧.gives
+        ⟦<i128 as FromRedisValue>⟧.of_value }
+    ensures of_isize { ReadsBack (FitsSigned w64) ⟦<isize as ToRedisArgs>⟧.gives
+        ⟦<isize as FromRedisValue>⟧.of_value }
+    ensures of_u8 { ReadsBack (FitsUnsigned 8) ⟦<u8 as ToRedisArgs>⟧.gives
+        ⟦<u8 as FromRedisValue>⟧.of_value }
+    ensures of_u16 { ReadsBack (FitsUnsigned 16) ⟦<u16 as ToRedisArgs>⟧.gives
+        ⟦<u16 as FromRedisValue>⟧.of_value }
+    ensures of_u32 { ReadsBack (FitsUnsigned 32) ⟦<u32 as ToRedisArgs>⟧.gives
+        ⟦<u32 as FromRedisValue>⟧.of_value }
+    ensures of_u64 { ReadsBack (FitsUnsigned 64) ⟦<u64 as ToRedisArgs>⟧.gives
+        ⟦<u64 as FromRedisValue>⟧.of_value }
+    ensures of_u128 { ReadsBack (FitsUnsigned 128) ⟦<u128 as ToRedisArgs>⟧.gives
+        ⟦<u128 as FromRedisValue>⟧.of_value }
+    ensures of_usize { ReadsBack (FitsUnsigned 64) ⟦<usize as ToRedisArgs>⟧.gives
+        ⟦<usize as FromRedisValue>⟧.of_value }
+    ensures of_bool { ReadsBack (λ _. ⊤) ⟦<bool as ToRedisArgs>⟧.gives
+        ⟦<bool as FromRedisValue>⟧.of_value }
+    ensures of_string { ReadsBack (λ x. IsUtf8 (string_bytes x)) ⟦<String as ToRedisArgs>⟧.gives
+        ⟦<String as FromRedisValue>⟧.of_value }
+    ensures of_bytes { ReadsBack (λ x. AllByRecursion (FitsUnsigned 8) x.items)
+        ⟦<Vec<u8> as ToRedisArgs>⟧.gives ⟦<Vec<u8> as FromRedisValue>⟧.of_value }
 {}

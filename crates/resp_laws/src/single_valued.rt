@@ -1,5 +1,6 @@
 //! Types of which a reply is one value at most.
 
+mod commands;
 mod integers;
 mod lists;
 mod maps;

@@ -25,7 +25,7 @@ one_and single others [] x y h k = absurd h
 one_and single others (value ∷ values) x y h k =
     λ i. (single value x.0 y.0 h.0 k.0 i, others values x.1 y.1 h.1 k.1 i)
 
-one_of_found : {X S : Type 0} (Of : List Value → X → Type 0) (seen : X → S)
+pub one_of_found : {X S : Type 0} (Of : List Value → X → Type 0) (seen : X → S)
     → AreSingleValued Of seen → (found : Option (List Value)) (x y : X)
     → elim found as (λ o. Type 0) [ Some values ↦ Of values x | None ↦ ⊥ ]
     → elim found as (λ o. Type 0) [ Some values ↦ Of values y | None ↦ ⊥ ] → seen x ≡ seen y
