@@ -1,5 +1,5 @@
 -- A scalar converts back from the one argument that it gives.
-use Rattle.std.proofs.Common.{◌≡◌, ◌<◌, ◌^◌, ◌+◌, ℕ, ℤ, pos, negsuc, zero, suc, Bool, true, false, cond, drop, List, [], ◌∷◌, map, get_or, String, Vec, string_bytes, refl, sym, ap, ◌∙◌, subst, arith, rules}
+use Rattle.std.proofs.Common.{◌≡◌, ◌<◌, ◌^◌, ◌+◌, ℕ, ℤ, pos, negsuc, zero, suc, Bool, true, false, cond, drop, List, [], ◌∷◌, map, String, Vec, string_bytes, refl, sym, ap, ◌∙◌, subst, arith, rules}
 use borrow.Author.Tests.{ne_eqb}
 use lib.IntN.{neg_ℤ}
 use lib.Signed.{mag}
@@ -98,9 +98,7 @@ bytes_back bytes h = subst (λ layer. IsVec 0 true (OfInteger (UnsignedNumber 8)
 -- what converts back from the bytes that a value is written as does so from the argument it gives
 from_only : {X : Type 0} {Fits : X → Type 0} (Of : Value → X → Type 0) (bytes : X → List ℕ)
     → ((x : X) → Fits x → Of (BulkString (bytes x)) x) → ReadsBack Fits (GivesOne bytes) Of
-from_only Of bytes back x arg fits only =
-    let same : bytes x ≡ arg = sym (ap (λ args. get_or args 0 []) only) in
-    subst (λ text. Of (BulkString text) x) same (back x fits)
+from_only Of bytes back x args fits only = (bytes x, only, back x fits)
 
 abbrev OfSigned : Width → Value → ℤ → Type 0
 OfSigned w = OfInteger (SignedNumber w) (SignedText w)

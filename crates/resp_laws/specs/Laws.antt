@@ -1,11 +1,11 @@
 -- A reply is one value of a type at most, an owned and a borrowed conversion of it agree, and what
 -- was written converts back.
-use Rattle.std.specs.Prelude.{◌≡◌, ℕ, ◌<◌, ◌^◌, List, [], ◌∷◌, Result, Ok, Err}
+use Rattle.std.specs.Prelude.{◌≡◌, ℕ, ◌<◌, ◌^◌, List, Result, Ok, Err}
 use Rattle.std.specs.declared.cmp.Ordering.{Ordering}
 use Rattle.resp_errors.specs.declared.parsing_error.ParsingError.{ParsingError}
 use Rattle.resp_errors.specs.declared.parsing_error.ParsingError.TheVariants as parsing
 use Rattle.resp_value.specs.declared.value.Value.{BulkString, Value}
-use Rattle.resp_args.specs.Args.{Args}
+use Rattle.resp_args.specs.Args.{Args, IsOnly}
 
 -- two values of one reply look the same
 abbrev pub IsSingleValued : {X S : Type 0} → (Value → X → Type 0) → (X → S) → Type 0
@@ -36,8 +36,8 @@ Agree Fits (Err d) (Err e) = Unit {0}
 abbrev pub FitsUnsigned : ℕ → ℕ → Type 0
 FitsUnsigned k n = n < 2 ^ k
 
--- a value that fits its type converts back from the one argument that it gives
+-- a value that fits its type gives one argument, and converts back from it
 abbrev pub ReadsBack : {X : Type 0} → (X → Type 0) → (X → Args → Type 0) → (Value → X → Type 0)
     → Type 0
-ReadsBack {X} Fits Gives Of = (x : X) (arg : List ℕ) → Fits x → Gives x (arg ∷ [])
-    → Of (BulkString arg) x
+ReadsBack {X} Fits Gives Of = (x : X) (args : Args) → Fits x → Gives x args
+    → (arg : List ℕ) × IsOnly arg args × Of (BulkString arg) x

@@ -21,8 +21,8 @@ pub fn law_of_owned_and_borrowed<T: FromRedisValue>()
         → Agree (T.of_value reply) owned borrowed }
 {}
 
-/// A scalar that is written as one argument converts back from it, as a bulk string, by the same
-/// type: each integer in its type's range, truth values, texts and bytes.
+/// A scalar is written as one argument, and converts back from it as a bulk string: each integer in
+/// its type's range, truth values, texts and bytes.
 pub fn law_of_written_scalars()
     ensures of_i8 { ReadsBack (FitsSigned w8) ⟦<i8 as ToRedisArgs>⟧.gives
         ⟦<i8 as FromRedisValue>⟧.of_value }
