@@ -9,6 +9,7 @@ ghost use Rattle.resp_value.specs.contracts.names.VerbatimFormat as format;
 use crate::names::{PushKind, VerbatimFormat};
 use crate::value::{PushInfo, Value};
 use resp_containers::StructuralEq;
+use resp_errors::ServerError;
 
 impl StructuralEq for PushKind {
     ghost structural = { same_enum kind.enum _ (one_field same_bytes, tt) };
@@ -19,12 +20,14 @@ impl StructuralEq for VerbatimFormat {
 }
 
 impl StructuralEq for Value {
+    ghost use Rattle.std.proofs.Common.{rules};
     ghost use Rattle.resp_value.specs.contracts.value.ValuePartialEq.TheImpl.Laws as own;
     ghost use Rattle.resp_value.specs.lemmas.Equality.{same_values};
 
-    ghost structural = { same_values ⟦<Value as PartialEq>⟧.eq _ _ _ error.structural-law
+    ghost structural = { same_values ⟦<Value as PartialEq>⟧.eq ⟦<ServerError as PartialEq>⟧.eq
+        ⟦<VerbatimFormat as PartialEq>⟧.eq ⟦<PushKind as PartialEq>⟧.eq error.structural-law
         (same_enum format.enum _ (one_field same_bytes, tt))
-        (same_enum kind.enum _ (one_field same_bytes, tt)) own.is };
+        (same_enum kind.enum _ (one_field same_bytes, tt)) (Prim.search (rules, own.is)) };
 }
 
 impl StructuralEq for PushInfo {
