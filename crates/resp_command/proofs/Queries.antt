@@ -8,7 +8,7 @@ use Rattle.resp_errors.specs.declared.parsing_error.ParsingError.TheVariants.{Fa
 use Rattle.resp_command.specs.Call.{Call, CommandCall, Refuses, broken_link, no_command, AnswersReply, Answers, needed}
 use Rattle.resp_command.specs.Command.{Command}
 use Rattle.resp_command.specs.CommandQuery.{CommandQuery}
-use Rattle.resp_command.specs.Connection.{Connection, Exchange, replied, faulty, early_end, sink_failed, source_failed, out_of_memory}
+use Rattle.resp_command.specs.Connection.{Connection, incoming, Exchange, replied, faulty, early_end, sink_failed, source_failed, out_of_memory}
 use Rattle.resp_command.specs.Packed.{packed}
 use Rattle.resp_command.proofs.PackedReadsBack.{packed_reads_only}
 use Rattle.resp_command.proofs.OneTaking.{takes_one_thing}
@@ -42,7 +42,7 @@ module _ {A B : Type 0} (old new : Connection) (q : List ℕ) (n : ℕ) (answers
   })
   exchange_err e none (sink_failed h) = sink_failed (record {
     sent = h.sent;
-    incoming = h.incoming;
+    unread = h.unread;
     listed = h.listed;
     broken = h.broken;
     source = h.source;
@@ -119,13 +119,13 @@ module _ {X : Type 0} (old new : Connection) (c : Command) (Of : Value → X →
   pub command_refused : (sent : Result Value RedisError) (e : RedisError) → sent ≡ Err e → CommandCall old new c sent (λ reply. sent ≡ Ok reply) → CommandQuery old new c Of (Err e)
   command_refused sent e is h = record {
     reads_only = packed_reads_only c.args;
-    takes_one = takes_one_thing (needed c) old.incoming;
+    takes_one = takes_one_thing (needed c) (incoming old);
     call = call_err old new (packed c.args) (needed c) (ReplyIs (Err e)) _ _ e (none_answered e) (rw is at h);
   }
 
   pub command_answered : (sent : Result Value RedisError) (v : Value) (r : Result X RedisError) → sent ≡ Ok v → Answers Of r v → CommandCall old new c sent (λ reply. sent ≡ Ok reply) → CommandQuery old new c Of r
   command_answered sent v r is answer h = record {
     reads_only = packed_reads_only c.args;
-    takes_one = takes_one_thing (needed c) old.incoming;
+    takes_one = takes_one_thing (needed c) (incoming old);
     call = call_ok old new (packed c.args) (needed c) (ReplyIs (Ok v)) _ _ v r (λ replies _. reply_answered Of v r answer replies) (rw is at h);
   }

@@ -1,5 +1,5 @@
 -- What is known of a connection, and what one exchange over it leaves.
-use Rattle.std.specs.Prelude.{◌≡◌, ℕ, ◌⊎◌, Bool, true, false, List, [], ◌++◌, length, Result, Err, IsErrAnd}
+use Rattle.std.specs.Prelude.{◌≡◌, ℕ, ◌<◌, ◌⊎◌, Bool, true, false, List, [], ◌++◌, length, Result, Err, IsErrAnd}
 use Rattle.resp_value.specs.declared.value.Value.{Value}
 use Rattle.resp_value.specs.declared.value.PushInfo.{PushInfo}
 use Rattle.resp_errors.specs.declared.kinds.FrameFault.{FrameFault}
@@ -8,7 +8,8 @@ use Rattle.resp_errors.specs.declared.parsing_error.ParsingError.TheVariants.{Fa
 use Rattle.resp_errors.specs.declared.redis_error.RedisError.{RedisError}
 use Rattle.resp_errors.specs.declared.redis_error.RedisError.TheVariants.{Io, Parse, OutOfMemory}
 use Rattle.resp_parse.specs.Source.{FailureCounted}
-use Rattle.resp_command.specs.Taken.{Taken, took, met_fault, ended_early, PushesOfPrefix}
+use Rattle.resp_parse.specs.Prefixes.{IsUnfinished}
+use Rattle.resp_command.specs.Taken.{Taken, took, met_fault, ended_early, PrefixReads, ListsPushes, pushes_in, replies_in}
 
 pub record Connection : Type 0 where
   -- whether the bytes below are known
@@ -18,13 +19,19 @@ pub record Connection : Type 0 where
   pub sent : List ℕ
   -- whether some of what was sent may wait to be flushed
   pub unflushed : Bool
-  -- the bytes that were received and aren't taken, and then those that will come
-  pub incoming : List ℕ
+  -- the bytes that were received and aren't taken, those of a value in progress included
+  pub received : List ℕ
+  -- the bytes that the source has yet to give
+  pub to_come : List ℕ
   -- the pushes that were set aside and aren't taken
   pub pushes : List PushInfo
   pub broken : Bool
   pub source_failures : ℕ
   pub sink_failures : ℕ
+
+-- the bytes that replies are taken from: those that were received, and then those that will come
+abbrev pub incoming : Connection → List ℕ
+incoming c = c.received ++ c.to_come
 
 -- a connection that isn't observable and takes one command at a time: only whether it is broken is
 -- known
@@ -34,7 +41,8 @@ unobservable broken = record {
   pipelines = false;
   sent = [];
   unflushed = false;
-  incoming = [];
+  received = [];
+  to_come = [];
   pushes = [];
   broken = broken;
   source_failures = 0;
@@ -53,6 +61,11 @@ pub record SentPrefix (old new q : List ℕ) : Type 0 where
   pub whole : q ≡ prefix ++ rest
   pub sent : new ≡ old ++ prefix
 
+-- the same, and it is empty only where the request is
+pub record SentPart (old new q : List ℕ) : Type 0 where
+  pub part : SentPrefix old new q
+  pub begun : part.prefix ≡ [] → q ≡ []
+
 -- the request was sent, and nothing of it waits
 pub record Sent (old new : Connection) (q : List ℕ) : Type 0 where
   pub bytes : old.observable ≡ true → new.sent ≡ old.sent ++ q
@@ -70,7 +83,7 @@ pub record Replied (old new : Connection) (q : List ℕ) (n : ℕ)
   pub pushes : List PushInfo
   pub enough : length replies ≡ n
   pub sent : Sent old new q
-  pub takes : old.observable ≡ true → Taken n old.incoming (took replies pushes new.incoming)
+  pub takes : old.observable ≡ true → Taken n (incoming old) (took replies pushes (incoming new))
   pub listed : new.pushes ≡ old.pushes ++ pushes
   pub usable : new.broken ≡ false
   pub no_failure : NoFailure old new
@@ -82,7 +95,7 @@ pub record FaultMet {A : Type 0} (old new : Connection) (q : List ℕ) (n : ℕ)
   pub frame_fault : FrameFault
   pub pushes : List PushInfo
   pub sent : Sent old new q
-  pub takes : old.observable ≡ true → Taken n old.incoming (met_fault frame_fault pushes)
+  pub takes : old.observable ≡ true → Taken n (incoming old) (met_fault frame_fault pushes)
   pub listed : new.pushes ≡ old.pushes ++ pushes
   pub broken : new.broken ≡ true
   pub no_failure : NoFailure old new
@@ -93,7 +106,7 @@ pub record EndedEarly {A : Type 0} (old new : Connection) (q : List ℕ) (n : �
     (result : Result A RedisError) : Type 0 where
   pub pushes : List PushInfo
   pub sent : Sent old new q
-  pub takes : old.observable ≡ true → Taken n old.incoming (ended_early pushes)
+  pub takes : old.observable ≡ true → Taken n (incoming old) (ended_early pushes)
   pub listed : new.pushes ≡ old.pushes ++ pushes
   pub broken : new.broken ≡ true
   pub no_failure : NoFailure old new
@@ -103,43 +116,56 @@ abbrev pub IsIo : RedisError → Type 0
 IsIo (Io kind) = Unit {0}
 IsIo _ = ⊥
 
--- the sink failed: a prefix of the request was sent, and nothing was taken
+-- nothing was received or taken
+pub record ReceivedNothing (old new : Connection) : Type 0 where
+  pub received : new.received ≡ old.received
+  pub to_come : new.to_come ≡ old.to_come
+
+-- the sink failed: a prefix of the request was sent, and nothing was received
 pub record SinkFailed {A : Type 0} (old new : Connection) (q : List ℕ)
     (result : Result A RedisError) : Type 0 where
   pub sent : old.observable ≡ true → SentPrefix old.sent new.sent q
-  pub incoming : old.observable ≡ true → new.incoming ≡ old.incoming
+  pub unread : old.observable ≡ true → ReceivedNothing old new
   pub listed : new.pushes ≡ old.pushes
   pub broken : new.broken ≡ true
   pub source : new.source_failures ≡ old.source_failures
   pub counted : FailureCounted old.sink_failures new.sink_failures
   pub answer : IsErrAnd result IsIo
 
--- a prefix of the bytes takes too little for n replies
-pub record TakesTooLittle (n : ℕ) (b : List ℕ) (pushes : List PushInfo) : Type 0 where
-  pub prefix : List ℕ
-  pub rest : List ℕ
-  pub whole : b ≡ prefix ++ rest
-  pub short : Taken n prefix (ended_early pushes)
+-- values that hold fewer than n replies were taken, with these pushes among them; all that was
+-- received after them is unfinished
+pub record TookTooFew (n : ℕ) (old new : Connection) (pushes : List PushInfo) : Type 0 where
+  pub values : List Value
+  pub taken : PrefixReads (incoming old) values (incoming new)
+  pub few : length (replies_in values) < n
+  pub pushes_are : pushes ≡ pushes_in values
+  pub unfinished : IsUnfinished 100 new.received
 
--- the source failed: the request was sent, and a prefix of the incoming bytes was taken, which is
--- too little
+-- the source failed: the request was sent, and too little was received for n replies
 pub record SourceFailed {A : Type 0} (old new : Connection) (q : List ℕ) (n : ℕ)
     (result : Result A RedisError) : Type 0 where
   pub pushes : List PushInfo
   pub sent : Sent old new q
-  pub takes : old.observable ≡ true → TakesTooLittle n old.incoming pushes
+  pub takes : old.observable ≡ true → TookTooFew n old new pushes
   pub listed : new.pushes ≡ old.pushes ++ pushes
   pub broken : new.broken ≡ true
   pub counted : FailureCounted old.source_failures new.source_failures
   pub sink : new.sink_failures ≡ old.sink_failures
   pub answer : IsErrAnd result IsIo
 
--- the connection is broken, and a prefix of the request was sent; pushes among the first of the
--- incoming values were set aside
+-- values were taken, and the pushes among them set aside, but for a last value that is a push and
+-- found no room
+pub record TookSome (old new : Connection) (pushes : List PushInfo) : Type 0 where
+  pub values : List Value
+  pub taken : PrefixReads (incoming old) values (incoming new)
+  pub listed : ListsPushes values pushes
+
+-- the connection is broken, and a part of the request was sent; the pushes among what was taken
+-- were set aside
 pub record BrokenMidway (old new : Connection) (q : List ℕ) : Type 0 where
   pub pushes : List PushInfo
-  pub sent : old.observable ≡ true → SentPrefix old.sent new.sent q
-  pub among : old.observable ≡ true → PushesOfPrefix old.incoming pushes
+  pub sent : old.observable ≡ true → SentPart old.sent new.sent q
+  pub takes : old.observable ≡ true → TookSome old new pushes
   pub listed : new.pushes ≡ old.pushes ++ pushes
   pub broken : new.broken ≡ true
 

@@ -6,7 +6,7 @@ use Rattle.resp_errors.specs.declared.redis_error.RedisError.TheVariants.{Genera
 use Rattle.resp_value.specs.declared.value.Value.{Value}
 use Rattle.resp_command.specs.Call.{CommandCall, PackedCall, needed}
 use Rattle.resp_command.specs.Command.{Command}
-use Rattle.resp_command.specs.Connection.{Connection}
+use Rattle.resp_command.specs.Connection.{Connection, incoming}
 use Rattle.resp_command.specs.Cursors.{with_cursor}
 use Rattle.resp_command.specs.Packed.{packed_or_none}
 use Rattle.resp_command.specs.PackingLaw.{LawOfPacking}
@@ -43,16 +43,21 @@ module _ {X : Type 0} (n : ℕ) (Of : Value → X → Type 0) where
   pub record FirstRequest (old new : Connection) (c : Command) (given : Given X) : Type 0 where
     pub answer : Result Value RedisError
     pub reads_only : LawOfPacking c.args
-    pub takes_one : TakesOneThing (needed c) old.incoming
+    pub takes_one : TakesOneThing (needed c) (incoming old)
     pub call : CommandCall old new c answer (λ reply. answer ≡ Ok reply)
     pub gives : Gives IsFirstPage n Of answer given
+
+  -- a first request over some connection gave this error
+  pub record CannotStart (old : Connection) (c : Command) (e : RedisError) : Type 0 where
+    pub new : Connection
+    pub sent : FirstRequest old new c (Err e)
 
   -- a later request, the same with a cursor
   pub record LaterRequest (old new : Connection) (c : Command) (cursor : ℕ) (given : Given X) :
       Type 0 where
     pub answer : Result Value RedisError
     pub reads_only : LawOfPacking (with_cursor cursor c).args
-    pub takes_one : TakesOneThing 1 old.incoming
+    pub takes_one : TakesOneThing 1 (incoming old)
     pub sends : Sends old new (request c cursor) answer
     pub gives : Gives IsPage n Of answer given
 

@@ -1,5 +1,5 @@
 -- What n replies take from bytes (RESP3, "Pushes": a push may come before, between and after them).
-use Rattle.std.specs.Prelude.{◌≡◌, ℕ, ◌<◌, List, ◌∷◌, ◌++◌, length, filter, filter_map, Option, None, Some, is_none}
+use Rattle.std.specs.Prelude.{◌≡◌, ℕ, ◌<◌, List, [], ◌∷◌, ◌++◌, length, filter, filter_map, Option, None, Some, is_none}
 use Rattle.resp_value.specs.declared.value.Value.{Value, out-Value}
 use Rattle.resp_value.specs.declared.value.Value.TheOpen.{Value-F}
 use Rattle.resp_value.specs.declared.value.PushInfo.{PushInfo}
@@ -28,12 +28,11 @@ pub record PrefixReads (b : List ℕ) (values : List Value) (rest : List ℕ) : 
   pub whole : b ≡ prefix ++ rest
   pub reads : Reads 100 prefix values
 
--- the pushes among values that a prefix of the bytes reads as
-pub record PushesOfPrefix (b : List ℕ) (pushes : List PushInfo) : Type 0 where
-  pub values : List Value
-  pub rest : List ℕ
-  pub prefix : PrefixReads b values rest
-  pub pushes_are : pushes ≡ pushes_in values
+-- the pushes among values, of which the last may be a push that found no room in the list
+pub data ListsPushes (values : List Value) (pushes : List PushInfo) : Type 0 where
+  all : pushes ≡ pushes_in values → ListsPushes values pushes
+  all_but_last : (before : List Value) (push : Value) → values ≡ before ++ push ∷ []
+      → replies_in (push ∷ []) ≡ [] → pushes ≡ pushes_in before → ListsPushes values pushes
 
 -- n of the values are replies, and the last value is the last of them: all that stand before it
 -- hold fewer

@@ -13,7 +13,7 @@ ghost use Rattle.resp_command.specs.ShownArgs.{EndsInCursor, args_left, framed_a
 ghost use Rattle.resp_command.specs.Packed.{packed, packed_or_none};
 ghost use Rattle.resp_command.specs.Call.{Answers};
 ghost use Rattle.resp_command.specs.CommandQuery.{CommandQuery};
-ghost use Rattle.resp_command.specs.Scans.{FirstRequest, Starts, request};
+ghost use Rattle.resp_command.specs.Scans.{CannotStart, FirstRequest, Starts, request};
 ghost use Rattle.resp_command.specs.ScanStates.{borrowed, scan_state, state_of};
 
 use crate::args_iter::ArgsIter;
@@ -348,6 +348,7 @@ impl Cmd {
             ≡ con.entry.ghost_name) }
         ensures starts { IfOk result (λ scan. Starts T.WIDTH T.of_value (C.connection con.old)
             (C.connection (borrowed scan).now) self budget (scan_state scan)) }
+        ensures refused { IfErr result (CannotStart T.WIDTH T.of_value (C.connection con.old) self) }
     {
         let progress = self.start_scan(con, budget)?;
         Ok(Scan::over(con, progress))

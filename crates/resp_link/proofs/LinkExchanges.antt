@@ -9,10 +9,11 @@ use Rattle.resp_errors.specs.declared.redis_error.RedisError.TheVariants.{Io}
 use Rattle.resp_parse.specs.Prefixes.{HasFaultyPrefix, IsUnfinished}
 use Rattle.resp_link.specs.Linking.{connection_of, Exchanges}
 use Rattle.resp_link.specs.Sink.{Sink, SendsAll}
-use Rattle.resp_command.specs.Taken.{Taken, took, met_fault, ended_early, pushes_in, replies_in, PrefixReads}
-use Rattle.resp_link.specs.Receiving.{Inflow, ReadsOn, StopsReceiving, Receives, CannotReceive, HasUnfinishedPrefix, faulty, early_end, source_failed, out_of_memory}
+use Rattle.resp_command.specs.Taken.{Taken, took, met_fault, ended_early, pushes_in, replies_in, PrefixReads, all, all_but_last}
+use Rattle.resp_command.proofs.Values.{reads_one, reads_both}
+use Rattle.resp_link.specs.Receiving.{Inflow, inflowing, ReadsOn, AwaitsMore, ReadsPush, StopsReceiving, Receives, CannotReceive, faulty, early_end, source_failed, out_of_memory, no_room}
 use Rattle.resp_command.specs.Connection as connection
-use Rattle.resp_command.specs.Connection.{Connection, SameKind, Sent, Exchange, TakesTooLittle}
+use Rattle.resp_command.specs.Connection.{Connection, SameKind, Sent, Exchange, TookTooFew, TookSome, BrokenMidway}
 
 both_true : (a b : Bool) → (a && b) ≡ true → (a ≡ true) × (b ≡ true)
 both_true true b h = (refl, h)
@@ -21,41 +22,54 @@ both_true false b h = (h, cc)
 and_true : (a b : Bool) → a ≡ true → b ≡ true → (a && b) ≡ true
 and_true a b h k = rw (h, k) refl
 
-taken_got : (n : ℕ) (i i' : Inflow) (replies : List Value) (r : Receives n i i' replies) → i.observable ≡ true → Taken n i.incoming (took replies (pushes_in r.values) i'.incoming)
+taken_got : (n : ℕ) (i i' : Inflow) (replies : List Value) (r : Receives n i i' replies) → i.observable ≡ true → Taken n (inflowing i) (took replies (pushes_in r.values) (inflowing i'))
 unfolding Taken
 taken_got n i i' replies r obs = record { values = r.values; prefix = r.on.prefix obs; ends = r.ends; replies_are = r.replies_are; pushes_are = refl }
 
 -- what was read before it stopped
 module _ (n : ℕ) (i i' : Inflow) (e : RedisError) (r : CannotReceive n i i' e) (few : length (replies_in r.values) < n) where
-  taken_fault : (f : FrameFault) → (r.at.observable ≡ true → HasFaultyPrefix 100 r.at.incoming f) → i.observable ≡ true → Taken n i.incoming (met_fault f (pushes_in r.values))
+  taken_fault : (f : FrameFault) → (r.at.observable ≡ true → HasFaultyPrefix 100 (inflowing r.at) f) → i.observable ≡ true → Taken n (inflowing i) (met_fault f (pushes_in r.values))
   unfolding Taken
-  taken_fault f bad obs = record { values = r.values; rest = r.at.incoming; prefix = r.on.prefix obs; few = few; pushes_are = refl; follows = bad (r.on.observable obs) }
+  taken_fault f bad obs = record { values = r.values; rest = inflowing r.at; prefix = r.on.prefix obs; few = few; pushes_are = refl; follows = bad (r.on.observable obs) }
 
-  taken_early : (r.at.observable ≡ true → IsUnfinished 100 r.at.incoming) → i.observable ≡ true → Taken n i.incoming (ended_early (pushes_in r.values))
+  taken_early : (r.at.observable ≡ true → IsUnfinished 100 (inflowing r.at)) → i.observable ≡ true → Taken n (inflowing i) (ended_early (pushes_in r.values))
   unfolding Taken
-  taken_early unfinished obs = record { values = r.values; rest = r.at.incoming; prefix = r.on.prefix obs; few = few; pushes_are = refl; follows = unfinished (r.on.observable obs) }
-
-  too_little : (r.at.observable ≡ true → HasUnfinishedPrefix r.at.incoming) → i.observable ≡ true → TakesTooLittle n i.incoming (pushes_in r.values)
-  unfolding Taken
-  too_little some obs =
-      let p = r.on.prefix obs in
-      let u = some (r.on.observable obs) in
-      record {
-        prefix = p.prefix ++ u.prefix;
-        rest = u.rest;
-        whole = p.whole ∙ ap (λ s. p.prefix ++ s) u.whole ∙ sym (append_assoc p.prefix u.prefix u.rest);
-        short = record {
-          values = r.values;
-          rest = u.prefix;
-          prefix = record { prefix = p.prefix; whole = refl; reads = p.reads };
-          few = few;
-          pushes_are = refl;
-          follows = u.unfinished;
-        };
-      }
+  taken_early unfinished obs = record { values = r.values; rest = inflowing r.at; prefix = r.on.prefix obs; few = few; pushes_are = refl; follows = unfinished (r.on.observable obs) }
 
 -- what came in while nothing or everything was sent
 module _ (i i' : Inflow) (k k' : Sink) (b b' : Bool) where
+  too_few : (n : ℕ) (e : RedisError) (r : CannotReceive n i i' e) → length (replies_in r.values) < n → (r.at.observable ≡ true → AwaitsMore r.at i') → i.observable ≡ true →
+      TookTooFew n (connection_of i k b) (connection_of i' k' b') (pushes_in r.values)
+  too_few n e r few awaits obs =
+      let a = awaits (r.on.observable obs) in
+      record { values = r.values; taken = rw a.same at r.on.prefix obs; few = few; pushes_are = refl; unfinished = a.unfinished }
+
+  -- memory ran out once the request was sent
+  midway : (n : ℕ) (q : List ℕ) (e : RedisError) → SendsAll k k' q (Ok tt) → (r : CannotReceive n i i' e) → b' ≡ true
+      → (i.observable ≡ true → TookSome (connection_of i k b) (connection_of i' k' b') (pushes_in r.values)) → BrokenMidway (connection_of i k b) (connection_of i' k' b') q
+  midway n q e sending r is_broken takes = record {
+    pushes = pushes_in r.values;
+    sent = λ obs. record {
+      part = record { prefix = q; rest = []; whole = sym (append-nil q); sent = sending.bytes (both_true i.observable k.observable obs).1 };
+      begun = λ none. none;
+    };
+    takes = λ obs. takes (both_true i.observable k.observable obs).0;
+    listed = r.pushes ∙ r.on.pushes;
+    broken = is_broken;
+  }
+
+  took_all : (n : ℕ) (e : RedisError) (r : CannotReceive n i i' e) → (r.at.observable ≡ true → inflowing r.at ≡ inflowing i') → i.observable ≡ true → TookSome (connection_of i k b) (connection_of i' k' b') (pushes_in r.values)
+  took_all n e r same obs = record { values = r.values; taken = rw (same (r.on.observable obs)) at r.on.prefix obs; listed = all refl }
+
+  took_but_last : (n : ℕ) (e : RedisError) (r : CannotReceive n i i' e) → (r.at.observable ≡ true → ReadsPush r.at i') → i.observable ≡ true → TookSome (connection_of i k b) (connection_of i' k' b') (pushes_in r.values)
+  took_but_last n e r reads obs =
+      let p = reads (r.on.observable obs) in
+      record {
+        values = r.values ++ p.push ∷ [];
+        taken = reads_both (inflowing i) (inflowing r.at) (inflowing i') r.values (p.push ∷ []) (r.on.prefix obs) (reads_one (inflowing r.at) (inflowing i') p.push p.prefix);
+        listed = all_but_last r.values p.push refl p.is_push refl;
+      }
+
   same_kind : (i.observable ≡ true → i'.observable ≡ true) → (k.observable ≡ true → k'.observable ≡ true) → SameKind (connection_of i k b) (connection_of i' k' b')
   same_kind f g = record {
     observable = λ obs. let t = both_true i.observable k.observable obs in and_true i'.observable k'.observable (f t.0) (g t.1);
@@ -72,7 +86,7 @@ unsent i k k' b q n kind answers sending = record {
   same = same_kind i i k k' b true (λ t. t) sending.observable;
   exchange = connection.sink_failed (record {
     sent = λ obs. sending.bytes (both_true i.observable k.observable obs).1;
-    incoming = λ _. refl;
+    unread = λ _. record { received = refl; to_come = refl };
     listed = refl;
     broken = refl;
     source = refl;
@@ -120,26 +134,25 @@ missed i i' k k' b q n e answers sending r (early_end few is unfinished same) = 
   no_failure = record { source = same ∙ r.on.failures; sink = sending.failures };
   answer = ap Err is;
 })
-missed i i' k k' b q n e answers sending r (source_failed kind few is some counted) = connection.source_failed (record {
+missed i i' k k' b q n e answers sending r (source_failed kind few is awaits counted) = connection.source_failed (record {
   pushes = pushes_in r.values;
   sent = sent_whole i i' k k' b true q sending;
-  takes = λ obs. too_little n i i' e r few some (both_true i.observable k.observable obs).0;
+  takes = λ obs. too_few i i' k k' b true n e r few awaits (both_true i.observable k.observable obs).0;
   listed = r.pushes ∙ r.on.pushes;
   broken = refl;
   counted = rw (r.on.failures) at counted;
   sink = sending.failures;
   answer = rw is tt;
 })
-missed i i' k k' b q n e answers sending r (out_of_memory is same) = connection.out_of_memory (record {
+missed i i' k k' b q n e answers sending r (out_of_memory is rest same) = connection.out_of_memory (record {
   answer = ap Err is;
   no_failure = record { source = same ∙ r.on.failures; sink = sending.failures };
-  left = inr (record {
-    pushes = pushes_in r.values;
-    sent = λ obs. record { prefix = q; rest = []; whole = sym (append-nil q); sent = sending.bytes (both_true i.observable k.observable obs).1 };
-    among = λ obs. record { values = r.values; rest = r.at.incoming; prefix = r.on.prefix (both_true i.observable k.observable obs).0; pushes_are = refl };
-    listed = r.pushes ∙ r.on.pushes;
-    broken = refl;
-  });
+  left = inr (midway i i' k k' b true n q e sending r refl (took_all i i' k k' b true n e r rest));
+})
+missed i i' k k' b q n e answers sending r (no_room is push same) = connection.out_of_memory (record {
+  answer = ap Err is;
+  no_failure = record { source = same ∙ r.on.failures; sink = sending.failures };
+  left = inr (midway i i' k k' b true n q e sending r refl (took_but_last i i' k k' b true n e r push));
 })
 
 -- fewer replies came than were needed

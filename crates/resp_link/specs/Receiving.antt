@@ -9,25 +9,32 @@ use Rattle.resp_errors.specs.declared.kinds.IoKind.TheVariants.{UnexpectedEof}
 use Rattle.resp_errors.specs.declared.parsing_error.ParsingError.TheVariants as parsing
 use Rattle.resp_errors.specs.declared.redis_error.RedisError.{RedisError}
 use Rattle.resp_errors.specs.declared.redis_error.RedisError.TheVariants as form
-use Rattle.resp_parse.specs.Prefixes.{HasFaultyPrefix, IsUnfinished}
+use Rattle.resp_parse.specs.Prefixes.{HasGoodPrefix, HasFaultyPrefix, IsUnfinished}
 use Rattle.resp_parse.specs.Source.{Source, FailureCounted}
 use Rattle.resp_command.specs.Taken.{PrefixReads, EndsAtReply, replies_in, pushes_in}
 
 pub record Inflow : Type 0 where
   -- whether the bytes below are known
   pub observable : Bool
-  -- those that were received and aren't taken, and then those that will come
-  pub incoming : List ℕ
+  -- those that were received and aren't taken
+  pub received : List ℕ
+  -- those that the source has yet to give
+  pub to_come : List ℕ
   -- the pushes that were set aside
   pub pushes : List PushInfo
   -- how often the source has failed
   pub failures : ℕ
 
--- a parser's bytes come before those of its source
+-- the bytes that values are read from
+abbrev pub inflowing : Inflow → List ℕ
+inflowing i = i.received ++ i.to_come
+
+-- what a parser has received since the last value, and what its source will give
 abbrev pub inflow_of : List ℕ → Source → List PushInfo → Inflow
-inflow_of unparsed source pushes = record {
+inflow_of since source pushes = record {
   observable = source.observable;
-  incoming = unparsed ++ source.bytes;
+  received = since;
+  to_come = source.bytes;
   pushes = pushes;
   failures = source.failures;
 }
@@ -35,30 +42,37 @@ inflow_of unparsed source pushes = record {
 -- these values were read, and the pushes among them set aside
 pub record ReadsOn (old new : Inflow) (values : List Value) : Type 0 where
   pub observable : old.observable ≡ true → new.observable ≡ true
-  pub prefix : old.observable ≡ true → PrefixReads old.incoming values new.incoming
+  pub prefix : old.observable ≡ true → PrefixReads (inflowing old) values (inflowing new)
   pub pushes : new.pushes ≡ old.pushes ++ pushes_in values
   pub failures : new.failures ≡ old.failures
 
--- a prefix of the bytes is unfinished
-pub record HasUnfinishedPrefix (b : List ℕ) : Type 0 where
-  pub prefix : List ℕ
-  pub rest : List ℕ
-  pub whole : b ≡ prefix ++ rest
-  pub unfinished : IsUnfinished 100 prefix
+-- no value was taken, and all that was received is unfinished
+pub record AwaitsMore (at now : Inflow) : Type 0 where
+  pub same : inflowing at ≡ inflowing now
+  pub unfinished : IsUnfinished 100 now.received
+
+-- a value was read that is a push
+pub record ReadsPush (at now : Inflow) : Type 0 where
+  pub push : Value
+  pub prefix : HasGoodPrefix 100 (inflowing at) push (inflowing now)
+  pub is_push : replies_in (push ∷ []) ≡ []
 
 -- why no value comes next: a fault, the end of the bytes or a failure of the source, where more
--- were needed; or out of memory
+-- were needed; or out of memory, perhaps for the place of a push
 pub data StopsReceiving (Needed : Type 0) (at now : Inflow) (e : RedisError) : Type 0 where
   faulty : (f : FrameFault) → Needed → e ≡ form.Parse (parsing.Fault f) →
-      (at.observable ≡ true → HasFaultyPrefix 100 at.incoming f) →
+      (at.observable ≡ true → HasFaultyPrefix 100 (inflowing at) f) →
       now.failures ≡ at.failures → StopsReceiving Needed at now e
   early_end : Needed → e ≡ form.Io UnexpectedEof →
-      (at.observable ≡ true → IsUnfinished 100 at.incoming) →
+      (at.observable ≡ true → IsUnfinished 100 (inflowing at)) →
       now.failures ≡ at.failures → StopsReceiving Needed at now e
   source_failed : (kind : IoKind) → Needed → e ≡ form.Io kind →
-      (at.observable ≡ true → HasUnfinishedPrefix at.incoming) →
+      (at.observable ≡ true → AwaitsMore at now) →
       FailureCounted at.failures now.failures → StopsReceiving Needed at now e
-  out_of_memory : e ≡ form.OutOfMemory → now.failures ≡ at.failures → StopsReceiving Needed at now e
+  out_of_memory : e ≡ form.OutOfMemory → (at.observable ≡ true → inflowing at ≡ inflowing now) →
+      now.failures ≡ at.failures → StopsReceiving Needed at now e
+  no_room : e ≡ form.OutOfMemory → (at.observable ≡ true → ReadsPush at now) →
+      now.failures ≡ at.failures → StopsReceiving Needed at now e
 
 -- n replies came
 pub record Receives (n : ℕ) (old new : Inflow) (replies : List Value) : Type 0 where

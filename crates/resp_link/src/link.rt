@@ -112,10 +112,10 @@ impl<S: ReplySource, K: CommandSink> ByteLink<S, K> {
         requires { self.old.broken ≡ false }
         ensures exchanged { Exchanges
             (connection_of
-            (inflow_of self.old.inbox.parser.unparsed (S.source self.old.inbox.source)
+            (inflow_of self.old.inbox.parser.since (S.source self.old.inbox.source)
             self.old.inbox.pushes.items) (K.sink self.old.sink) self.old.broken)
             (connection_of
-            (inflow_of self.new.inbox.parser.unparsed (S.source self.new.inbox.source)
+            (inflow_of self.new.inbox.parser.since (S.source self.new.inbox.source)
             self.new.inbox.pushes.items) (K.sink self.new.sink) self.new.broken)
             bytes.now 0 result (AnswersReply (λ reply. result ≡ Ok reply)) }
     {
@@ -130,10 +130,10 @@ impl<S: ReplySource, K: CommandSink> ByteLink<S, K> {
         requires { self.old.broken ≡ false }
         ensures exchanged { Exchanges
             (connection_of
-            (inflow_of self.old.inbox.parser.unparsed (S.source self.old.inbox.source)
+            (inflow_of self.old.inbox.parser.since (S.source self.old.inbox.source)
             self.old.inbox.pushes.items) (K.sink self.old.sink) self.old.broken)
             (connection_of
-            (inflow_of self.new.inbox.parser.unparsed (S.source self.new.inbox.source)
+            (inflow_of self.new.inbox.parser.since (S.source self.new.inbox.source)
             self.new.inbox.pushes.items) (K.sink self.new.sink) self.new.broken)
             bytes.now 1 result (AnswersReply (λ reply. result ≡ Ok reply)) }
     {
@@ -155,10 +155,10 @@ impl<S: ReplySource, K: CommandSink> ByteLink<S, K> {
         ensures counted { IfOk result (λ vs. length vs.items ≡ count) }
         ensures exchanged { Exchanges
             (connection_of
-            (inflow_of self.old.inbox.parser.unparsed (S.source self.old.inbox.source)
+            (inflow_of self.old.inbox.parser.since (S.source self.old.inbox.source)
             self.old.inbox.pushes.items) (K.sink self.old.sink) self.old.broken)
             (connection_of
-            (inflow_of self.new.inbox.parser.unparsed (S.source self.new.inbox.source)
+            (inflow_of self.new.inbox.parser.since (S.source self.new.inbox.source)
             self.new.inbox.pushes.items) (K.sink self.new.sink) self.new.broken)
             bytes.now (offset + count) result (AnswersFrom (λ vs. vs.items) offset result) }
     {
@@ -176,7 +176,7 @@ impl<S: ReplySource, K: CommandSink> ConnectionLike for ByteLink<S, K> {
     ghost use Rattle.resp_link.specs.Receiving.{inflow_of};
 
     ghost connection = { λ c. connection_of
-        (inflow_of c.inbox.parser.unparsed (S.source c.inbox.source) c.inbox.pushes.items)
+        (inflow_of c.inbox.parser.since (S.source c.inbox.source) c.inbox.pushes.items)
         (K.sink c.sink) c.broken };
 
     fn req_command(&mut self, cmd: &Cmd) -> RedisResult<Value> {

@@ -3,6 +3,7 @@
 use crate::commands::refused_map;
 use resp_core::laws::{law_of_pipelines, law_of_requests};
 use resp_core::{Cmd, ErrorKind, Pipeline, pipe};
+use std::collections::BTreeMap;
 use std::process::Abort;
 
 /// The bytes of the pipeline are these.
@@ -102,4 +103,30 @@ fn refused_argument_of_a_pipeline_changes_nothing(rt: HostRuntime) {
         Err(error) => assert_eq!(rt; error.kind(), ErrorKind::Client),
     }
     packs_as(&rt, &pipeline, b"*1\r\n$4\r\nHSET\r\n");
+}
+
+/// Two pairs, of which the second has two values.
+fn wide_at_its_second_pair(rt: &(impl Abort + AllocGlobal)) -> BTreeMap<i64, Vec<i64>> {
+    let one = Vec::from_slice(rt.alloc(), &[5]).expect(rt, "no refusal");
+    let two = Vec::from_slice(rt.alloc(), &[6, 7]).expect(rt, "no refusal");
+    BTreeMap::from_array(rt.alloc(), [(1, one), (2, two)]).expect(rt, "no refusal")
+}
+
+#[test]
+fn an_argument_refused_midway_leaves_a_pipeline(rt: HostRuntime) {
+    let mut pipeline = pipe(rt.alloc());
+    let first = pipeline.cmd("A").expect(&rt, "no refusal");
+    let second = first.ignore().cmd("HSET").expect(&rt, "no refusal");
+    let _ = second.arg("h").expect(&rt, "no refusal");
+    match pipeline.arg(wide_at_its_second_pair(&rt)) {
+        Ok(_pipeline) => assert!(rt; false),
+        Err(error) => assert_eq!(rt; error.kind(), ErrorKind::Client),
+    }
+    let _ = pipeline.cmd("B").expect(&rt, "no refusal").atomic();
+    packs_as(
+        &rt,
+        &pipeline,
+        b"*1\r\n$5\r\nMULTI\r\n*1\r\n$1\r\nA\r\n*2\r\n$4\r\nHSET\r\n$1\r\nh\r\n\
+*1\r\n$1\r\nB\r\n*1\r\n$4\r\nEXEC\r\n",
+    );
 }
