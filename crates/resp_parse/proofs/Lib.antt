@@ -17,6 +17,7 @@ pub mod Holding
 pub mod LineAt
 pub mod LineReads
 pub mod LongerPrefixes
+pub mod MoreLevels
 pub mod Numerals
 pub mod ParserStates
 pub mod OpenFrames

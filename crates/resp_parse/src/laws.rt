@@ -4,7 +4,7 @@ ghost use Rattle.std.specs.Prelude.{ℕ, List, length, ◌*◌, ◌≤◌};
 ghost use Rattle.resp_value.specs.declared.value.Value.{Value};
 ghost use Rattle.resp_parse.specs.Built.{built};
 ghost use Rattle.resp_parse.specs.Grammar.{Good};
-ghost use Rattle.resp_parse.specs.Laws.{Completion, LawOfPrefixes};
+ghost use Rattle.resp_parse.specs.Laws.{Completion, LawOfPrefixes, MoreLevels};
 ghost use Rattle.resp_parse.specs.Prefixes.{IsUnfinished};
 
 /// Bytes have at most one reading, however they go on.
@@ -25,4 +25,12 @@ pub fn law_of_completion()
 /// elements of pushes among them, whatever lengths its headers announce.
 pub fn law_of_sizes()
     ensures law { (d : ℕ) (b : List ℕ) (v : Value) → Good d b v → 3 * built v ≤ length b }
+{}
+
+/// What is read within a limit on the levels, and isn't too deep, is read the same within a higher.
+///
+/// Bytes that spell a value within the lower limit spell the same value within the higher one, and
+/// bytes that end in a fault there, other than that of a value too deep, end in the same fault.
+pub fn law_of_levels()
+    ensures law { (d e : ℕ) (b : List ℕ) → d ≤ e → MoreLevels d e b }
 {}
