@@ -4,8 +4,8 @@
 mod arg_list;
 mod args;
 mod comparison;
+mod copies;
 mod impls;
-mod laws;
 mod options;
 mod shown;
 mod single_arg;
@@ -15,7 +15,6 @@ mod writer;
 pub use arg_list::ArgList;
 pub use args::{NumericBehavior, ToRedisArgs, write_each_arg};
 pub use comparison::ValueComparison;
-pub use laws::{law_of_clones, law_of_equal_options};
 pub use options::{
     ExistenceCheck, ExpireOption, Expiry, FieldExistenceCheck, ProtocolVersion, SetExpiry,
     is_valid_16_bytes_hex_digest,
