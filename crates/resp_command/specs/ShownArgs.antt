@@ -1,5 +1,5 @@
 -- The arguments of a command as they are shown: each with its bytes, or as a cursor.
-use Rattle.std.specs.Prelude.{◌≡◌, ℕ, ◌+◌, ◌-◌, List, [], ◌∷◌, Some, drop, length, nat_eq, slice_get, if◌then◌else◌}
+use Rattle.std.specs.Prelude.{◌≡◌, ℕ, ◌+◌, ◌-◌, Bool, true, false, List, [], ◌∷◌, Some, drop, length, nat_eq, slice_get, if◌then◌else◌}
 use Rattle.std.specs.List.{flat_map, list_any}
 use Rattle.std.specs.Borrow.{Bor}
 use Rattle.resp_args.specs.Args.{Args}
@@ -37,3 +37,9 @@ referent Cursor = Cursor
 abbrev pub EndsInCursor : Args → List ℕ → Type 0
 EndsInCursor args cursors =
     slice_get cursors (length cursors - 1) ≡ Some (length args - 1)
+
+-- equality of shown arguments, by that of their bytes
+abbrev pub arg_eq : {D : Type 0} → (D → D → Bool) → Arg D → Arg D → Bool
+arg_eq eq (Simple x) (Simple y) = eq x y
+arg_eq eq Cursor Cursor = true
+arg_eq eq _ _ = false

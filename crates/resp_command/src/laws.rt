@@ -1,11 +1,13 @@
 //! The laws: functions that do nothing, and whose contracts are proved.
 
-ghost use Rattle.std.specs.Prelude.{ℕ, List};
+ghost use Rattle.std.specs.Prelude.{◌≡◌, ℕ, List};
+ghost use Rattle.resp_command.specs.ShownArgs.{arg_eq};
 ghost use Rattle.resp_args.specs.Args.{Args};
 ghost use Rattle.resp_command.specs.PackingLaw.{LawOfPacking, LawOfRequests};
 ghost use Rattle.resp_command.specs.ScanLaw.{LawOfScans};
 ghost use Rattle.resp_command.specs.Taken.{TakesOneThing};
 
+use crate::args_iter::Arg;
 use resp_from::FromRedisValue;
 
 /// A packed command of up to 2^63 - 1 bytes is read by the grammar as the one array of its
@@ -32,4 +34,10 @@ pub fn law_of_taking()
 /// answer says; and it answers nothing ever after.
 pub fn law_of_scans<T: FromRedisValue>()
     ensures { LawOfScans T.WIDTH T.of_value }
+{}
+
+/// Two shown arguments are equal where both are cursors, or where both are ordinary and what they
+/// show is equal.
+pub fn law_of_equal_arguments<D: PartialEq>()
+    ensures { (a b : Arg D) → ⟦<Arg<D> as PartialEq>⟧.eq a b ≡ arg_eq D.eq a b }
 {}

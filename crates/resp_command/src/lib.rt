@@ -5,6 +5,7 @@ mod args_iter;
 mod batch;
 mod command;
 mod connection;
+mod copies;
 mod frames;
 mod framing;
 pub mod laws;

@@ -3,7 +3,9 @@
 ghost use Rattle.resp_core.specs.Pipeline.{Plan};
 ghost use Rattle.resp_core.specs.PipelineLaw.{LawOfPipelines};
 
-pub use resp_command::laws::{law_of_packing, law_of_requests, law_of_scans, law_of_taking};
+pub use resp_command::laws::{
+    law_of_equal_arguments, law_of_packing, law_of_requests, law_of_scans, law_of_taking,
+};
 pub use resp_errors::laws::{law_of_equal_errors, law_of_error_texts};
 pub use resp_laws::{
     SingleKey, SingleValued, law_of_one_value, law_of_owned_and_borrowed, law_of_written_scalars,
