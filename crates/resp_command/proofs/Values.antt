@@ -22,24 +22,24 @@ Joined-append P x y (v ∷ vs) ws j h = record {
   others_are = Joined-append P j.others y vs ws j.others_are h;
 }
 
-pub reads_nothing : (b : List ℕ) → PrefixReads b [] b
+pub reads_nothing : (d : ℕ) (b : List ℕ) → PrefixReads d b [] b
 unfolding Reads
-reads_nothing b = record { prefix = []; whole = refl; reads = refl }
+reads_nothing d b = record { prefix = []; whole = refl; reads = refl }
 
-pub reads_one : (b rest : List ℕ) (v : Value) → HasGoodPrefix 100 b v rest → PrefixReads b (v ∷ []) rest
+pub reads_one : (d : ℕ) (b rest : List ℕ) (v : Value) → HasGoodPrefix d b v rest → PrefixReads d b (v ∷ []) rest
 unfolding Reads
-reads_one b rest v h = record {
+reads_one d b rest v h = record {
   prefix = h.prefix;
   whole = h.whole;
   reads = record { first = h.prefix; others = []; whole = sym (append-nil h.prefix); first_is = h.good; others_are = refl };
 }
 
-pub reads_both : (b mid rest : List ℕ) (vs ws : List Value) → PrefixReads b vs mid → PrefixReads mid ws rest → PrefixReads b (vs ++ ws) rest
+pub reads_both : (d : ℕ) (b mid rest : List ℕ) (vs ws : List Value) → PrefixReads d b vs mid → PrefixReads d mid ws rest → PrefixReads d b (vs ++ ws) rest
 unfolding Reads
-reads_both b mid rest vs ws h k = record {
+reads_both d b mid rest vs ws h k = record {
   prefix = h.prefix ++ k.prefix;
   whole = h.whole ∙ ap (λ s. h.prefix ++ s) k.whole ∙ sym (append_assoc h.prefix k.prefix rest);
-  reads = Joined-append (Good 100) h.prefix k.prefix vs ws h.reads k.reads;
+  reads = Joined-append (Good d) h.prefix k.prefix vs ws h.reads k.reads;
 }
 
 pub replies_in-append : (vs ws : List Value) → replies_in (vs ++ ws) ≡ replies_in vs ++ replies_in ws

@@ -22,11 +22,11 @@ pushes_in = filter_map as_push
 abbrev pub replies_in : List Value → List Value
 replies_in = filter (λ v. is_none (as_push v))
 
--- a prefix of the bytes reads as these values, and the rest follows it
-pub record PrefixReads (b : List ℕ) (values : List Value) (rest : List ℕ) : Type 0 where
+-- a prefix of the bytes reads as these values, of up to d levels, and the rest follows it
+pub record PrefixReads (d : ℕ) (b : List ℕ) (values : List Value) (rest : List ℕ) : Type 0 where
   pub prefix : List ℕ
   pub whole : b ≡ prefix ++ rest
-  pub reads : Reads 100 prefix values
+  pub reads : Reads d prefix values
 
 -- the pushes among values, of which the last may be a push that found no room in the list
 pub data ListsPushes (values : List Value) (pushes : List PushInfo) : Type 0 where
@@ -49,31 +49,32 @@ pub data Taking : Type 0 where
   ended_early : (pushes : List PushInfo) → Taking
 
 -- the least prefix that holds n replies
-pub record TakesAll (n : ℕ) (b : List ℕ) (replies : List Value) (pushes : List PushInfo)
+pub record TakesAll (d n : ℕ) (b : List ℕ) (replies : List Value) (pushes : List PushInfo)
     (rest : List ℕ) : Type 0 where
   pub values : List Value
-  pub prefix : PrefixReads b values rest
+  pub prefix : PrefixReads d b values rest
   pub ends : EndsAtReply n values
   pub replies_are : replies ≡ replies_in values
   pub pushes_are : pushes ≡ pushes_in values
 
 -- values that hold fewer than n replies, and then something else
-pub record TakesFewer (n : ℕ) (b : List ℕ) (pushes : List PushInfo)
+pub record TakesFewer (d n : ℕ) (b : List ℕ) (pushes : List PushInfo)
     (After : List ℕ → Type 0) : Type 0 where
   pub values : List Value
   pub rest : List ℕ
-  pub prefix : PrefixReads b values rest
+  pub prefix : PrefixReads d b values rest
   pub few : length (replies_in values) < n
   pub pushes_are : pushes ≡ pushes_in values
   pub follows : After rest
 
-unfoldable pub Taken : ℕ → List ℕ → Taking → Type 0
-Taken n b (took replies pushes rest) = TakesAll n b replies pushes rest
-Taken n b (met_fault f pushes) = TakesFewer n b pushes (λ rest. HasFaultyPrefix 100 rest f)
-Taken n b (ended_early pushes) = TakesFewer n b pushes (IsUnfinished 100)
+-- by a reader of values of up to d levels
+unfoldable pub Taken : ℕ → ℕ → List ℕ → Taking → Type 0
+Taken d n b (took replies pushes rest) = TakesAll d n b replies pushes rest
+Taken d n b (met_fault f pushes) = TakesFewer d n b pushes (λ rest. HasFaultyPrefix d rest f)
+Taken d n b (ended_early pushes) = TakesFewer d n b pushes (IsUnfinished d)
 
--- whatever bytes come: n replies take one thing from them, and nothing else
-pub record TakesOneThing (n : ℕ) (b : List ℕ) : Type 0 where
+-- whatever bytes come: n replies of up to d levels take one thing from them, and nothing else
+pub record TakesOneThing (d n : ℕ) (b : List ℕ) : Type 0 where
   pub taking : Taking
-  pub taken : Taken n b taking
-  pub only : (other : Taking) → Taken n b other → other ≡ taking
+  pub taken : Taken d n b taking
+  pub only : (other : Taking) → Taken d n b other → other ≡ taking

@@ -25,7 +25,7 @@ pub fn law_of_requests()
 /// From any bytes n replies take one thing, and nothing else: the replies with the pushes before
 /// the last of them and the rest; or a fault, or an early end, and the pushes before it.
 pub fn law_of_taking()
-    ensures { (n : ℕ) (b : List ℕ) → TakesOneThing n b }
+    ensures { (d n : ℕ) (b : List ℕ) → TakesOneThing d n b }
 {}
 
 /// A scan that is called until it answers nothing made requests one after another, each with the

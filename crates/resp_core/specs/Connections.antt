@@ -15,5 +15,5 @@ pub use Rattle.resp_command.specs.Scans.{Requests, ScanState, Starts}
 pub use Rattle.resp_command.specs.ShownArgs.{args_left, referent, shown_args}
 pub use Rattle.resp_command.specs.Taken.{Taken, Taking, TakesOneThing}
 pub use Rattle.resp_link.specs.Linking.{connection_of}
-pub use Rattle.resp_link.specs.Receiving.{Inflow, inflow_of}
+pub use Rattle.resp_link.specs.Receiving.{Inflow, inflow_of, unread}
 pub use Rattle.resp_link.specs.Sink.{Sink, sink_of}

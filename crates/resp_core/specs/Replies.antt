@@ -7,7 +7,8 @@ pub use Rattle.resp_errors.specs.Retries.{is_dropped, is_of_cluster, replaces_co
 pub use Rattle.resp_from.specs.Conversion.{Converts, ConvertsCall, OfMade}
 pub use Rattle.resp_from.specs.Lists.{OfArray, OfVec}
 pub use Rattle.resp_from.specs.Maps.{HoldsMap, HoldsSet, OfMap, OfSet}
-pub use Rattle.resp_laws.specs.Laws.{Agree, GoesBySeen, IsSingleValued, pair_seen, result_seen}
+pub use Rattle.resp_laws.specs.Laws.{Agree, FitsUnsigned, GoesBySeen, IsSingleValued, ReadsBack}
+pub use Rattle.resp_laws.specs.Laws.{pair_seen, result_seen}
 pub use Rattle.resp_laws.specs.lemmas.Made.{one_made}
 pub use Rattle.resp_laws.specs.lemmas.Scalars.{one_signed, one_string, one_truth, one_unsigned}
 pub use Rattle.resp_laws.specs.lemmas.Tuples.{last_one, one_and, one_tuple}
@@ -17,8 +18,8 @@ pub use Rattle.resp_parse.specs.Prefixes.{HasGoodPrefix, HasFaultyPrefix, FaultS
 pub use Rattle.resp_parse.specs.Prefixes.{IsUnfinished}
 pub use Rattle.resp_parse.specs.Reads.{Reads}
 pub use Rattle.resp_parse.specs.State.{State, StandsAfter, FailedAfter, IsBetweenValues}
-pub use Rattle.resp_parse.specs.State.{KeepsFaultOffset}
-pub use Rattle.resp_parse.specs.Tally.{Tally}
+pub use Rattle.resp_parse.specs.State.{IsDepthLimit, KeepsFaultOffset, limit_refused}
+pub use Rattle.resp_parse.specs.Tally.{Tally, nothing_done}
 pub use Rattle.resp_parse.specs.Built.{built}
 pub use Rattle.resp_parse.specs.Bounds.{not_looked_at, WorksWithin, Bounded, FedBy, OneCall}
 pub use Rattle.resp_parse.specs.Bounds.{CallsWithin}

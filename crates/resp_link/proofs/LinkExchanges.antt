@@ -22,19 +22,19 @@ both_true false b h = (h, cc)
 and_true : (a b : Bool) → a ≡ true → b ≡ true → (a && b) ≡ true
 and_true a b h k = rw (h, k) refl
 
-taken_got : (n : ℕ) (i i' : Inflow) (replies : List Value) (r : Receives n i i' replies) → i.observable ≡ true → Taken n (inflowing i) (took replies (pushes_in r.values) (inflowing i'))
+taken_got : (n : ℕ) (i i' : Inflow) (replies : List Value) (r : Receives n i i' replies) → i.observable ≡ true → Taken i.levels n (inflowing i) (took replies (pushes_in r.values) (inflowing i'))
 unfolding Taken
 taken_got n i i' replies r obs = record { values = r.values; prefix = r.on.prefix obs; ends = r.ends; replies_are = r.replies_are; pushes_are = refl }
 
 -- what was read before it stopped
 module _ (n : ℕ) (i i' : Inflow) (e : RedisError) (r : CannotReceive n i i' e) (few : length (replies_in r.values) < n) where
-  taken_fault : (f : FrameFault) → (r.at.observable ≡ true → HasFaultyPrefix 100 (inflowing r.at) f) → i.observable ≡ true → Taken n (inflowing i) (met_fault f (pushes_in r.values))
+  taken_fault : (f : FrameFault) → (r.at.observable ≡ true → HasFaultyPrefix r.at.levels (inflowing r.at) f) → i.observable ≡ true → Taken i.levels n (inflowing i) (met_fault f (pushes_in r.values))
   unfolding Taken
-  taken_fault f bad obs = record { values = r.values; rest = inflowing r.at; prefix = r.on.prefix obs; few = few; pushes_are = refl; follows = bad (r.on.observable obs) }
+  taken_fault f bad obs = record { values = r.values; rest = inflowing r.at; prefix = r.on.prefix obs; few = few; pushes_are = refl; follows = rw r.on.levels at bad (r.on.observable obs) }
 
-  taken_early : (r.at.observable ≡ true → IsUnfinished 100 (inflowing r.at)) → i.observable ≡ true → Taken n (inflowing i) (ended_early (pushes_in r.values))
+  taken_early : (r.at.observable ≡ true → IsUnfinished r.at.levels (inflowing r.at)) → i.observable ≡ true → Taken i.levels n (inflowing i) (ended_early (pushes_in r.values))
   unfolding Taken
-  taken_early unfinished obs = record { values = r.values; rest = inflowing r.at; prefix = r.on.prefix obs; few = few; pushes_are = refl; follows = unfinished (r.on.observable obs) }
+  taken_early unfinished obs = record { values = r.values; rest = inflowing r.at; prefix = r.on.prefix obs; few = few; pushes_are = refl; follows = rw r.on.levels at unfinished (r.on.observable obs) }
 
 -- what came in while nothing or everything was sent
 module _ (i i' : Inflow) (k k' : Sink) (b b' : Bool) where
@@ -42,7 +42,7 @@ module _ (i i' : Inflow) (k k' : Sink) (b b' : Bool) where
       TookTooFew n (connection_of i k b) (connection_of i' k' b') (pushes_in r.values)
   too_few n e r few awaits obs =
       let a = awaits (r.on.observable obs) in
-      record { values = r.values; taken = rw a.same at r.on.prefix obs; few = few; pushes_are = refl; unfinished = a.unfinished }
+      record { values = r.values; taken = rw a.same at r.on.prefix obs; few = few; pushes_are = refl; unfinished = rw r.on.levels at a.unfinished }
 
   -- memory ran out once the request was sent
   midway : (n : ℕ) (q : List ℕ) (e : RedisError) → SendsAll k k' q (Ok tt) → (r : CannotReceive n i i' e) → b' ≡ true
@@ -66,14 +66,15 @@ module _ (i i' : Inflow) (k k' : Sink) (b b' : Bool) where
       let p = reads (r.on.observable obs) in
       record {
         values = r.values ++ p.push ∷ [];
-        taken = reads_both (inflowing i) (inflowing r.at) (inflowing i') r.values (p.push ∷ []) (r.on.prefix obs) (reads_one (inflowing r.at) (inflowing i') p.push p.prefix);
+        taken = reads_both i.levels (inflowing i) (inflowing r.at) (inflowing i') r.values (p.push ∷ []) (r.on.prefix obs) (reads_one i.levels (inflowing r.at) (inflowing i') p.push (rw r.on.levels at p.prefix));
         listed = all_but_last r.values p.push refl p.is_push refl;
       }
 
-  same_kind : (i.observable ≡ true → i'.observable ≡ true) → (k.observable ≡ true → k'.observable ≡ true) → SameKind (connection_of i k b) (connection_of i' k' b')
-  same_kind f g = record {
+  same_kind : (i.observable ≡ true → i'.observable ≡ true) → i'.levels ≡ i.levels → (k.observable ≡ true → k'.observable ≡ true) → SameKind (connection_of i k b) (connection_of i' k' b')
+  same_kind f levels g = record {
     observable = λ obs. let t = both_true i.observable k.observable obs in and_true i'.observable k'.observable (f t.0) (g t.1);
     pipelines = refl;
+    levels = levels;
   }
 
   sent_whole : (q : List ℕ) → SendsAll k k' q (Ok tt) → Sent (connection_of i k b) (connection_of i' k' b') q
@@ -83,7 +84,7 @@ module _ (i i' : Inflow) (k k' : Sink) (b b' : Bool) where
 pub unsent : {A : Type 0} (i : Inflow) (k k' : Sink) (b : Bool) (q : List ℕ) (n : ℕ) (kind : IoKind) (answers : List Value → Type 0) →
     SendsAll k k' q (Err kind) → Exchanges {A = A} (connection_of i k b) (connection_of i k' true) q n (Err (Io kind)) answers
 unsent i k k' b q n kind answers sending = record {
-  same = same_kind i i k k' b true (λ t. t) sending.observable;
+  same = same_kind i i k k' b true (λ t. t) refl sending.observable;
   exchange = connection.sink_failed (record {
     sent = λ obs. sending.bytes (both_true i.observable k.observable obs).1;
     unread = λ _. record { received = refl; to_come = refl };
@@ -99,7 +100,7 @@ unsent i k k' b q n kind answers sending = record {
 pub replied : {A : Type 0} (i i' : Inflow) (k k' : Sink) (b : Bool) (q : List ℕ) (n : ℕ) (replies : List Value) (result : Result A RedisError) (answers : List Value → Type 0) →
     SendsAll k k' q (Ok tt) → Receives n i i' replies → answers replies → Exchanges (connection_of i k b) (connection_of i' k' false) q n result answers
 replied i i' k k' b q n replies result answers sending r answer = record {
-  same = same_kind i i' k k' b false r.on.observable sending.observable;
+  same = same_kind i i' k k' b false r.on.observable r.on.levels sending.observable;
   exchange = connection.replied (record {
     replies = replies;
     pushes = pushes_in r.values;
@@ -159,6 +160,6 @@ missed i i' k k' b q n e answers sending r (no_room is push same) = connection.o
 pub unanswered : {A : Type 0} (i i' : Inflow) (k k' : Sink) (b : Bool) (q : List ℕ) (n : ℕ) (e : RedisError) (answers : List Value → Type 0) →
     SendsAll k k' q (Ok tt) → CannotReceive n i i' e → Exchanges {A = A} (connection_of i k b) (connection_of i' k' true) q n (Err e) answers
 unanswered i i' k k' b q n e answers sending r = record {
-  same = same_kind i i' k k' b true (λ t. r.observable (r.on.observable t)) sending.observable;
+  same = same_kind i i' k k' b true (λ t. r.observable (r.on.observable t)) (r.levels ∙ r.on.levels) sending.observable;
   exchange = missed i i' k k' b q n e answers sending r r.stops;
 }

@@ -11,6 +11,7 @@ use Rattle.resp_errors.specs.declared.redis_error.RedisError.{RedisError}
 use Rattle.resp_errors.specs.declared.redis_error.RedisError.TheVariants as form
 use Rattle.resp_parse.specs.Prefixes.{HasGoodPrefix, HasFaultyPrefix, IsUnfinished}
 use Rattle.resp_parse.specs.Source.{Source, FailureCounted}
+use Rattle.resp_parse.specs.State.{State}
 use Rattle.resp_command.specs.Taken.{PrefixReads, EndsAtReply, replies_in, pushes_in}
 
 pub record Inflow : Type 0 where
@@ -20,6 +21,8 @@ pub record Inflow : Type 0 where
   pub received : List ℕ
   -- those that the source has yet to give
   pub to_come : List ℕ
+  -- how many levels of values inside values are read
+  pub levels : ℕ
   -- the pushes that were set aside
   pub pushes : List PushInfo
   -- how often the source has failed
@@ -30,41 +33,54 @@ abbrev pub inflowing : Inflow → List ℕ
 inflowing i = i.received ++ i.to_come
 
 -- what a parser has received since the last value, and what its source will give
-abbrev pub inflow_of : List ℕ → Source → List PushInfo → Inflow
-inflow_of since source pushes = record {
+abbrev pub inflow_of : State → Source → List PushInfo → Inflow
+inflow_of parser source pushes = record {
   observable = source.observable;
-  received = since;
+  received = parser.since;
   to_come = source.bytes;
+  levels = parser.levels;
   pushes = pushes;
+  failures = source.failures;
+}
+
+-- a source of which nothing was received, for values of up to d levels
+abbrev pub unread : ℕ → Source → Inflow
+unread d source = record {
+  observable = source.observable;
+  received = [];
+  to_come = source.bytes;
+  levels = d;
+  pushes = [];
   failures = source.failures;
 }
 
 -- these values were read, and the pushes among them set aside
 pub record ReadsOn (old new : Inflow) (values : List Value) : Type 0 where
   pub observable : old.observable ≡ true → new.observable ≡ true
-  pub prefix : old.observable ≡ true → PrefixReads (inflowing old) values (inflowing new)
+  pub prefix : old.observable ≡ true → PrefixReads old.levels (inflowing old) values (inflowing new)
+  pub levels : new.levels ≡ old.levels
   pub pushes : new.pushes ≡ old.pushes ++ pushes_in values
   pub failures : new.failures ≡ old.failures
 
 -- no value was taken, and all that was received is unfinished
 pub record AwaitsMore (at now : Inflow) : Type 0 where
   pub same : inflowing at ≡ inflowing now
-  pub unfinished : IsUnfinished 100 now.received
+  pub unfinished : IsUnfinished at.levels now.received
 
 -- a value was read that is a push
 pub record ReadsPush (at now : Inflow) : Type 0 where
   pub push : Value
-  pub prefix : HasGoodPrefix 100 (inflowing at) push (inflowing now)
+  pub prefix : HasGoodPrefix at.levels (inflowing at) push (inflowing now)
   pub is_push : replies_in (push ∷ []) ≡ []
 
 -- why no value comes next: a fault, the end of the bytes or a failure of the source, where more
 -- were needed; or out of memory, perhaps for the place of a push
 pub data StopsReceiving (Needed : Type 0) (at now : Inflow) (e : RedisError) : Type 0 where
   faulty : (f : FrameFault) → Needed → e ≡ form.Parse (parsing.Fault f) →
-      (at.observable ≡ true → HasFaultyPrefix 100 (inflowing at) f) →
+      (at.observable ≡ true → HasFaultyPrefix at.levels (inflowing at) f) →
       now.failures ≡ at.failures → StopsReceiving Needed at now e
   early_end : Needed → e ≡ form.Io UnexpectedEof →
-      (at.observable ≡ true → IsUnfinished 100 (inflowing at)) →
+      (at.observable ≡ true → IsUnfinished at.levels (inflowing at)) →
       now.failures ≡ at.failures → StopsReceiving Needed at now e
   source_failed : (kind : IoKind) → Needed → e ≡ form.Io kind →
       (at.observable ≡ true → AwaitsMore at now) →
@@ -87,6 +103,7 @@ pub record CannotReceive (n : ℕ) (old new : Inflow) (e : RedisError) : Type 0 
   pub at : Inflow
   pub on : ReadsOn old at values
   pub observable : at.observable ≡ true → new.observable ≡ true
+  pub levels : new.levels ≡ at.levels
   pub pushes : new.pushes ≡ at.pushes
   pub stops : StopsReceiving (length (replies_in values) < n) at new e
 

@@ -22,12 +22,12 @@ impl<S: ReplySource> Inbox<S> {
         requires { IsBetweenValues self.old.parser }
         ensures reply { MatchResult result
             (λ v. Receives 1
-            (inflow_of self.old.parser.since (S.source self.old.source) self.old.pushes.items)
-            (inflow_of self.new.parser.since (S.source self.new.source) self.new.pushes.items)
+            (inflow_of self.old.parser (S.source self.old.source) self.old.pushes.items)
+            (inflow_of self.new.parser (S.source self.new.source) self.new.pushes.items)
             (v ∷ []))
             (λ e. CannotReceive 1
-            (inflow_of self.old.parser.since (S.source self.old.source) self.old.pushes.items)
-            (inflow_of self.new.parser.since (S.source self.new.source) self.new.pushes.items)
+            (inflow_of self.old.parser (S.source self.old.source) self.old.pushes.items)
+            (inflow_of self.new.parser (S.source self.new.source) self.new.pushes.items)
             e) }
         ensures rest { OnOk result (IsBetweenValues self.new.parser) }
     {
@@ -44,11 +44,11 @@ impl<S: ReplySource> Inbox<S> {
         requires { IsBetweenValues self.old.parser }
         ensures skipped { MatchResult result
             (λ _. Skips count
-            (inflow_of self.old.parser.since (S.source self.old.source) self.old.pushes.items)
-            (inflow_of self.new.parser.since (S.source self.new.source) self.new.pushes.items))
+            (inflow_of self.old.parser (S.source self.old.source) self.old.pushes.items)
+            (inflow_of self.new.parser (S.source self.new.source) self.new.pushes.items))
             (λ e. CannotReceive count
-            (inflow_of self.old.parser.since (S.source self.old.source) self.old.pushes.items)
-            (inflow_of self.new.parser.since (S.source self.new.source) self.new.pushes.items)
+            (inflow_of self.old.parser (S.source self.old.source) self.old.pushes.items)
+            (inflow_of self.new.parser (S.source self.new.source) self.new.pushes.items)
             e) }
         ensures rest { OnOk result (IsBetweenValues self.new.parser) }
     {
@@ -63,12 +63,12 @@ impl<S: ReplySource> Inbox<S> {
         requires { IsBetweenValues self.old.parser }
         ensures replies { MatchResult result
             (λ vs. Receives count
-            (inflow_of self.old.parser.since (S.source self.old.source) self.old.pushes.items)
-            (inflow_of self.new.parser.since (S.source self.new.source) self.new.pushes.items)
+            (inflow_of self.old.parser (S.source self.old.source) self.old.pushes.items)
+            (inflow_of self.new.parser (S.source self.new.source) self.new.pushes.items)
             vs.items)
             (λ e. CannotReceive count
-            (inflow_of self.old.parser.since (S.source self.old.source) self.old.pushes.items)
-            (inflow_of self.new.parser.since (S.source self.new.source) self.new.pushes.items)
+            (inflow_of self.old.parser (S.source self.old.source) self.old.pushes.items)
+            (inflow_of self.new.parser (S.source self.new.source) self.new.pushes.items)
             e) }
         ensures rest { OnOk result (IsBetweenValues self.new.parser) }
     {

@@ -1,11 +1,12 @@
 //! A connection over bytes.
 
-ghost use Rattle.std.specs.Prelude.{◌≡◌, ◌+◌, [], true, false, Ok, IfOk, length};
-ghost use Rattle.resp_parse.specs.State.{IsBetweenValues-prop};
+ghost use Rattle.std.specs.Prelude.{◌≡◌, ◌↔◌, ◌+◌, [], true, false, Ok, IsOk, IfOk, IfErr, length};
+ghost use Rattle.resp_parse.specs.State.{IsBetweenValues, IsBetweenValues-prop, IsDepthLimit};
+ghost use Rattle.resp_parse.specs.State.{limit_refused};
 ghost use Rattle.resp_parse.specs.Source.{source_of};
 ghost use Rattle.resp_link.specs.Sink.{sink_of};
 ghost use Rattle.resp_command.specs.Call.{AnswersReply, AnswersFrom, broken_link, no_command};
-ghost use Rattle.resp_link.specs.Receiving.{inflow_of};
+ghost use Rattle.resp_link.specs.Receiving.{inflow_of, unread};
 ghost use Rattle.resp_link.specs.Linking.{BetweenUnless, Exchanges, connection_of};
 
 use crate::inbox::Inbox;
@@ -33,32 +34,91 @@ pub struct ByteLink<S, K> {
 }
 
 impl<R: Read, W: Write> ByteLink<Reading<R>, Writing<W>> {
-    /// A link over a reader and a writer.
+    /// A link over a reader and a writer. Replies are read down to 100 levels.
     pub fn new(alloc: Global, reader: R, writer: W) -> ByteLink<Reading<R>, Writing<W>>
         ensures { ⟦<ByteLink<Reading<R>, Writing<W>> as ConnectionLike>⟧.connection result
-            ≡ connection_of (inflow_of [] (source_of (R.remaining reader) 0) [])
+            ≡ connection_of (unread 100 (source_of (R.remaining reader) 0))
             (sink_of (W.contents writer) false 0) false }
     {
         ByteLink::over(alloc, Reading::new(reader), Writing::new(writer))
     }
 }
 
+impl<R: Read + Drop, W: Write + Drop> ByteLink<Reading<R>, Writing<W>> {
+    /// A link over a reader and a writer, whose replies are read down to `limit` levels. Fails as
+    /// [`ByteLink::over_with_depth_limit`] does.
+    pub fn with_depth_limit(
+        alloc: Global,
+        reader: R,
+        writer: W,
+        limit: usize,
+    ) -> RedisResult<ByteLink<Reading<R>, Writing<W>>>
+        ensures accepts { IsOk result ↔ IsDepthLimit limit }
+        ensures made { IfOk result (λ link.
+            ⟦<ByteLink<Reading<R>, Writing<W>> as ConnectionLike>⟧.connection link
+            ≡ connection_of (unread limit (source_of (R.remaining reader) 0))
+            (sink_of (W.contents writer) false 0) false) }
+        ensures error { IfErr result (λ e. e ≡ limit_refused) }
+    {
+        ByteLink::over_with_depth_limit(alloc, Reading::new(reader), Writing::new(writer), limit)
+    }
+}
+
+impl<S: ReplySource + Drop, K: CommandSink + Drop> ByteLink<S, K> {
+    /// A link over a source and a sink, whose replies are read down to `limit` levels, the
+    /// outermost value being the first. Takes no memory.
+    ///
+    /// A limit that is not 1 to 1,000 is refused with kind `InvalidClientConfig`, and the source
+    /// and the sink are dropped.
+    pub fn over_with_depth_limit(
+        alloc: Global,
+        source: S,
+        sink: K,
+        limit: usize,
+    ) -> RedisResult<ByteLink<S, K>>
+        ensures accepts { IsOk result ↔ IsDepthLimit limit }
+        ensures made { IfOk result (λ link. ⟦<ByteLink<S, K> as ConnectionLike>⟧.connection link
+            ≡ connection_of (unread limit (S.source source)) (K.sink sink) false) }
+        ensures error { IfErr result (λ e. e ≡ limit_refused) }
+    {
+        let parser = Parser::with_depth_limit(alloc, limit)?;
+        Ok(ByteLink::around(alloc, parser, source, sink))
+    }
+}
+
 impl<S: ReplySource, K: CommandSink> ByteLink<S, K> {
-    /// A link over a source and a sink.
+    /// A link over a source and a sink. Replies are read down to 100 levels.
     pub fn over(alloc: Global, source: S, sink: K) -> ByteLink<S, K>
         ensures { ⟦<ByteLink<S, K> as ConnectionLike>⟧.connection result
-            ≡ connection_of (inflow_of [] (S.source source) []) (K.sink sink) false }
+            ≡ connection_of (unread 100 (S.source source)) (K.sink sink) false }
+    {
+        ByteLink::around(alloc, Parser::new(alloc), source, sink)
+    }
+
+    /// A link over a source and a sink, with a parser that holds no bytes.
+    fn around(alloc: Global, parser: Parser, source: S, sink: K) -> ByteLink<S, K>
+        requires rest { IsBetweenValues parser }
+        requires empty { parser.unparsed ≡ [] }
+        ensures { ⟦<ByteLink<S, K> as ConnectionLike>⟧.connection result
+            ≡ connection_of (unread parser.levels (S.source source)) (K.sink sink) false }
     {
         ByteLink {
             alloc,
             inbox: Inbox {
                 source,
-                parser: Parser::new(alloc),
+                parser,
                 pushes: Vec::new(alloc),
             },
             sink,
             broken: false,
         }
+    }
+
+    /// How many levels of values inside values are read, the outermost being the first.
+    pub fn depth_limit(&self) -> usize
+        ensures { result ≡ (⟦<ByteLink<S, K> as ConnectionLike>⟧.connection self.now).levels }
+    {
+        self.inbox.parser.depth_limit()
     }
 
     /// The pushes that were set aside, the oldest first.
@@ -112,10 +172,10 @@ impl<S: ReplySource, K: CommandSink> ByteLink<S, K> {
         requires { self.old.broken ≡ false }
         ensures exchanged { Exchanges
             (connection_of
-            (inflow_of self.old.inbox.parser.since (S.source self.old.inbox.source)
+            (inflow_of self.old.inbox.parser (S.source self.old.inbox.source)
             self.old.inbox.pushes.items) (K.sink self.old.sink) self.old.broken)
             (connection_of
-            (inflow_of self.new.inbox.parser.since (S.source self.new.inbox.source)
+            (inflow_of self.new.inbox.parser (S.source self.new.inbox.source)
             self.new.inbox.pushes.items) (K.sink self.new.sink) self.new.broken)
             bytes.now 0 result (AnswersReply (λ reply. result ≡ Ok reply)) }
     {
@@ -130,10 +190,10 @@ impl<S: ReplySource, K: CommandSink> ByteLink<S, K> {
         requires { self.old.broken ≡ false }
         ensures exchanged { Exchanges
             (connection_of
-            (inflow_of self.old.inbox.parser.since (S.source self.old.inbox.source)
+            (inflow_of self.old.inbox.parser (S.source self.old.inbox.source)
             self.old.inbox.pushes.items) (K.sink self.old.sink) self.old.broken)
             (connection_of
-            (inflow_of self.new.inbox.parser.since (S.source self.new.inbox.source)
+            (inflow_of self.new.inbox.parser (S.source self.new.inbox.source)
             self.new.inbox.pushes.items) (K.sink self.new.sink) self.new.broken)
             bytes.now 1 result (AnswersReply (λ reply. result ≡ Ok reply)) }
     {
@@ -155,10 +215,10 @@ impl<S: ReplySource, K: CommandSink> ByteLink<S, K> {
         ensures counted { IfOk result (λ vs. length vs.items ≡ count) }
         ensures exchanged { Exchanges
             (connection_of
-            (inflow_of self.old.inbox.parser.since (S.source self.old.inbox.source)
+            (inflow_of self.old.inbox.parser (S.source self.old.inbox.source)
             self.old.inbox.pushes.items) (K.sink self.old.sink) self.old.broken)
             (connection_of
-            (inflow_of self.new.inbox.parser.since (S.source self.new.inbox.source)
+            (inflow_of self.new.inbox.parser (S.source self.new.inbox.source)
             self.new.inbox.pushes.items) (K.sink self.new.sink) self.new.broken)
             bytes.now (offset + count) result (AnswersFrom (λ vs. vs.items) offset result) }
     {
@@ -176,7 +236,7 @@ impl<S: ReplySource, K: CommandSink> ConnectionLike for ByteLink<S, K> {
     ghost use Rattle.resp_link.specs.Receiving.{inflow_of};
 
     ghost connection = { λ c. connection_of
-        (inflow_of c.inbox.parser.since (S.source c.inbox.source) c.inbox.pushes.items)
+        (inflow_of c.inbox.parser (S.source c.inbox.source) c.inbox.pushes.items)
         (K.sink c.sink) c.broken };
 
     fn req_command(&mut self, cmd: &Cmd) -> RedisResult<Value> {

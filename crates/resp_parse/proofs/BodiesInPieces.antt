@@ -97,10 +97,10 @@ module _ (old new : Body) (bytes : List ℕ) (n : ℕ) (n_is : n ≡ min (length
 
 -- a machine in a body that took n bytes
 module _ (m : Machine) (old new : Body) (bytes : List ℕ) (n : ℕ) (body_is : m.body ≡ Some old) (h : FillsBody {E = Unit {0}} old bytes new (Ok n)) where
-  pub resumes : (more : List ℕ) → resume m (bytes ++ more) ≡ then (value_of (levels_left m.frames) (Some new) (drop n bytes ++ more)) (place m.frames)
+  pub resumes : (more : List ℕ) → resume m (bytes ++ more) ≡ then (value_of (levels_left m.levels m.frames) (Some new) (drop n bytes ++ more)) (place m.levels m.frames)
   resumes more =
-      ap (λ o. then (value_of (levels_left m.frames) o (bytes ++ more)) (place m.frames)) body_is
-      ∙ ap (λ o. then o (place m.frames)) (fills old new bytes n h.0 h.1 (levels_left m.frames) more)
+      ap (λ o. then (value_of (levels_left m.levels m.frames) o (bytes ++ more)) (place m.levels m.frames)) body_is
+      ∙ ap (λ o. then o (place m.levels m.frames)) (fills old new bytes n h.0 h.1 (levels_left m.levels m.frames) more)
 
   within : n ≤ length bytes
   within = omega (arith, h.0)
@@ -109,7 +109,7 @@ module _ (m : Machine) (old new : Body) (bytes : List ℕ) (n : ℕ) (body_is : 
   body-waits s e m' i = rw i (record {
     within = within;
     same = resumes;
-    waits = ap (λ o. then o (place m.frames)) (waits-missing old new bytes n h.0 h.1 new.missing (levels_left m.frames) refl e);
+    waits = ap (λ o. then o (place m.levels m.frames)) (waits-missing old new bytes n h.0 h.1 new.missing (levels_left m.levels m.frames) refl e);
     scanned = s;
     fresh = λ e. absurd (cc);
     begun = λ _. rw body_is refl;
@@ -119,10 +119,10 @@ module _ (m : Machine) (old new : Body) (bytes : List ℕ) (n : ℕ) (body_is : 
   body-faulty m' j i e =
       let r : length (drop n bytes) ≡ length bytes - n = grind (arith, common_steps) in
       let l : j ≤ length (drop n bytes) = e.0 in
-      rw i (omega (arith, r, l, within), λ more. resumes more ∙ ap (λ o. then o (place m.frames)) (faulty old new bytes n h.0 h.1 (levels_left m.frames) j e more))
+      rw i (omega (arith, r, l, within), λ more. resumes more ∙ ap (λ o. then o (place m.levels m.frames)) (faulty old new bytes n h.0 h.1 (levels_left m.levels m.frames) j e more))
 
-  ended : EndsBody (drop n bytes) (Ok true) → (more : List ℕ) → resume m (bytes ++ more) ≡ then (made (body_value new.kind new.bytes) (drop 2 (drop n bytes) ++ more)) (place m.frames)
-  ended e more = resumes more ∙ ap (λ o. then o (place m.frames)) (whole old new bytes n h.0 h.1 (levels_left m.frames) more e.0 (e.1 more))
+  ended : EndsBody (drop n bytes) (Ok true) → (more : List ℕ) → resume m (bytes ++ more) ≡ then (made (body_value new.kind new.bytes) (drop 2 (drop n bytes) ++ more)) (place m.levels m.frames)
+  ended e more = resumes more ∙ ap (λ o. then o (place m.levels m.frames)) (whole old new bytes n h.0 h.1 (levels_left m.levels m.frames) more e.0 (e.1 more))
 
   pub body-refused : EndsBody (drop n bytes) (Ok true) → (m' : Machine) (e : Stop) → m'.shown ≡ n + 2 → Computes (Err e) (body_value new.kind new.bytes) → Steps m bytes m' (Err e)
   body-refused e m' Memory i c = tt

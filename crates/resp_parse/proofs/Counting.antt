@@ -64,7 +64,7 @@ module _ (m new : Machine) (u : List ℕ) (c t e : Tally) (failed : Bool) where
 credit-fresh : (m : Machine) → fresh_of m.body m.frames ≡ true → m.scanned ≡ 0 → credit m ≡ 0
 credit-fresh m f s = let n = nothing_open m.body m.frames f in rw (n.no_body, n.no_frame, s) (omega arith)
 
-pub levels-fresh : (m : Machine) → fresh_of m.body m.frames ≡ true → length m.frames ≤ 100
+pub levels-fresh : (m : Machine) → fresh_of m.body m.frames ≡ true → length m.frames ≤ m.levels
 levels-fresh m f = let n = nothing_open m.body m.frames f in rw n.no_frame (omega arith)
 
 -- nothing was done
@@ -103,8 +103,8 @@ built-weighs [] = omega arith
 built-weighs (f ∷ fs) = omega (arith, built-weighs fs)
 
 -- what is kept bounds what was done
-pub Bounded-from_kept : {offset : Option ℕ} (m : Machine) (u since : List ℕ) (failed : Bool) (c : Tally) (n : ℕ) → length m.frames ≤ 100 → Holds m u since failed → Counted m u c failed → (failed ≡ false → Spelled m u since n) →
-    Bounded (record { unparsed = u; looked = m.scanned; since = since; failed = failed; fault_offset = offset; frames = length m.frames; built = built_in m.frames; counts = c })
+pub Bounded-from_kept : {offset : Option ℕ} (m : Machine) (u since : List ℕ) (failed : Bool) (c : Tally) (n : ℕ) → length m.frames ≤ m.levels → Holds m u since failed → Counted m u c failed → (failed ≡ false → Spelled m u since n) →
+    Bounded (record { levels = m.levels; unparsed = u; looked = m.scanned; since = since; failed = failed; fault_offset = offset; frames = length m.frames; built = built_in m.frames; counts = c })
 Bounded-from_kept m u since failed c n l h k p = record {
   turns = omega (arith, k.turns);
   looks = k.looks;

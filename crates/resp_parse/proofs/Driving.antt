@@ -16,13 +16,14 @@ use Rattle.resp_parse.proofs.HeadersInPieces.{resume-nothing, IsScanned-zero}
 pub record Driven (old m : Machine) (bytes : List ℕ) (at : ℕ) : Type 0 where
   pub within : at ≤ length bytes
   pub same : (more : List ℕ) → resume old (bytes ++ more) ≡ resume m (drop at bytes ++ more)
-  pub levels : length m.frames ≤ 100
+  pub limit : m.levels ≡ old.levels
+  pub levels : length m.frames ≤ m.levels
   pub scanned : IsScanned m.body m.scanned (drop at bytes)
   pub fresh : fresh_of m.body m.frames ≡ true → at ≡ 0
   pub begun : at ≡ 0 → fresh_of m.body m.frames ≡ fresh_of old.body old.frames
 
-pub Driven-start : (m : Machine) (bytes : List ℕ) → length m.frames ≤ 100 → IsScanned m.body m.scanned bytes → Driven m m bytes 0
-Driven-start m bytes l s = record { within = omega arith; same = λ more. refl; levels = l; scanned = s; fresh = λ _. refl; begun = λ _. refl }
+pub Driven-start : (m : Machine) (bytes : List ℕ) → length m.frames ≤ m.levels → IsScanned m.body m.scanned bytes → Driven m m bytes 0
+Driven-start m bytes l s = record { within = omega arith; same = λ more. refl; limit = refl; levels = l; scanned = s; fresh = λ _. refl; begun = λ _. refl }
 
 -- all bytes were taken
 pub Driven-end : (old m : Machine) (bytes : List ℕ) (at : ℕ) → Driven old m bytes at → length bytes ≤ at → Drives old bytes m (Ok (at, None))
@@ -57,26 +58,27 @@ module _ (old m : Machine) (bytes : List ℕ) (at : ℕ) (h : Driven old m bytes
 
   -- bytes were taken, and something is open
   Driven-takes : (new : Machine) (n : ℕ) → 0 < n → n ≤ length (drop at bytes) → ((more : List ℕ) → resume m (drop at bytes ++ more) ≡ resume new (drop n (drop at bytes) ++ more)) →
-      new.scanned ≡ 0 → fresh_of new.body new.frames ≡ false → length new.frames ≤ 100 → Driven old new bytes (at + n)
-  Driven-takes new n some w same z f l = record {
+      new.scanned ≡ 0 → fresh_of new.body new.frames ≡ false → new.levels ≡ m.levels → length new.frames ≤ new.levels → Driven old new bytes (at + n)
+  Driven-takes new n some w same z f k l = record {
     within = within n w;
     same = λ more. h.same more ∙ same more ∙ ap (λ x. resume new (x ++ more)) (dropped n);
+    limit = k ∙ h.limit;
     levels = l;
     scanned = IsScanned-zero new.body new.scanned (drop (at + n) bytes) z;
-    fresh = λ e. absurd (let k : true ≡ false = sym e ∙ f in cc);
+    fresh = λ e. absurd (let y : true ≡ false = sym e ∙ f in cc);
     begun = λ e. absurd (omega arith);
   }
 
-  pub Driven-goes : (new : Machine) (n : ℕ) → Steps m (drop at bytes) new (Ok (step.Goes n)) → length new.frames ≤ 100 → Driven old new bytes (at + n)
-  Driven-goes new n s l = Driven-takes new n s.0.some s.0.within s.0.same s.0.scanned s.1 l
+  pub Driven-goes : (new : Machine) (n : ℕ) → Steps m (drop at bytes) new (Ok (step.Goes n)) → new.levels ≡ m.levels → length new.frames ≤ new.levels → Driven old new bytes (at + n)
+  Driven-goes new n s k l = Driven-takes new n s.0.some s.0.within s.0.same s.0.scanned s.1 k l
 
   -- a value is whole, and was put where it belongs
   module _ (mid new : Machine) (n : ℕ) (v : Value) (s : Steps m (drop at bytes) mid (Ok (step.Whole n v))) where
-    pub Driven-settles : Ends (place mid.frames v) new (Ok None) → new.scanned ≡ mid.scanned → length new.frames ≤ 100 → Driven old new bytes (at + n)
-    Driven-settles e z l =
-        Driven-takes new n s.0.some s.0.within (λ more. s.0.same more ∙ e.0 (drop n (drop at bytes) ++ more)) (z ∙ s.0.scanned) e.1 l
+    pub Driven-settles : Ends (place mid.levels mid.frames v) new (Ok None) → new.scanned ≡ mid.scanned → new.levels ≡ m.levels → length new.frames ≤ new.levels → Driven old new bytes (at + n)
+    Driven-settles e z k l =
+        Driven-takes new n s.0.some s.0.within (λ more. s.0.same more ∙ e.0 (drop n (drop at bytes) ++ more)) (z ∙ s.0.scanned) e.1 k l
 
-    pub Driven-reads : (w : Value) → Ends (place mid.frames v) new (Ok (Some w)) → new.scanned ≡ mid.scanned → Drives old bytes new (Ok (at + n, Some w))
+    pub Driven-reads : (w : Value) → Ends (place mid.levels mid.frames v) new (Ok (Some w)) → new.scanned ≡ mid.scanned → Drives old bytes new (Ok (at + n, Some w))
     Driven-reads w e z = record {
       within = within n s.0.within;
       same = λ more. h.same more ∙ s.0.same more ∙ e.0 (drop n (drop at bytes) ++ more) ∙ ap (λ x. got w (x ++ more)) (dropped n);
@@ -84,7 +86,7 @@ module _ (old m : Machine) (bytes : List ℕ) (at : ℕ) (h : Driven old m bytes
       scanned = z ∙ s.0.scanned;
     }
 
-    pub Driven-refused : (end : Machine) (e : Stop) → end.shown ≡ at + n → at < length bytes → Ends (place mid.frames v) new (Err e) → Drives old bytes end (Err e)
+    pub Driven-refused : (end : Machine) (e : Stop) → end.shown ≡ at + n → at < length bytes → Ends (place mid.levels mid.frames v) new (Err e) → Drives old bytes end (Err e)
     Driven-refused end Memory i l k = (tt, omega arith)
     Driven-refused end (Fault f) i l k = (
       rw i (within n s.0.within, λ more. h.same more ∙ s.0.same more ∙ k (drop n (drop at bytes) ++ more) ∙ ap (λ x. fault f (x ++ more)) (dropped n)),

@@ -22,6 +22,7 @@ Filled-none m bytes c b l =
     let none : bytes ≡ [] = length-zero bytes (omega (arith, z, l)) in
     record {
       same = λ more. ap (λ s. resume m (s ++ more)) none;
+      levels = refl;
       frames = refl;
       looked = refl;
       fresh = refl;
@@ -45,7 +46,8 @@ module _ (m : Machine) (old new : Body) (bytes : List ℕ) (n : ℕ) (body_is : 
   Filled-body c t d e k =
       let whole : d ≡ record c { turns = c.turns + 1; taken = c.taken + n } = k ∙ ap (λ (x : Tally). record x { taken = x.taken + n }) e in
       record {
-        same = λ more. resumes m old new bytes n body_is h more ∙ ap (λ s. then (value_of (levels_left m.frames) (Some new) (s ++ more)) (place m.frames)) none-left;
+        same = λ more. resumes m old new bytes n body_is h more ∙ ap (λ s. then (value_of (levels_left m.levels m.frames) (Some new) (s ++ more)) (place m.levels m.frames)) none-left;
+        levels = refl;
         frames = refl;
         looked = refl;
         fresh = rw body_is refl;
@@ -62,7 +64,7 @@ module _ (m new : Machine) (c d : Tally) (u since bytes : List ℕ) (h : Resumes
   pub Resumes-filled : Resumes new u (since ++ bytes)
   Resumes-filled = record {
     scanned = f.scanned u h.scanned;
-    reads = λ more. ap (read 100) (append_assoc since bytes more) ∙ h.reads (bytes ++ more) ∙ ap (resume m) (apart more) ∙ f.same (u ++ more);
+    reads = λ more. ap (λ d. read d ((since ++ bytes) ++ more)) f.levels ∙ ap (read m.levels) (append_assoc since bytes more) ∙ h.reads (bytes ++ more) ∙ ap (resume m) (apart more) ∙ f.same (u ++ more);
     fresh = λ e. let z : fresh_of m.body m.frames ≡ true = sym f.fresh ∙ e in ap (λ x. since ++ x) (f.none z) ∙ append-nil since ∙ h.fresh z;
     begun = λ e. let l : length u < length since = h.begun (sym f.fresh ∙ e) in grind (arith, common_steps);
     weighs = (let l : length (since ++ bytes) ≡ length since + length bytes = grind (arith, common_steps) in omega (arith, l, f.weighs, h.weighs));

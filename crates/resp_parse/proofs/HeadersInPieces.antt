@@ -14,7 +14,7 @@ use Rattle.resp_parse.specs.Lines.{NoneBefore, Scanned}
 use Rattle.resp_parse.specs.Grammar.{announced, invalid}
 use Rattle.resp_parse.specs.Shapes.{announced_in_line}
 use Rattle.resp_parse.specs.PlainReading.{ReadOutcome, fault, unfinished, then, read_body, read_announced, read_line, read}
-use Rattle.resp_parse.specs.Resume.{value_of, place, resume, levels_left, IsLooked, IsScanned, FindsLine, Goes, Steps}
+use Rattle.resp_parse.specs.Resume.{value_of, place, resume, levels_left, levels_below, IsLooked, IsScanned, FindsLine, Goes, Steps}
 use Rattle.resp_parse.proofs.LineAt.{line-none}
 use Rattle.resp_parse.proofs.LineReads.{line-longer}
 
@@ -28,7 +28,7 @@ value-nothing d None = refl
 value-nothing d (Some b) = rw (body-nothing b.missing) refl
 
 pub resume-nothing : (m : Machine) → resume m [] ≡ unfinished
-resume-nothing m = rw (value-nothing (levels_left m.frames) m.body) refl
+resume-nothing m = rw (value-nothing (levels_left m.levels m.frames) m.body) refl
 
 pub Scanned-none : (bs : List ℕ) → Scanned bs 0
 Scanned-none bs = record { within = omega arith; none = λ k l. absurd (omega arith) }
@@ -64,20 +64,20 @@ line-announces P kind text bs = by_test (is_utf8 text)
 
 -- a machine before a value, whose type byte is c
 module _ (m : Machine) (c : ℕ) (after : List ℕ) (body_is : m.body ≡ None) where
-  before : (bs : List ℕ) → resume m bs ≡ then (read (levels_left m.frames) bs) (place m.frames)
-  before bs = ap (λ o. then (value_of (levels_left m.frames) o bs) (place m.frames)) body_is
+  before : (bs : List ℕ) → resume m bs ≡ then (read (levels_left m.levels m.frames) bs) (place m.levels m.frames)
+  before bs = ap (λ o. then (value_of (levels_left m.levels m.frames) o bs) (place m.levels m.frames)) body_is
 
-  pub too_deep : (m' : Machine) → m'.shown ≡ 1 → length m.frames ≡ 100 → Steps m (c ∷ after) m' (Err (Fault TooDeep))
+  pub too_deep : (m' : Machine) → m'.shown ≡ 1 → length m.frames ≡ m.levels → Steps m (c ∷ after) m' (Err (Fault TooDeep))
   too_deep m' i l =
-      let z : levels_left m.frames ≡ 0 = omega arith in
-      rw i (omega arith, λ more. before (c ∷ (after ++ more)) ∙ ap (λ d. then (read d (c ∷ (after ++ more))) (place m.frames)) z)
+      let z : levels_left m.levels m.frames ≡ 0 = omega arith in
+      rw i (omega arith, λ more. before (c ∷ (after ++ more)) ∙ ap (λ d. then (read d (c ∷ (after ++ more))) (place m.levels m.frames)) z)
 
-  module _ (l : length m.frames < 100) where
-    level : levels_left m.frames ≡ suc (99 - length m.frames)
+  module _ (l : length m.frames < m.levels) where
+    level : levels_left m.levels m.frames ≡ suc (levels_below m.levels m.frames)
     level = omega arith
 
-    leveled : (bs : List ℕ) → resume m bs ≡ then (read (suc (99 - length m.frames)) bs) (place m.frames)
-    leveled bs = before bs ∙ ap (λ d. then (read d bs) (place m.frames)) level
+    leveled : (bs : List ℕ) → resume m bs ≡ then (read (suc (levels_below m.levels m.frames)) bs) (place m.levels m.frames)
+    leveled bs = before bs ∙ ap (λ d. then (read d bs) (place m.levels m.frames)) level
 
     pub unknown_type : (m' : Machine) → m'.shown ≡ 1 → type_of c ≡ None → Steps m (c ∷ after) m' (Err (Fault UnknownType))
     unknown_type m' i k = rw i (omega arith, λ more. leveled (c ∷ (after ++ more)) ∙ rw k refl)
@@ -100,7 +100,7 @@ module _ (m : Machine) (c : ℕ) (after : List ℕ) (body_is : m.body ≡ None) 
         rest : List ℕ
         rest = drop (len + 2) after
 
-        header-reads : (more : List ℕ) → resume m (c ∷ (after ++ more)) ≡ then (read_line (read (99 - length m.frames)) kind (take len after) (drop (len + 2) after ++ more)) (place m.frames)
+        header-reads : (more : List ℕ) → resume m (c ∷ (after ++ more)) ≡ then (read_line (read (levels_below m.levels m.frames)) kind (take len after) (drop (len + 2) after ++ more)) (place m.levels m.frames)
         header-reads more = leveled (c ∷ (after ++ more)) ∙ rw (kind_is, line-longer after more (take len after) (drop (len + 2) after) found.1) refl
 
         dropped : drop (len + 3) (c ∷ after) ≡ drop (len + 2) after
@@ -109,11 +109,11 @@ module _ (m : Machine) (c : ℕ) (after : List ℕ) (body_is : m.body ≡ None) 
         within : len + 3 ≤ length (c ∷ after)
         within = let l : len + 2 ≤ length after = found.0 in omega arith
 
-        announced-reads : (more : List ℕ) → resume m (c ∷ (after ++ more)) ≡ then (read_announced (read (99 - length m.frames)) (announced_in_line kind (take len after)) (drop (len + 2) after ++ more)) (place m.frames)
-        announced-reads more = header-reads more ∙ ap (λ o. then o (place m.frames)) (line-announces (read (99 - length m.frames)) kind (take len after) (drop (len + 2) after ++ more))
+        announced-reads : (more : List ℕ) → resume m (c ∷ (after ++ more)) ≡ then (read_announced (read (levels_below m.levels m.frames)) (announced_in_line kind (take len after)) (drop (len + 2) after ++ more)) (place m.levels m.frames)
+        announced-reads more = header-reads more ∙ ap (λ o. then o (place m.levels m.frames)) (line-announces (read (levels_below m.levels m.frames)) kind (take len after) (drop (len + 2) after ++ more))
 
         abbrev begins : List ℕ → ReadOutcome Value
-        begins more = then (read_announced (read (99 - length m.frames)) (announced_in_line kind (take len after)) more) (place m.frames)
+        begins more = then (read_announced (read (levels_below m.levels m.frames)) (announced_in_line kind (take len after)) more) (place m.levels m.frames)
 
         pub header-stops : (m' end : Machine) (e : Stop) → end.shown ≡ len + 3 → Goes begins m' (Err e) → Steps m (c ∷ after) end (Err e)
         header-stops m' end Memory i g = tt
@@ -135,7 +135,7 @@ module _ (m : Machine) (c : ℕ) (after : List ℕ) (body_is : m.body ≡ None) 
           record {
             some = omega arith;
             within = within;
-            same = λ more. announced-reads more ∙ g.0 (drop (len + 2) after ++ more) ∙ ap (λ x. place m'.frames v (x ++ more)) (sym dropped);
+            same = λ more. announced-reads more ∙ g.0 (drop (len + 2) after ++ more) ∙ ap (λ x. place m'.levels m'.frames v (x ++ more)) (sym dropped);
             scanned = s;
           },
           g.1,

@@ -18,10 +18,10 @@ use Rattle.resp_parse.proofs.BodiesInPieces.{drop-all}
 use Rattle.resp_parse.proofs.HeadersInPieces.{IsScanned-zero}
 use Rattle.resp_parse.proofs.PrefixReads.{HasGoodPrefix-from_read, HasFaultyPrefix-from_read, FaultShownBy-from_read, IsUnfinished-from_read}
 
-then-nothing : (o : ReadOutcome Value) → o ≡ then o (place [])
-then-nothing (got v rest) = refl
-then-nothing (fault f rest) = refl
-then-nothing unfinished = refl
+then-nothing : (d : ℕ) (o : ReadOutcome Value) → o ≡ then o (place d [])
+then-nothing d (got v rest) = refl
+then-nothing d (fault f rest) = refl
+then-nothing d unfinished = refl
 
 -- nothing is open
 pub record NothingOpen (b : Option Body) (fs : List Frame) : Type 0 where
@@ -33,8 +33,11 @@ nothing_open None [] e = record { no_body = refl; no_frame = refl }
 nothing_open None (f ∷ fs) e = absurd (cc)
 nothing_open (Some b) fs e = absurd (cc)
 
-resume-fresh : (m : Machine) → fresh_of m.body m.frames ≡ true → (bs : List ℕ) → read 100 bs ≡ resume m bs
-resume-fresh m e bs = let n = nothing_open m.body m.frames e in rw (n.no_body, n.no_frame) (then-nothing (read 100 bs))
+resume-fresh : (m : Machine) → fresh_of m.body m.frames ≡ true → (bs : List ℕ) → read m.levels bs ≡ resume m bs
+resume-fresh m e bs =
+    let n = nothing_open m.body m.frames e in
+    let z : m.levels - 0 ≡ m.levels = omega arith in
+    rw (n.no_body, n.no_frame, z) (then-nothing m.levels (read m.levels bs))
 
 -- a machine that has read nothing
 pub Resumes-fresh : (m : Machine) (u : List ℕ) → fresh_of m.body m.frames ≡ true → m.scanned ≡ 0 → Resumes m u u
@@ -58,7 +61,7 @@ IsScanned-longer (Some b) n u more h = h
 pub Resumes-fed : (m : Machine) (u since bytes : List ℕ) → Resumes m u since → Resumes m (u ++ bytes) (since ++ bytes)
 Resumes-fed m u since bytes h = record {
   scanned = IsScanned-longer m.body m.scanned u bytes h.scanned;
-  reads = λ more. ap (read 100) (append_assoc since bytes more) ∙ h.reads (bytes ++ more) ∙ ap (resume m) (sym (append_assoc u bytes more));
+  reads = λ more. ap (read m.levels) (append_assoc since bytes more) ∙ h.reads (bytes ++ more) ∙ ap (resume m) (sym (append_assoc u bytes more));
   fresh = λ e. ap (λ x. x ++ bytes) (h.fresh e);
   begun = λ e. let l : length u < length since = h.begun e in grind (arith, common_steps);
   weighs = (let l : length (u ++ bytes) ≡ length u + length bytes = grind (arith, common_steps) in let k : length (since ++ bytes) ≡ length since + length bytes = grind (arith, common_steps) in omega (arith, l, k, h.weighs));
@@ -117,31 +120,31 @@ in_progress-machine m buffer since consumed failed h l b u false e = (
 
 -- a machine that went on in the unparsed bytes
 module _ (m new : Machine) (u since : List ℕ) (h : Resumes m u since) where
-  at_end : read 100 since ≡ resume m (u ++ [])
-  at_end = ap (read 100) (sym (append-nil since)) ∙ h.reads []
+  at_end : read m.levels since ≡ resume m (u ++ [])
+  at_end = ap (read m.levels) (sym (append-nil since)) ∙ h.reads []
 
-  pub good-from_reads : (n : ℕ) (v : Value) → Reads m u new n v → HasGoodPrefix 100 since v (drop n u)
-  good-from_reads n v d = HasGoodPrefix-from_read 100 since (drop n u) v (at_end ∙ d.same [] ∙ ap (λ r. got v r) (append-nil (drop n u)))
+  pub good-from_reads : (n : ℕ) (v : Value) → Reads m u new n v → HasGoodPrefix m.levels since v (drop n u)
+  good-from_reads n v d = HasGoodPrefix-from_read m.levels since (drop n u) v (at_end ∙ d.same [] ∙ ap (λ r. got v r) (append-nil (drop n u)))
 
-  read-fault : (f : FrameFault) → Drives m u new (Err (Fault f)) → read 100 since ≡ fault f (drop new.shown u)
+  read-fault : (f : FrameFault) → Drives m u new (Err (Fault f)) → read m.levels since ≡ fault f (drop new.shown u)
   read-fault f d = at_end ∙ d.0.1 [] ∙ ap (λ r. fault f r) (append-nil (drop new.shown u))
 
-  pub faulty-from_drives : (f : FrameFault) → Drives m u new (Err (Fault f)) → HasFaultyPrefix 100 since f
-  faulty-from_drives f d = HasFaultyPrefix-from_read 100 since (drop new.shown u) f (read-fault f d)
+  pub faulty-from_drives : (f : FrameFault) → Drives m u new (Err (Fault f)) → HasFaultyPrefix m.levels since f
+  faulty-from_drives f d = HasFaultyPrefix-from_read m.levels since (drop new.shown u) f (read-fault f d)
 
-  pub shown-from_drives : (f : FrameFault) (count : ℕ) → Drives m u new (Err (Fault f)) → count + length u ≡ length since → FaultShownBy 100 since (count + new.shown)
+  pub shown-from_drives : (f : FrameFault) (count : ℕ) → Drives m u new (Err (Fault f)) → count + length u ≡ length since → FaultShownBy m.levels since (count + new.shown)
   shown-from_drives f count d l =
       let w : new.shown ≤ length u = d.0.0 in
       let r : length (drop new.shown u) ≡ length u - new.shown = grind (arith, common_steps) in
-      FaultShownBy-from_read 100 since (drop new.shown u) f (count + new.shown) (read-fault f d) (omega (arith, l, w, r))
+      FaultShownBy-from_read m.levels since (drop new.shown u) f (count + new.shown) (read-fault f d) (omega (arith, l, w, r))
 
-  pub unfinished-from_waits : (n : ℕ) → Waits m u new n → IsUnfinished 100 since
-  unfinished-from_waits n d = IsUnfinished-from_read 100 since (at_end ∙ d.same [] ∙ ap (resume new) (append-nil (drop n u)) ∙ d.waits)
+  pub unfinished-from_waits : (n : ℕ) → Waits m u new n → IsUnfinished m.levels since
+  unfinished-from_waits n d = IsUnfinished-from_read m.levels since (at_end ∙ d.same [] ∙ ap (resume new) (append-nil (drop n u)) ∙ d.waits)
 
-  pub Resumes-waits : (n : ℕ) → Waits m u new n → weight new ≤ weight m + n → Resumes new (drop n u) since
-  Resumes-waits n d k = record {
+  pub Resumes-waits : (n : ℕ) → Waits m u new n → new.levels ≡ m.levels → weight new ≤ weight m + n → Resumes new (drop n u) since
+  Resumes-waits n d same k = record {
     scanned = d.scanned;
-    reads = λ more. h.reads more ∙ d.same more;
+    reads = λ more. ap (λ l. read l (since ++ more)) same ∙ h.reads more ∙ d.same more;
     fresh = λ e. let z : n ≡ 0 = d.fresh e in h.fresh (sym (d.begun z) ∙ e) ∙ ap (λ k. drop k u) (sym z);
     begun = λ e. longer n d e (fresh_of m.body m.frames) refl;
     weighs = (let w : n ≤ length u = d.within in let r : length (drop n u) ≡ length u - n = grind (arith, common_steps) in omega (arith, w, r, k, h.weighs));

@@ -6,24 +6,25 @@ use Rattle.resp_errors.specs.declared.kinds.FrameFault.{FrameFault}
 use Rattle.resp_parse.specs.Prefixes.{HasGoodPrefix, HasFaultyPrefix, IsUnfinished}
 use Rattle.resp_parse.specs.Source.{Source}
 
-pub HasGoodPrefix-longer : (b more rest : List ℕ) (v : Value) → HasGoodPrefix 100 b v rest → HasGoodPrefix 100 (b ++ more) v (rest ++ more)
-HasGoodPrefix-longer b more rest v h = record { prefix = h.prefix; whole = ap (λ z. z ++ more) h.whole ∙ append_assoc h.prefix rest more; good = h.good }
+pub HasGoodPrefix-longer : (d : ℕ) (b more rest : List ℕ) (v : Value) → HasGoodPrefix d b v rest → HasGoodPrefix d (b ++ more) v (rest ++ more)
+HasGoodPrefix-longer d b more rest v h = record { prefix = h.prefix; whole = ap (λ z. z ++ more) h.whole ∙ append_assoc h.prefix rest more; good = h.good }
 
-pub HasFaultyPrefix-longer : (b more : List ℕ) (f : FrameFault) → HasFaultyPrefix 100 b f → HasFaultyPrefix 100 (b ++ more) f
-HasFaultyPrefix-longer b more f h = record { prefix = h.prefix; rest = h.rest ++ more; whole = ap (λ z. z ++ more) h.whole ∙ append_assoc h.prefix h.rest more; faulty = h.faulty }
+pub HasFaultyPrefix-longer : (d : ℕ) (b more : List ℕ) (f : FrameFault) → HasFaultyPrefix d b f → HasFaultyPrefix d (b ++ more) f
+HasFaultyPrefix-longer d b more f h = record { prefix = h.prefix; rest = h.rest ++ more; whole = ap (λ z. z ++ more) h.whole ∙ append_assoc h.prefix h.rest more; faulty = h.faulty }
 
--- the buffered and the incoming bytes of a source, which went from s to t and filled some of them
-module _ (b filled : List ℕ) (s t : Source) (come : s.bytes ≡ filled ++ t.bytes) where
+-- the buffered and the incoming bytes of a source, which went from s to t and filled some of them,
+-- where values are read down to d levels
+module _ (d : ℕ) (b filled : List ℕ) (s t : Source) (come : s.bytes ≡ filled ++ t.bytes) where
   whole : (b ++ filled) ++ t.bytes ≡ b ++ s.bytes
   whole = append_assoc b filled t.bytes ∙ ap (λ z. b ++ z) (sym come)
 
-  pub HasGoodPrefix-whole : (v : Value) (rest : List ℕ) → HasGoodPrefix 100 (b ++ filled) v rest → HasGoodPrefix 100 (b ++ s.bytes) v (rest ++ t.bytes)
-  HasGoodPrefix-whole v rest h = subst (λ z. HasGoodPrefix 100 z v (rest ++ t.bytes)) whole (HasGoodPrefix-longer (b ++ filled) t.bytes rest v h)
+  pub HasGoodPrefix-whole : (v : Value) (rest : List ℕ) → HasGoodPrefix d (b ++ filled) v rest → HasGoodPrefix d (b ++ s.bytes) v (rest ++ t.bytes)
+  HasGoodPrefix-whole v rest h = subst (λ z. HasGoodPrefix d z v (rest ++ t.bytes)) whole (HasGoodPrefix-longer d (b ++ filled) t.bytes rest v h)
 
-  pub HasFaultyPrefix-whole : (f : FrameFault) → HasFaultyPrefix 100 (b ++ filled) f → HasFaultyPrefix 100 (b ++ s.bytes) f
-  HasFaultyPrefix-whole f h = subst (λ z. HasFaultyPrefix 100 z f) whole (HasFaultyPrefix-longer (b ++ filled) t.bytes f h)
+  pub HasFaultyPrefix-whole : (f : FrameFault) → HasFaultyPrefix d (b ++ filled) f → HasFaultyPrefix d (b ++ s.bytes) f
+  HasFaultyPrefix-whole f h = subst (λ z. HasFaultyPrefix d z f) whole (HasFaultyPrefix-longer d (b ++ filled) t.bytes f h)
 
-  pub IsUnfinished-whole : t.bytes ≡ [] → IsUnfinished 100 (b ++ filled) → IsUnfinished 100 (b ++ s.bytes)
+  pub IsUnfinished-whole : t.bytes ≡ [] → IsUnfinished d (b ++ filled) → IsUnfinished d (b ++ s.bytes)
   IsUnfinished-whole none h =
       let all : b ++ filled ≡ b ++ s.bytes = sym (append-nil (b ++ filled)) ∙ ap (λ z. (b ++ filled) ++ z) (sym none) ∙ whole in
-      subst (λ z. IsUnfinished 100 z) all h
+      subst (λ z. IsUnfinished d z) all h

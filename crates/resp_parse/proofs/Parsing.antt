@@ -13,7 +13,7 @@ use Rattle.resp_parse.specs.Calls.{Received, Takes, CannotTake, Filled, Asks, Ca
 -- what was filled since the parser was `old` and stood after b
 pub record FilledAsNeeded (b : List ℕ) (old p : State) (s t : Source) : Type 0 where
   pub more : Filled b old p s t
-  pub needed : AsNeeded b more.filled
+  pub needed : AsNeeded old.levels b more.filled
 
 pub FilledAsNeeded-none : (b : List ℕ) (p : State) (s : Source) → StandsAfter p b → FilledAsNeeded b p p s s
 FilledAsNeeded-none b p s h = record {
@@ -27,18 +27,18 @@ module _ (b : List ℕ) (old p : State) (s t : Source) (k : FilledAsNeeded b old
   Received-no_more : (new : State) → new.counts.came ≡ p.counts.came → Received k.more.filled old new
   Received-no_more new e = e ∙ k.more.received
 
-  pub Parsed-taken : (new : State) (v : Value) → new.counts.came ≡ p.counts.came → Takes (b ++ k.more.filled) new (Ok (Some v)) → SpelledWithin (b ++ k.more.filled) new.unparsed → Parsed b v old new s t
-  Parsed-taken new v e w l = record { filled = k.more.filled; came = k.more.came; received = Received-no_more new e; needed = k.needed; value = w.0; spelled = l; rest = w.1; failures = k.more.failures }
+  pub Parsed-taken : (new : State) (v : Value) → new.levels ≡ old.levels → new.counts.came ≡ p.counts.came → Takes (b ++ k.more.filled) new (Ok (Some v)) → SpelledWithin (b ++ k.more.filled) new.unparsed → Parsed b v old new s t
+  Parsed-taken new v d e w l = record { filled = k.more.filled; came = k.more.came; received = Received-no_more new e; needed = rw d k.needed; value = w.0; spelled = l; rest = w.1; failures = k.more.failures }
 
-  Failed-taken : (new : State) → new.counts.came ≡ p.counts.came → FailedAfter new (b ++ k.more.filled) → Failed b k.more.filled old new s t
-  Failed-taken new e h = record { came = k.more.came; received = Received-no_more new e; needed = k.needed; failed = h; failures = k.more.failures }
+  Failed-taken : (new : State) → new.levels ≡ old.levels → new.counts.came ≡ p.counts.came → FailedAfter new (b ++ k.more.filled) → Failed b k.more.filled old new s t
+  Failed-taken new d e h = record { came = k.more.came; received = Received-no_more new e; needed = rw d k.needed; failed = h; failures = k.more.failures }
 
-  pub CannotParse-taken : (new : State) (e : RedisError) → new.counts.came ≡ p.counts.came → Takes (b ++ k.more.filled) new (Err e) → CannotParse b e old new s t
-  CannotParse-taken new e z (CannotTake.faulty f i w, h) = CannotParse.faulty f k.more.filled i w (Failed-taken new z h)
-  CannotParse-taken new e z (CannotTake.out_of_memory i, h) = CannotParse.out_of_memory k.more.filled i (Failed-taken new z h)
+  pub CannotParse-taken : (new : State) (e : RedisError) → new.levels ≡ old.levels → new.counts.came ≡ p.counts.came → Takes (b ++ k.more.filled) new (Err e) → CannotParse b e old new s t
+  CannotParse-taken new e d z (CannotTake.faulty f i w, h) = CannotParse.faulty f k.more.filled i w (Failed-taken new d z h)
+  CannotParse-taken new e d z (CannotTake.out_of_memory i, h) = CannotParse.out_of_memory k.more.filled i (Failed-taken new d z h)
 
   -- what was filled is unfinished, and the source was asked once more
-  module _ (mid : State) (same : mid.counts.came ≡ p.counts.came) (w : Takes (b ++ k.more.filled) mid (Ok None)) (u : Source) (observable : s.observable ≡ true → t.observable ≡ true) where
+  module _ (mid : State) (levels : mid.levels ≡ old.levels) (same : mid.counts.came ≡ p.counts.came) (w : Takes (b ++ k.more.filled) mid (Ok None)) (u : Source) (observable : s.observable ≡ true → t.observable ≡ true) where
     Came-asked : (more : List ℕ) → Came t more u → Came s (k.more.filled ++ more) u
     Came-asked more c = λ obs. k.more.came obs ∙ ap (λ z. k.more.filled ++ z) (c (observable obs)) ∙ sym (append_assoc k.more.filled more u.bytes)
 
@@ -57,28 +57,28 @@ module _ (b : List ℕ) (old p : State) (s t : Source) (k : FilledAsNeeded b old
         stands = subst (StandsAfter new) (append_assoc b k.more.filled a.more.filled) a.more.stands;
         failures = a.more.failures ∙ k.more.failures;
       };
-      needed = record { before = k.more.filled; last = a.more.filled; whole = refl; size = a.size; unfinished = λ _. w.0 };
+      needed = record { before = k.more.filled; last = a.more.filled; whole = refl; size = a.size; unfinished = λ _. rw (← levels) w.0 };
     }
 
     -- the source gave nothing
-    module _ (new : State) (none : new.counts.came ≡ mid.counts.came) where
+    module _ (new : State) (kept : new.levels ≡ mid.levels) (none : new.counts.came ≡ mid.counts.came) where
       Failed-asked : Came t [] u → u.failures ≡ t.failures → FailedAfter new (b ++ k.more.filled) → Failed b k.more.filled old new s u
-      Failed-asked c f h = record { came = Came-none c; received = Received-no_more new (none ∙ same); needed = k.needed; failed = h; failures = f ∙ k.more.failures }
+      Failed-asked c f h = record { came = Came-none c; received = Received-no_more new (none ∙ same); needed = rw (kept ∙ levels) k.needed; failed = h; failures = f ∙ k.more.failures }
 
       pub CannotParse-asked : (e : RedisError) → CannotFill (b ++ k.more.filled) e new t u → CannotParse b e old new s u
-      CannotParse-asked e (CannotFill.early_end i c end f h) = CannotParse.early_end k.more.filled i w.0 (λ obs. end (observable obs)) (Failed-asked c f h)
+      CannotParse-asked e (CannotFill.early_end i c end f h) = CannotParse.early_end k.more.filled i (rw kept w.0) (λ obs. end (observable obs)) (Failed-asked c f h)
       CannotParse-asked e (CannotFill.source_failed kind i c f h) = CannotParse.source_failed kind i (record {
         filled = k.more.filled;
         came = Came-none c;
         received = Received-no_more new (none ∙ same);
-        unfinished = w.0;
+        unfinished = rw kept w.0;
         stands = h;
         failures = rw (← k.more.failures) f;
       })
       CannotParse-asked e (CannotFill.out_of_memory i c f h) = CannotParse.out_of_memory k.more.filled i (Failed-asked c f h)
 
-  pub CannotParse-failed : (new : State) (e : RedisError) → new.counts.came ≡ p.counts.came → e ≡ form.OutOfMemory → FailedAfter new (b ++ k.more.filled) → CannotParse b e old new s t
-  CannotParse-failed new e z i h = CannotParse.out_of_memory k.more.filled i (Failed-taken new z h)
+  pub CannotParse-failed : (new : State) (e : RedisError) → new.levels ≡ old.levels → new.counts.came ≡ p.counts.came → e ≡ form.OutOfMemory → FailedAfter new (b ++ k.more.filled) → CannotParse b e old new s t
+  CannotParse-failed new e d z i h = CannotParse.out_of_memory k.more.filled i (Failed-taken new d z h)
 
 -- a reader that was used up, as the source that counted its failures
 pub ParsesReader-source : {R : Type 0} (remaining : R → Option (List ℕ)) (b : List ℕ) (old new : State) (reader left : R) (n : ℕ) (s : Source) (r : Result Value RedisError) → s ≡ source_of (remaining reader) 0 →

@@ -21,24 +21,24 @@ use Rattle.resp_parse.proofs.OpenFrames.{keeps, closes}
 use Rattle.resp_parse.proofs.Sizes.{elements-small}
 
 -- what began as w inside gs has become v inside f and fs; the elements of f are then vs
-module _ (gs : List Frame) (w : Value) (now : List Frame) (v : Value) (same : (more : List ℕ) → place gs w more ≡ place now v more)
+module _ (d : ℕ) (gs : List Frame) (w : Value) (now : List Frame) (v : Value) (same : (more : List ℕ) → place d gs w more ≡ place d now v more)
     (f : Frame) (fs : List Frame) (now_is : now ≡ f ∷ fs) (vs : List Value) (vs_is : vs ≡ f.elements ++ (v ∷ [])) where
-  before : (more : List ℕ) → place gs w more ≡ place (f ∷ fs) v more
-  before more = same more ∙ ap (λ x. place x v more) now_is
+  before : (more : List ℕ) → place d gs w more ≡ place d (f ∷ fs) v more
+  before more = same more ∙ ap (λ x. place d x v more) now_is
 
   -- more elements are to come
-  pub settle-keeps : (m : Machine) (k : ℕ) → f.after ≡ suc k → m.frames ≡ record { kind = f.kind; after = k; elements = vs } ∷ fs → m.body ≡ None → Ends (place gs w) m (Ok None)
-  settle-keeps m k a e b = ((λ more. before more ∙ rw (e, b, vs_is) (keeps k f fs v more a)), rw (e, b) refl)
+  pub settle-keeps : (m : Machine) (k : ℕ) → f.after ≡ suc k → m.levels ≡ d → m.frames ≡ record { kind = f.kind; after = k; elements = vs } ∷ fs → m.body ≡ None → Ends (place d gs w) m (Ok None)
+  settle-keeps m k a l e b = ((λ more. before more ∙ rw (l, e, b, vs_is) (keeps d k f fs v more a)), rw (e, b) refl)
 
-  closed : f.after ≡ 0 → (more : List ℕ) → place gs w more ≡ then (made (elements_value f.kind vs) more) (place fs)
-  closed a more = before more ∙ closes f fs v more a ∙ ap (λ x. then (made (elements_value f.kind x) more) (place fs)) (sym vs_is)
+  closed : f.after ≡ 0 → (more : List ℕ) → place d gs w more ≡ then (made (elements_value f.kind vs) more) (place d fs)
+  closed a more = before more ∙ closes d f fs v more a ∙ ap (λ x. then (made (elements_value f.kind x) more) (place d fs)) (sym vs_is)
 
   -- all elements are there, and make a value
-  pub settle-closes : (u : Value) → f.after ≡ 0 → Computes (Ok u) (elements_value f.kind vs) → (more : List ℕ) → place gs w more ≡ place fs u more
+  pub settle-closes : (u : Value) → f.after ≡ 0 → Computes (Ok u) (elements_value f.kind vs) → (more : List ℕ) → place d gs w more ≡ place d fs u more
   settle-closes u a c more = closed a more ∙ rw c refl
 
   -- all elements are there, and make none
-  pub settle-refused : (m : Machine) (e : Stop) → f.after ≡ 0 → Computes (Err e) (elements_value f.kind vs) → Ends (place gs w) m (Err e)
+  pub settle-refused : (m : Machine) (e : Stop) → f.after ≡ 0 → Computes (Err e) (elements_value f.kind vs) → Ends (place d gs w) m (Err e)
   settle-refused m Memory a c = tt
   settle-refused m (Fault g) a c = λ more. closed a more ∙ rw c refl
 
@@ -71,19 +71,19 @@ module _ (now : List Frame) (f : Frame) (fs : List Frame) (now_is : now ≡ f �
   closes-credit = omega (arith, elements-more, credit-now)
 
 -- what an open frame that a value was put in has become
-module _ (gs : List Frame) (w : Value) (now : List Frame) (v : Value) (same : (more : List ℕ) → place gs w more ≡ place now v more) where
-  pub added-outermost : (m : Machine) (u : Value) → Adds {E = Unit {0}} now v m.frames (Ok (added.Outermost u)) → m.body ≡ None → Ends (place gs w) m (Ok (Some u))
+module _ (d : ℕ) (gs : List Frame) (w : Value) (now : List Frame) (v : Value) (same : (more : List ℕ) → place d gs w more ≡ place d now v more) where
+  pub added-outermost : (m : Machine) (u : Value) → Adds {E = Unit {0}} now v m.frames (Ok (added.Outermost u)) → m.body ≡ None → Ends (place d gs w) m (Ok (Some u))
   added-outermost m u a b = ((λ more. same more ∙ rw (a.0, a.2) refl), rw (b, a.1) refl)
 
-  pub added-kept : (m : Machine) → KeptIn now v m.frames → m.body ≡ None → Ends (place gs w) m (Ok None)
-  added-kept m a b = settle-keeps gs w now v same a.frame a.outer a.old_is (a.frame.elements ++ (v ∷ [])) refl m a.after a.after_is a.new_is b
+  pub added-kept : (m : Machine) → m.levels ≡ d → KeptIn now v m.frames → m.body ≡ None → Ends (place d gs w) m (Ok None)
+  added-kept m l a b = settle-keeps d gs w now v same a.frame a.outer a.old_is (a.frame.elements ++ (v ∷ [])) refl m a.after a.after_is l a.new_is b
 
   module _ (fs : List Frame) (kind : ElementsKind) (vs : List Value) (a : ClosedBy now v fs kind vs) where
-    pub added-closed : (u : Value) → Computes (Ok u) (elements_value kind vs) → (more : List ℕ) → place gs w more ≡ place fs u more
-    added-closed u c = settle-closes gs w now v same a.frame fs a.old_is vs a.elements_are u a.last (rw (← a.kind_is) c)
+    pub added-closed : (u : Value) → Computes (Ok u) (elements_value kind vs) → (more : List ℕ) → place d gs w more ≡ place d fs u more
+    added-closed u c = settle-closes d gs w now v same a.frame fs a.old_is vs a.elements_are u a.last (rw (← a.kind_is) c)
 
-    pub added-refused : (m : Machine) (e : Stop) → Computes (Err e) (elements_value kind vs) → Ends (place gs w) m (Err e)
-    added-refused m e c = settle-refused gs w now v same a.frame fs a.old_is vs a.elements_are m e a.last (subst (λ (k : ElementsKind). Computes (Err e) (elements_value k vs)) a.kind_is c)
+    pub added-refused : (m : Machine) (e : Stop) → Computes (Err e) (elements_value kind vs) → Ends (place d gs w) m (Err e)
+    added-refused m e c = settle-refused d gs w now v same a.frame fs a.old_is vs a.elements_are m e a.last (subst (λ (k : ElementsKind). Computes (Err e) (elements_value k vs)) a.kind_is c)
 
     pub closed-weight : (u : Value) → Computes (Ok u) (elements_value kind vs) → frames_weight fs + 3 * built u ≤ frames_weight now + 3 * built v
     closed-weight u c = closes-weight now a.frame fs a.old_is v vs a.elements_are u (rw (← a.kind_is) c)

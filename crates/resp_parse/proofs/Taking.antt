@@ -22,7 +22,7 @@ use Rattle.resp_parse.proofs.ParserStates.{IsBetweenValues-from_same, StandsAfte
 
 -- the machine was in these unparsed bytes, and is now `new`
 module _ (buffer since : List ℕ) (consumed : ℕ) (failed : Bool) (m new : Machine) (within : consumed ≤ length buffer) (h : Holds m (drop consumed buffer) since failed) (w : failed ≡ false)
-    (u : List ℕ) (u_is : u ≡ drop consumed buffer) where
+    (u : List ℕ) (u_is : u ≡ drop consumed buffer) (same : new.levels ≡ m.levels) where
   resumes : Resumes m u since
   resumes = subst (λ x. Resumes m x since) (sym u_is) (h.resumes w)
 
@@ -38,13 +38,13 @@ module _ (buffer since : List ℕ) (consumed : ℕ) (failed : Bool) (m new : Mac
     waits-fits = fits n d.within
 
     pub waits-holds : weight new ≤ weight m + n → Holds new (drop (consumed + n) buffer) since failed
-    waits-holds k = subst (λ x. Holds new x since failed) (dropped n) (Holds-working new (drop n u) since failed (Resumes-waits m new u since resumes n d k))
+    waits-holds k = subst (λ x. Holds new x since failed) (dropped n) (Holds-working new (drop n u) since failed (Resumes-waits m new u since resumes n d same k))
 
     pub waits-counted : (c t e : Tally) → Counted m (drop consumed buffer) c failed → t ≡ record c { calls = c.calls + 1 } → DrivePays m new u t e (Ok (n, None)) → Counted new (drop (consumed + n) buffer) e failed
     waits-counted c t e k i p = subst (λ x. Counted new x e failed) (dropped n) (Counted-taken m new u c t e failed n None d.within (scanned-within new.body new.scanned (drop n u) d.scanned) (subst (λ x. Counted m x c failed) (sym u_is) k) w i p)
 
-    pub waits-takes : (s : State) → s.failed ≡ failed → s.since ≡ since → (b : List ℕ) → b ≡ since → Takes b s (Ok None)
-    waits-takes s f k b e = (subst (IsUnfinished 100) (sym e) (unfinished-from_waits m new u since resumes n d), StandsAfter-from_since s b (f ∙ w) (e ∙ sym k))
+    pub waits-takes : (s : State) → s.levels ≡ new.levels → s.failed ≡ failed → s.since ≡ since → (b : List ℕ) → b ≡ since → Takes b s (Ok None)
+    waits-takes s l f k b e = (rw (l ∙ same) (subst (IsUnfinished m.levels) (sym e) (unfinished-from_waits m new u since resumes n d)), StandsAfter-from_since s b (f ∙ w) (e ∙ sym k))
 
   -- a value was read
   module _ (n : ℕ) (v : Value) (d : Drives m u new (Ok (n, Some v))) (now : List ℕ) (now_is : now ≡ drop (consumed + n) buffer) where
@@ -57,9 +57,9 @@ module _ (buffer since : List ℕ) (consumed : ℕ) (failed : Bool) (m new : Mac
     pub value-counted : (c t e : Tally) → Counted m (drop consumed buffer) c failed → t ≡ record c { calls = c.calls + 1 } → DrivePays m new u t e (Ok (n, Some v)) → Counted new (drop (consumed + n) buffer) e failed
     value-counted c t e k i p = subst (λ x. Counted new x e failed) (dropped n) (Counted-taken m new u c t e failed n (Some v) d.within (omega (arith, d.scanned)) (subst (λ x. Counted m x c failed) (sym u_is) k) w i p)
 
-    pub value-takes : (s : State) → s.failed ≡ failed → s.since ≡ now → s.unparsed ≡ drop (consumed + n) buffer → (b : List ℕ) → b ≡ since → Takes b s (Ok (Some v))
-    value-takes s f k x b e = (
-      subst (λ r. HasGoodPrefix 100 b v r) (sym x) (subst (λ y. HasGoodPrefix 100 y v (drop (consumed + n) buffer)) (sym e) (subst (λ r. HasGoodPrefix 100 since v r) (dropped n) (good-from_reads m new u since resumes n v d))),
+    pub value-takes : (s : State) → s.levels ≡ new.levels → s.failed ≡ failed → s.since ≡ now → s.unparsed ≡ drop (consumed + n) buffer → (b : List ℕ) → b ≡ since → Takes b s (Ok (Some v))
+    value-takes s l f k x b e = (
+      rw (l ∙ same) (subst (λ r. HasGoodPrefix m.levels b v r) (sym x) (subst (λ y. HasGoodPrefix m.levels y v (drop (consumed + n) buffer)) (sym e) (subst (λ r. HasGoodPrefix m.levels since v r) (dropped n) (good-from_reads m new u since resumes n v d)))),
       IsBetweenValues-from_same s (f ∙ w) (k ∙ now_is ∙ sym x),
     )
 
@@ -79,8 +79,8 @@ module _ (buffer since : List ℕ) (consumed : ℕ) (failed : Bool) (m new : Mac
   pub stops-counted : (x : Stop) (c t e : Tally) → Counted m (drop consumed buffer) c failed → t ≡ record c { calls = c.calls + 1 } → DrivePays m new u t e (Err x) → Counted new (drop consumed buffer) e true
   stops-counted x c t e k i p = Counted-stopped m new u c t e failed x (subst (λ y. Counted m y c failed) (sym u_is) k) w i p (drop consumed buffer)
 
-  pub stops-fault : (s : State) → s.failed ≡ true → s.since ≡ since → (f : FrameFault) → Drives m u new (Err (stop.Fault f)) → (b : List ℕ) → b ≡ since → Takes b s (Err (form.Parse (parsing.Fault f)))
-  stops-fault s k y f d b e = (CannotTake.faulty f refl (subst (λ x. HasFaultyPrefix 100 x f) (sym e) (faulty-from_drives m new u since resumes f d)), FailedAfter-from_since s b k (e ∙ sym y))
+  pub stops-fault : (s : State) → s.levels ≡ new.levels → s.failed ≡ true → s.since ≡ since → (f : FrameFault) → Drives m u new (Err (stop.Fault f)) → (b : List ℕ) → b ≡ since → Takes b s (Err (form.Parse (parsing.Fault f)))
+  stops-fault s l k y f d b e = (CannotTake.faulty f refl (rw (l ∙ same) (subst (λ x. HasFaultyPrefix m.levels x f) (sym e) (faulty-from_drives m new u since resumes f d))), FailedAfter-from_since s b k (e ∙ sym y))
 
   pub stops-memory : (s : State) → s.failed ≡ true → s.since ≡ since → (b : List ℕ) → b ≡ since → Takes b s (Err form.OutOfMemory)
   stops-memory s k y b e = (CannotTake.out_of_memory refl, FailedAfter-from_since s b k (e ∙ sym y))

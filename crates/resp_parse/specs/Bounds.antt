@@ -18,14 +18,14 @@ pub record WorksWithin (s : State) : Type 0 where
 
 -- the turns are at most four for three bytes that were looked at and one for each call: where only
 -- lines came, too few to look at each byte twice; of these, the looks at a byte of a line are at most
--- as many as the bytes looked at; at most 100 frames are open. Only turns that the code counts are
--- seen here: none is counted for copying bytes, or for making a value of a line or a body that is
--- all there
+-- as many as the bytes looked at; at most as many frames are open as
+-- levels are read. Only turns that the code counts are seen here: none is counted for copying
+-- bytes, or for making a value of a line or a body that is all there
 pub record Bounded (s : State) : Type 0 where
   pub turns : 3 * s.counts.turns ≤ 4 * s.counts.taken + 3 * s.counts.calls
   pub looks : s.counts.looks ≤ s.counts.taken
   pub taken : s.counts.taken ≤ s.counts.came
-  pub frames : s.frames ≤ 100
+  pub frames : s.frames ≤ s.levels
   pub works : s.failed ≡ false → WorksWithin s
 
 -- n bytes were fed by one call

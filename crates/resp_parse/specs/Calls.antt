@@ -21,17 +21,17 @@ Feeds b bytes old new (Err e) = (e ≡ form.OutOfMemory) × (new ≡ old)
 
 -- Taking a value.
 
--- why no value can be taken, now or later
-pub data CannotTake (b : List ℕ) (e : RedisError) : Type 0 where
-  faulty : (f : FrameFault) → e ≡ form.Parse (parsing.Fault f) → HasFaultyPrefix 100 b f →
-      CannotTake b e
-  out_of_memory : e ≡ form.OutOfMemory → CannotTake b e
+-- why no value can be taken, now or later, where values are read down to d levels
+pub data CannotTake (d : ℕ) (b : List ℕ) (e : RedisError) : Type 0 where
+  faulty : (f : FrameFault) → e ≡ form.Parse (parsing.Fault f) → HasFaultyPrefix d b f →
+      CannotTake d b e
+  out_of_memory : e ≡ form.OutOfMemory → CannotTake d b e
 
 -- the value at the start was taken; or it is unfinished; or the parser has failed
 abbrev pub Takes : List ℕ → State → Result (Option Value) RedisError → Type 0
-Takes b new (Ok (Some v)) = HasGoodPrefix 100 b v new.unparsed × IsBetweenValues new
-Takes b new (Ok None) = IsUnfinished 100 b × StandsAfter new b
-Takes b new (Err e) = CannotTake b e × FailedAfter new b
+Takes b new (Ok (Some v)) = HasGoodPrefix new.levels b v new.unparsed × IsBetweenValues new
+Takes b new (Ok None) = IsUnfinished new.levels b × StandsAfter new b
+Takes b new (Err e) = CannotTake new.levels b e × FailedAfter new b
 
 -- Asking a source once.
 
@@ -70,13 +70,13 @@ Asks b old new s t (Err e) = CannotFill b e new s t
 -- Parsing: a source is asked as often as a value needs.
 
 -- bytes were filled only while there were too few: before the last of them, up to 4,096, they were
--- unfinished
-pub record AsNeeded (b filled : List ℕ) : Type 0 where
+-- unfinished, where values are read down to d levels
+pub record AsNeeded (d : ℕ) (b filled : List ℕ) : Type 0 where
   pub before : List ℕ
   pub last : List ℕ
   pub whole : filled ≡ before ++ last
   pub size : length last ≤ 4096
-  pub unfinished : last ≢ [] → IsUnfinished 100 (b ++ before)
+  pub unfinished : last ≢ [] → IsUnfinished d (b ++ before)
 
 -- the value at the start of b and what was filled, in at most 2^63 - 1 bytes: all that follows it
 -- is buffered; the source counted no failure
@@ -84,8 +84,8 @@ pub record Parsed (b : List ℕ) (v : Value) (old new : State) (s t : Source) : 
   pub filled : List ℕ
   pub came : Came s filled t
   pub received : Received filled old new
-  pub needed : AsNeeded b filled
-  pub value : HasGoodPrefix 100 (b ++ filled) v new.unparsed
+  pub needed : AsNeeded new.levels b filled
+  pub value : HasGoodPrefix new.levels (b ++ filled) v new.unparsed
   pub spelled : SpelledWithin (b ++ filled) new.unparsed
   pub rest : IsBetweenValues new
   pub failures : t.failures ≡ s.failures
@@ -94,7 +94,7 @@ pub record Parsed (b : List ℕ) (v : Value) (old new : State) (s t : Source) : 
 pub record Failed (b filled : List ℕ) (old new : State) (s t : Source) : Type 0 where
   pub came : Came s filled t
   pub received : Received filled old new
-  pub needed : AsNeeded b filled
+  pub needed : AsNeeded new.levels b filled
   pub failed : FailedAfter new (b ++ filled)
   pub failures : t.failures ≡ s.failures
 
@@ -103,7 +103,7 @@ pub record StandsMidway (b : List ℕ) (old new : State) (s t : Source) : Type 0
   pub filled : List ℕ
   pub came : Came s filled t
   pub received : Received filled old new
-  pub unfinished : IsUnfinished 100 (b ++ filled)
+  pub unfinished : IsUnfinished new.levels (b ++ filled)
   pub stands : StandsAfter new (b ++ filled)
   pub failures : FailureCounted s.failures t.failures
 
@@ -111,11 +111,11 @@ pub record StandsMidway (b : List ℕ) (old new : State) (s t : Source) : Type 0
 -- value; its failure; out of memory
 pub data CannotParse (b : List ℕ) (e : RedisError) (old new : State) (s t : Source) : Type 0 where
   faulty : (f : FrameFault) (filled : List ℕ) → e ≡ form.Parse (parsing.Fault f) →
-      HasFaultyPrefix 100 (b ++ filled) f → Failed b filled old new s t →
+      HasFaultyPrefix new.levels (b ++ filled) f → Failed b filled old new s t →
       CannotParse b e old new s t
-  early_end : (filled : List ℕ) → e ≡ form.Io UnexpectedEof → IsUnfinished 100 (b ++ filled) →
-      (s.observable ≡ true → t.bytes ≡ []) → Failed b filled old new s t →
-      CannotParse b e old new s t
+  early_end : (filled : List ℕ) → e ≡ form.Io UnexpectedEof →
+      IsUnfinished new.levels (b ++ filled) → (s.observable ≡ true → t.bytes ≡ []) →
+      Failed b filled old new s t → CannotParse b e old new s t
   source_failed : (kind : IoKind) → e ≡ form.Io kind → StandsMidway b old new s t →
       CannotParse b e old new s t
   out_of_memory : (filled : List ℕ) → e ≡ form.OutOfMemory → Failed b filled old new s t →

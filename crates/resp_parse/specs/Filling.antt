@@ -14,6 +14,7 @@ lacks_of (Some b) = b.missing
 -- the bytes were taken into the open body, in one turn at most
 pub record Filled (old : Machine) (bytes : List ℕ) (new : Machine) (c d : Tally) : Type 0 where
   pub same : (more : List ℕ) → resume old (bytes ++ more) ≡ resume new more
+  pub levels : new.levels ≡ old.levels
   pub frames : new.frames ≡ old.frames
   pub looked : new.scanned ≡ old.scanned
   pub fresh : fresh_of new.body new.frames ≡ fresh_of old.body old.frames

@@ -7,11 +7,12 @@ use Rattle.resp_parse.specs.Weights.{weight, credit}
 use Rattle.resp_parse.specs.PlainReading.{read}
 use Rattle.resp_parse.specs.Resume.{resume, fresh_of, IsScanned}
 use Rattle.resp_parse.specs.Prefixes.{FaultShownBy}
+use Rattle.resp_parse.specs.State.{IsDepthLimit}
 
 -- what reads on in the unparsed bytes reads on in the bytes since the last value
 pub record Resumes (m : Machine) (unparsed since : List ℕ) : Type 0 where
   pub scanned : IsScanned m.body m.scanned unparsed
-  pub reads : (more : List ℕ) → read 100 (since ++ more) ≡ resume m (unparsed ++ more)
+  pub reads : (more : List ℕ) → read m.levels (since ++ more) ≡ resume m (unparsed ++ more)
   pub fresh : fresh_of m.body m.frames ≡ true → since ≡ unparsed
   pub begun : fresh_of m.body m.frames ≡ false → length unparsed < length since
   pub weighs : weight m + length unparsed ≤ length since
@@ -45,16 +46,18 @@ pub record Spelled (m : Machine) (unparsed since : List ℕ) (count : ℕ) : Typ
   pub counted : count + length unparsed ≡ length since
   pub few : count + m.scanned < 2 ^ 63
 
--- where a fault was met, bytes since the last value show it; a parser that works has met none
-pub record Placed (offset : Option ℕ) (since : List ℕ) (failed : Bool) : Type 0 where
+-- where a fault was met, bytes since the last value show it, where values are read down to d levels;
+-- a parser that works has met none
+pub record Placed (d : ℕ) (offset : Option ℕ) (since : List ℕ) (failed : Bool) : Type 0 where
   pub works : failed ≡ false → offset ≡ None
-  pub shows : IfSome offset (FaultShownBy 100 since)
+  pub shows : IfSome offset (FaultShownBy d since)
 
 pub record Kept (p : Inside) : Type 0 where
   pub consumed : p.consumed ≤ length p.buffer.items
-  pub levels : length p.machine.frames ≤ 100
+  pub limit : IsDepthLimit p.machine.levels
+  pub levels : length p.machine.frames ≤ p.machine.levels
   pub holds : Holds p.machine (drop p.consumed p.buffer.items) p.since p.failed
   pub counted : Counted p.machine (drop p.consumed p.buffer.items) p.counts p.failed
   pub spelled : p.failed ≡ false →
       Spelled p.machine (drop p.consumed p.buffer.items) p.since p.spelled
-  pub placed : Placed p.fault_offset p.since p.failed
+  pub placed : Placed p.machine.levels p.fault_offset p.since p.failed

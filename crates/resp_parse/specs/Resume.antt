@@ -1,6 +1,6 @@
 -- What reading gives from where a machine stands, if these bytes come next; and how a machine gets
 -- from one place to another.
-use Rattle.std.specs.Prelude.{◌≡◌, ℕ, ◌+◌, ◌-◌, ◌<◌, ◌≤◌, Bool, true, false, List, [], ◌∷◌, ◌++◌, length, take, drop, min, Option, None, Some, Result, Ok, Err}
+use Rattle.std.specs.Prelude.{◌≡◌, ℕ, suc, ◌+◌, ◌-◌, ◌<◌, ◌≤◌, Bool, true, false, List, [], ◌∷◌, ◌++◌, length, take, drop, min, Option, None, Some, Result, Ok, Err}
 use Rattle.resp_value.specs.declared.value.Value.{Value}
 use Rattle.resp_errors.specs.declared.kinds.FrameFault.TheVariants.{BodyEnd}
 use Rattle.resp_parse.specs.declared.stop.Stop.{Stop}
@@ -14,16 +14,20 @@ use Rattle.resp_parse.specs.Lines.{NoneBefore, Scanned}
 use Rattle.resp_parse.specs.Shapes.{body_value, elements_value}
 use Rattle.resp_parse.specs.PlainReading.{ReadOutcome, got, fault, unfinished, then, line, end_of_body, read_body, read_elements, made, read}
 
--- how many levels are left inside these frames
-abbrev pub levels_left : List Frame → ℕ
-levels_left frames = 100 - length frames
+-- how many of d levels are left inside these frames
+abbrev pub levels_left : ℕ → List Frame → ℕ
+levels_left d frames = d - length frames
 
--- a value is whole inside these frames, the innermost first
-abbrev pub place : List Frame → Value → List ℕ → ReadOutcome Value
-place [] v rest = got v rest
-place (f ∷ fs) v rest =
-    then (read_elements (read (levels_left (f ∷ fs))) f.after rest)
-    (λ vs after. then (made (elements_value f.kind (f.elements ++ (v ∷ vs))) after) (place fs))
+-- how many are left inside one frame more
+abbrev pub levels_below : ℕ → List Frame → ℕ
+levels_below d frames = d - suc (length frames)
+
+-- where values are read down to d levels, a value is whole inside these frames, the innermost first
+abbrev pub place : ℕ → List Frame → Value → List ℕ → ReadOutcome Value
+place d [] v rest = got v rest
+place d (f ∷ fs) v rest =
+    then (read_elements (read (levels_below d fs)) f.after rest)
+    (λ vs after. then (made (elements_value f.kind (f.elements ++ (v ∷ vs))) after) (place d fs))
 
 -- the value in progress, where d levels are left
 abbrev pub value_of : ℕ → Option Body → List ℕ → ReadOutcome Value
@@ -32,7 +36,8 @@ value_of d (Some b) more =
     then (read_body b.missing more) (λ x rest. made (body_value b.kind (b.bytes ++ x)) rest)
 
 abbrev pub resume : Machine → List ℕ → ReadOutcome Value
-resume m more = then (value_of (levels_left m.frames) m.body more) (place m.frames)
+resume m more =
+    then (value_of (levels_left m.levels m.frames) m.body more) (place m.levels m.frames)
 
 -- no body and no frame is open
 abbrev pub fresh_of : Option Body → List Frame → Bool
@@ -66,7 +71,7 @@ abbrev pub Goes : (List ℕ → ReadOutcome Value) → Machine → Result (Optio
 Goes before new (Ok None) =
     ((more : List ℕ) → before more ≡ resume new more) × (fresh_of new.body new.frames ≡ false)
 Goes before new (Ok (Some v)) =
-    ((more : List ℕ) → before more ≡ place new.frames v more) × (new.body ≡ None)
+    ((more : List ℕ) → before more ≡ place new.levels new.frames v more) × (new.body ≡ None)
 Goes before new (Err e) = FaultsAtOnce before e
 
 -- the same, with Some where the outermost value is whole
@@ -120,7 +125,7 @@ Steps old bytes new (Ok (step.Waits n)) = Waits old bytes new n
 Steps old bytes new (Ok (step.Goes n)) =
     Takes old bytes new (resume new) n × (fresh_of new.body new.frames ≡ false)
 Steps old bytes new (Ok (step.Whole n v)) =
-    Takes old bytes new (place new.frames v) n × (new.body ≡ None)
+    Takes old bytes new (place new.levels new.frames v) n × (new.body ≡ None)
 Steps old bytes new (Err e) = FaultsWithin (resume old) bytes new.shown e
 
 -- a value was read, and n bytes taken

@@ -1,6 +1,6 @@
 //! The aggregates whose headers were read and whose elements aren't all there.
 
-ghost use Rattle.std.specs.Prelude.{◌≡◌, ◌∷◌, ◌<◌, ◌≤◌, [], length, OnOk};
+ghost use Rattle.std.specs.Prelude.{◌≡◌, ◌∷◌, ◌≤◌, ◌+◌, [], length, OnOk};
 ghost use Rattle.resp_parse.specs.OpenFrames.{Adds, ClosesInnermost};
 
 use crate::shape::ElementsKind;
@@ -85,9 +85,8 @@ impl Frames {
 
     /// Opens a frame inside the others.
     pub(crate) fn push(&mut self, frame: Frame) -> Result<(), AllocError>
-        requires room { length self.old < 100 }
         ensures ok { OnOk result (self.new ≡ frame ∷ self.old) }
-        ensures most { length self.new ≤ 100 }
+        ensures most { length self.new ≤ length self.old + 1 }
     {
         let Frame {
             kind,

@@ -1,13 +1,13 @@
 //! The reading of a value, which stops where the bytes end and goes on from there.
 
-ghost use Rattle.std.specs.Prelude.{◌≡◌, ◌<◌, ◌≤◌, ◌+◌, ◌-◌, ◌*◌, [], length, true, IfOk};
+ghost use Rattle.std.specs.Prelude.{◌≡◌, ◌<◌, ◌≤◌, ◌+◌, ◌*◌, [], length, true, IfOk};
 ghost use Rattle.resp_parse.specs.declared.stop.Stop.{Stop};
 ghost use Rattle.std.specs.Prelude.{None};
 ghost use Rattle.resp_parse.specs.PlainReading.{then, read_announced, read};
 ghost use Rattle.resp_parse.specs.Shapes.{announced_in_line, body_value};
 ghost use Rattle.resp_parse.specs.Computes.{Computes};
 ghost use Rattle.resp_parse.specs.Resume.{place, resume, fresh_of, IsScanned, Goes, Ends, Steps};
-ghost use Rattle.resp_parse.specs.Resume.{Drives, FillsBody};
+ghost use Rattle.resp_parse.specs.Resume.{Drives, FillsBody, levels_below};
 ghost use Rattle.resp_parse.specs.Filling.{lacks_of, Fills};
 ghost use Rattle.resp_parse.specs.Built.{built};
 ghost use Rattle.resp_parse.specs.Weights.{weight, Weighs, StepWeighs, DriveWeighs, Places, Begins};
@@ -22,9 +22,6 @@ use crate::type_byte::TypeByte;
 use resp_value::{FrameFault, Items, Value};
 use std::alloc::{AllocError, Global};
 use std::mem;
-
-/// How many levels of values inside values are read.
-const LEVELS: usize = 100;
 
 /// A body whose bytes and CR LF aren't all there.
 #[derive(Drop)]
@@ -84,6 +81,8 @@ pub(crate) enum Step {
 /// What was read of a value that isn't whole.
 #[derive(Drop)]
 pub(crate) struct Machine {
+    /// How many levels of values inside values are read.
+    pub(crate) levels: usize,
     pub(crate) frames: Frames,
     pub(crate) body: Option<Body>,
     /// How many bytes of the line in progress were looked at; they hold no CR LF.
@@ -94,11 +93,13 @@ pub(crate) struct Machine {
 
 impl Machine {
     /// Nothing was read. Takes no memory.
-    pub(crate) fn new(alloc: Global) -> Machine
+    pub(crate) fn new(alloc: Global, levels: usize) -> Machine
+        ensures limit { result.levels ≡ levels }
         ensures fresh { fresh_of result.body result.frames ≡ true }
         ensures scanned { result.scanned ≡ 0 }
     {
         Machine {
+            levels,
             frames: Frames::new(alloc),
             body: None,
             scanned: 0,
@@ -133,10 +134,13 @@ impl Machine {
         counts: &mut Counts,
     ) -> Result<Option<Value>, Stop>
         requires no_body { self.old.body ≡ None }
-        requires level { length self.old.frames < 100 }
-        ensures goes { Goes (λ more. then (read_announced (read (99 - length self.old.frames))
-            (announced_in_line kind line.now) more) (place self.old.frames)) self.new result }
-        ensures levels { length self.new.frames ≤ 100 }
+        requires level { length self.old.frames < self.old.levels }
+        ensures goes { Goes (λ more. then (read_announced
+            (read (levels_below self.old.levels self.old.frames))
+            (announced_in_line kind line.now) more)
+            (place self.old.levels self.old.frames)) self.new result }
+        ensures limit { self.new.levels ≡ self.old.levels }
+        ensures levels { length self.new.frames ≤ self.new.levels }
         ensures scanned { self.new.scanned ≡ self.old.scanned }
         ensures weighs { Weighs self.new (3 + weight self.old) result }
         ensures begins { Begins self.old self.new counts.old counts.new result }
@@ -167,17 +171,18 @@ impl Machine {
     /// Reads the header at the start of the bytes.
     fn header(&mut self, alloc: Global, bytes: &[u8], counts: &mut Counts) -> Result<Step, Stop>
         requires no_body { self.old.body ≡ None }
-        requires levels { length self.old.frames ≤ 100 }
+        requires levels { length self.old.frames ≤ self.old.levels }
         requires scanned { IsScanned self.old.body self.old.scanned bytes.now }
         ensures steps { Steps self.old bytes.now self.new result }
-        ensures levels { length self.new.frames ≤ 100 }
+        ensures limit { self.new.levels ≡ self.old.levels }
+        ensures levels { length self.new.frames ≤ self.new.levels }
         ensures weighs { StepWeighs self.old self.new result }
         ensures pays { HeaderPays self.old self.new bytes.now counts.old counts.new result }
     {
         let Some((first, after)) = bytes.split_first() else {
             return Ok(Step::Waits(0));
         };
-        if self.frames.len() == LEVELS {
+        if self.frames.len() == self.levels {
             return Err(self.stop(Stop::Fault(FrameFault::TooDeep), 1));
         }
         let Some(kind) = TypeByte::from_byte(*first) else {
@@ -200,10 +205,11 @@ impl Machine {
 
     /// Takes a header, or goes on in a body.
     fn step(&mut self, alloc: Global, bytes: &[u8], counts: &mut Counts) -> Result<Step, Stop>
-        requires levels { length self.old.frames ≤ 100 }
+        requires levels { length self.old.frames ≤ self.old.levels }
         requires scanned { IsScanned self.old.body self.old.scanned bytes.now }
         ensures steps { Steps self.old bytes.now self.new result }
-        ensures levels { length self.new.frames ≤ 100 }
+        ensures limit { self.new.levels ≡ self.old.levels }
+        ensures levels { length self.new.frames ≤ self.new.levels }
         ensures weighs { StepWeighs self.old self.new result }
         ensures pays { StepPays self.old self.new bytes.now counts.old counts.new result }
     {
@@ -262,9 +268,10 @@ impl Machine {
         counts: &mut Counts,
     ) -> Result<Option<Value>, Stop>
         requires no_body { self.old.body ≡ None }
-        requires levels { length self.old.frames ≤ 100 }
-        ensures ends { Ends (place self.old.frames value) self.new result }
-        ensures levels { length self.new.frames ≤ 100 }
+        requires levels { length self.old.frames ≤ self.old.levels }
+        ensures ends { Ends (place self.old.levels self.old.frames value) self.new result }
+        ensures limit { self.new.levels ≡ self.old.levels }
+        ensures levels { length self.new.frames ≤ self.new.levels }
         ensures scanned { self.new.scanned ≡ self.old.scanned }
         ensures weighs { Weighs self.new (weight self.old + 3 * built value) result }
         ensures places { Places self.old self.new counts.old counts.new result }
@@ -288,10 +295,11 @@ impl Machine {
         bytes: &[u8],
         counts: &mut Counts,
     ) -> Result<(usize, Option<Value>), Stop>
-        requires levels { length self.old.frames ≤ 100 }
+        requires levels { length self.old.frames ≤ self.old.levels }
         requires scanned { IsScanned self.old.body self.old.scanned bytes.now }
         ensures drives { Drives self.old bytes.now self.new result }
-        ensures levels { length self.new.frames ≤ 100 }
+        ensures limit { self.new.levels ≡ self.old.levels }
+        ensures levels { length self.new.frames ≤ self.new.levels }
         ensures weighs { DriveWeighs self.old self.new result }
         ensures pays { DrivePays self.old self.new bytes.now counts.old counts.new result }
     {

@@ -1,9 +1,9 @@
 //! A parser of bytes that come in pieces.
 
 ghost use Rattle.std.specs.Prelude.{◌≡◌, ◌≢◌, ◌↔◌, ◌++◌, ◌⊎◌, [], true, false, Err, List, ℕ};
-ghost use Rattle.std.specs.Prelude.{length, IsTrue, OnOk, IfSome, None};
+ghost use Rattle.std.specs.Prelude.{length, IsTrue, IfErr, IfOk, IsOk, OnOk, IfSome, None};
 ghost use Rattle.resp_parse.specs.State.{StandsAfter, FailedAfter, IsBetweenValues, has_failed};
-ghost use Rattle.resp_parse.specs.State.{KeepsFaultOffset};
+ghost use Rattle.resp_parse.specs.State.{KeepsFaultOffset, IsDepthLimit, limit_refused};
 ghost use Rattle.resp_parse.specs.Prefixes.{SpelledWithin, FaultShownBy};
 ghost use Rattle.resp_parse.specs.Calls.{Feeds, Takes, Asks, Parses, ParsesReader};
 ghost use Rattle.resp_parse.specs.Bounds.{Bounded, FedBy, OneCall, CallsWithin, AskedFor};
@@ -15,10 +15,16 @@ use crate::reading::Reading;
 use crate::since::Since;
 use crate::source::ReplySource;
 use crate::stop::Stop;
-use resp_value::{IoKind, ParsingError, RedisError, RedisResult, Value};
+use resp_value::{ErrorKind, IoKind, ParsingError, RedisError, RedisResult, Value};
 use std::alloc::Global;
 use std::io::Read;
 use std::marker::Model;
+
+/// The depth limit where none is chosen: how many levels of values inside values are read.
+pub(crate) const LEVELS: usize = 100;
+
+/// The greatest depth limit.
+const MOST_LEVELS: usize = 1000;
 
 /// How many bytes a source is asked for at most.
 const CHUNK: usize = 4096;
@@ -33,9 +39,14 @@ const LONGEST: usize = isize::MAX as usize;
 /// how the bytes are cut: the values are those of the pieces joined.
 ///
 /// Nor does it matter for the work: the parser goes on where it stopped. Its loops make at most
-/// four turns for three bytes that it has looked at and one for each call, at most 100 aggregates
-/// are open, and of the value in progress it has built at most one value for each three bytes
-/// looked at, whatever lengths are announced. Contracts see these numbers in its state.
+/// four turns for three bytes that it has looked at and one for each call, at most as many
+/// aggregates are open as levels are read, and of the value in progress it has built at most one
+/// value for each three bytes looked at, whatever lengths are announced. Contracts see these
+/// numbers in its state.
+///
+/// Values are read down to the depth limit, the outermost being the first level: 100 levels, or as
+/// many as [`Parser::with_depth_limit`] was given. No call changes it. A value with more levels is
+/// refused as [`FrameFault::TooDeep`](resp_value::FrameFault).
 ///
 /// A value may be spelled by 2^63 - 1 bytes. One byte more is refused as `OutOfMemory` when it is
 /// looked at, and not where a length is announced.
@@ -66,6 +77,7 @@ impl Model for Parser {
     ghost Value = { State };
 
     ghost view = { λ p. record {
+      levels = p.machine.levels;
       unparsed = drop p.consumed p.buffer.items;
       looked = p.machine.scanned;
       since = p.since;
@@ -80,8 +92,44 @@ impl Model for Parser {
 }
 
 impl Parser {
-    /// A parser that holds no bytes. Takes no memory.
+    /// A parser that holds no bytes, with a depth limit of 100 levels. Takes no memory.
     pub fn new(alloc: Global) -> Parser
+        ensures limit { result.levels ≡ 100 }
+        ensures rest { IsBetweenValues result }
+        ensures empty { result.unparsed ≡ [] }
+        ensures bounds { Bounded result }
+        ensures counts { result.counts ≡ nothing_done }
+    {
+        Parser::within(alloc, LEVELS)
+    }
+
+    /// A parser that holds no bytes and reads values down to `limit` levels, from 1 to 1,000. Takes
+    /// no memory.
+    ///
+    /// Another limit is refused with kind [`ErrorKind::InvalidClientConfig`] and the text
+    /// `depth limit must be 1 to 1000`.
+    pub fn with_depth_limit(alloc: Global, limit: usize) -> RedisResult<Parser>
+        ensures accepts { IsOk result ↔ IsDepthLimit limit }
+        ensures limit { IfOk result (λ parser. parser.levels ≡ limit) }
+        ensures rest { IfOk result IsBetweenValues }
+        ensures empty { IfOk result (λ parser. parser.unparsed ≡ []) }
+        ensures bounds { IfOk result Bounded }
+        ensures counts { IfOk result (λ parser. parser.counts ≡ nothing_done) }
+        ensures error { IfErr result (λ e. e ≡ limit_refused) }
+    {
+        if limit == 0 || limit > MOST_LEVELS {
+            return Err(RedisError::from((
+                ErrorKind::InvalidClientConfig,
+                "depth limit must be 1 to 1000",
+            )));
+        }
+        Ok(Parser::within(alloc, limit))
+    }
+
+    /// A parser that holds no bytes, with this depth limit.
+    fn within(alloc: Global, levels: usize) -> Parser
+        requires limit { IsDepthLimit levels }
+        ensures limit { result.levels ≡ levels }
         ensures rest { IsBetweenValues result }
         ensures empty { result.unparsed ≡ [] }
         ensures bounds { Bounded result }
@@ -91,12 +139,21 @@ impl Parser {
             buffer: Vec::new(alloc),
             consumed: 0,
             spelled: 0,
-            machine: Machine::new(alloc),
+            machine: Machine::new(alloc, levels),
             failed: false,
             fault_offset: None,
             since: Since::new(),
             counts: Counts::new(),
         }
+    }
+
+    /// How many levels of values inside values are read, the outermost being the first; from 1 to
+    /// 1,000.
+    pub fn depth_limit(&self) -> usize
+        ensures limit { result ≡ self.now.levels }
+        ensures within { IsDepthLimit result }
+    {
+        self.machine.levels
     }
 
     /// Adds bytes after those that were fed before. On `OutOfMemory` the parser stays as
@@ -107,6 +164,7 @@ impl Parser {
         ensures feeds { (b : List ℕ) → StandsAfter self.old b →
             Feeds b bytes.now self.old self.new result }
         ensures rest { OnOk result (IsBetweenValues self.old → IsBetweenValues self.new) }
+        ensures limit { self.new.levels ≡ self.old.levels }
         ensures bounds { Bounded self.new }
         ensures counts { OnOk result (FedBy (length bytes.now) self.old.counts self.new.counts) }
     {
@@ -134,13 +192,14 @@ impl Parser {
     ///
     /// Bytes that can't begin a value are refused as [`RedisError::Parse`] with their
     /// [`FrameFault`](resp_value::FrameFault); values before them are still handed out. Values are
-    /// read down to 100 levels, the outermost being the first.
+    /// read down to [`Parser::depth_limit`] levels, the outermost being the first.
     pub fn take_value(&mut self) -> RedisResult<Option<Value>>
         ensures failed { self.old.failed ≡ true → (result ≡ Err has_failed)
             × (self.new ≡ self.old) }
         ensures takes { (b : List ℕ) → StandsAfter self.old b → Takes b self.new result }
         ensures spelled { (b : List ℕ) → StandsAfter self.old b →
             OnOk result (SpelledWithin b self.new.unparsed) }
+        ensures limit { self.new.levels ≡ self.old.levels }
         ensures bounds { Bounded self.new }
         ensures offset { self.old.failed ≡ false → KeepsFaultOffset self.new result }
         ensures counts { self.old.failed ≡ false → OneCall self.old.counts self.new.counts }
@@ -198,6 +257,7 @@ impl Parser {
         ensures parses { (b : List ℕ) → StandsAfter self.old b →
             Parses b self.old self.new (S.source source.old) (S.source source.new) result }
         ensures offset { self.old.failed ≡ false → KeepsFaultOffset self.new result }
+        ensures limit { self.new.levels ≡ self.old.levels }
         ensures bounds { Bounded self.new }
         ensures calls { CallsWithin self.old.counts self.new.counts }
         ensures observable { (S.source source.old).observable ≡ true →
@@ -226,6 +286,7 @@ impl Parser {
         ensures parses { (b : List ℕ) → StandsAfter self.old b →
             ParsesReader R.remaining b self.old self.new reader result }
         ensures offset { self.old.failed ≡ false → KeepsFaultOffset self.new result }
+        ensures limit { self.new.levels ≡ self.old.levels }
         ensures bounds { Bounded self.new }
         ensures calls { CallsWithin self.old.counts self.new.counts }
     {
@@ -253,7 +314,7 @@ impl Parser {
         ensures offset { result ≡ self.now.fault_offset }
         ensures works { self.now.failed ≡ false → result ≡ None }
         ensures shows { (b : List ℕ) → FailedAfter self.now b →
-            IfSome result (FaultShownBy 100 b) }
+            IfSome result (FaultShownBy self.now.levels b) }
     {
         self.fault_offset
     }
@@ -272,6 +333,7 @@ impl Parser {
         ensures asks { (b : List ℕ) → StandsAfter self.old b →
             Asks b self.old self.new (S.source source.old) (S.source source.new) result }
         ensures offset { self.new.fault_offset ≡ self.old.fault_offset }
+        ensures limit { self.new.levels ≡ self.old.levels }
         ensures bounds { Bounded self.new }
         ensures asked { AskedFor self.old.counts self.new.counts result }
         ensures observable { (S.source source.old).observable ≡ true →
@@ -301,6 +363,7 @@ impl Parser {
     /// From here on the parser has failed.
     fn fail(&mut self)
         ensures fails { (b : List ℕ) → StandsAfter self.old b → FailedAfter self.new b }
+        ensures limit { self.new.levels ≡ self.old.levels }
         ensures bounds { Bounded self.new }
         ensures offset { self.new.fault_offset ≡ self.old.fault_offset }
         ensures counts { self.new.counts ≡ self.old.counts }

@@ -6,6 +6,7 @@ ghost use Rattle.resp_parse.specs.Prefixes.{SpelledWithin};
 
 use crate::counts::Counts;
 use crate::machine::Machine;
+use crate::parser::LEVELS;
 use crate::stop::Stop;
 use resp_value::{IoKind, ParsingError, RedisError, RedisResult, Value};
 use std::alloc::Global;
@@ -19,7 +20,7 @@ pub fn parse_redis_value(alloc: Global, bytes: &[u8]) -> RedisResult<Value>
     ensures answers { ParsesFirst bytes.now result }
     ensures spelled { SpelledWithin bytes.now [] }
 {
-    let mut machine = Machine::new(alloc);
+    let mut machine = Machine::new(alloc, LEVELS);
     let mut counts = Counts::new();
     match machine.drive(alloc, bytes, &mut counts) {
         Ok((_, Some(value))) => Ok(value),

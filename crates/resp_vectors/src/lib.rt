@@ -11,6 +11,8 @@ mod commands;
 #[cfg(test)]
 mod cursors;
 #[cfg(test)]
+mod depths;
+#[cfg(test)]
 mod devices;
 #[cfg(test)]
 mod links;

@@ -1,4 +1,4 @@
-use Rattle.std.proofs.Common.{◌≡◌, ◌-◌, length, take, drop, arith, Ok}
+use Rattle.std.proofs.Common.{◌≡◌, ◌∙◌, ◌-◌, length, take, drop, arith, Ok}
 use Rattle.std.proofs.lemmas.Grind.{common_steps}
 use Rattle.resp_parse.specs.declared.machine.Step.TheVariants as step
 use Rattle.resp_parse.specs.Weights.{StepWeighs}
@@ -46,7 +46,7 @@ loop-at-preserved-in-Ok-Goes c =
     let f : take (length c.args.bytes.now - c.loop-at.at) (drop c.loop-at.at c.args.bytes.now) ≡ drop c.loop-at.at c.args.bytes.now = grind (arith, common_steps) in
     let s : Steps c.loop-at.self (drop c.loop-at.at c.args.bytes.now) c.step.new.self (Ok (step.Goes c.in-Ok-Goes.taken)) = rw f at (rw c.in-Ok-Goes.field-0-is at c.in-Ok-Goes.ensures.steps) in
     record {
-      driven = Driven-goes c.args.self.now c.loop-at.self c.args.bytes.now c.loop-at.at c.loop-at.invariant.driven c.step.new.self c.in-Ok-Goes.taken s c.in-Ok-Goes.ensures.levels;
+      driven = Driven-goes c.args.self.now c.loop-at.self c.args.bytes.now c.loop-at.at c.loop-at.invariant.driven c.step.new.self c.in-Ok-Goes.taken s c.in-Ok-Goes.ensures.limit c.in-Ok-Goes.ensures.levels;
       spent = Spent-goes c.args.self.now c.loop-at.self c.args.counts.now c.loop-at.counts c.loop-at.at c.loop-at.invariant.spent c.step.new.self c.step.new.counts c.args.bytes.now c.in-Ok-Goes.taken (rw c.in-Ok-Goes.field-0-is at c.in-Ok-Goes.ensures.pays) (rw c.in-Ok-Goes.field-0-is at c.in-Ok-Goes.ensures.weighs);
     }
 
@@ -68,6 +68,6 @@ loop-at-preserved c =
     let s : Steps c.loop-at.self (drop c.loop-at.at c.args.bytes.now) c.step.new.self (Ok (step.Whole c.in-Ok-Whole.taken c.in-Ok-Whole.value)) = rw f at (rw c.in-Ok-Whole.field-0-is at c.in-Ok-Whole.ensures.steps) in
     let settled = c.in-Ok-None.ensures in
     record {
-      driven = Driven-settles c.args.self.now c.loop-at.self c.args.bytes.now c.loop-at.at c.loop-at.invariant.driven c.step.new.self c.settle.new.self c.in-Ok-Whole.taken c.in-Ok-Whole.value s (rw c.in-Ok-None.field-0-is at settled.ends) settled.scanned settled.levels;
+      driven = Driven-settles c.args.self.now c.loop-at.self c.args.bytes.now c.loop-at.at c.loop-at.invariant.driven c.step.new.self c.settle.new.self c.in-Ok-Whole.taken c.in-Ok-Whole.value s (rw c.in-Ok-None.field-0-is at settled.ends) settled.scanned (settled.limit ∙ c.in-Ok-Whole.ensures.limit) settled.levels;
       spent = Spent-settles c.args.self.now c.loop-at.self c.args.counts.now c.loop-at.counts c.loop-at.at c.loop-at.invariant.spent c.step.new.self c.settle.new.self c.step.new.counts c.settle.new.counts c.args.bytes.now c.in-Ok-Whole.taken c.in-Ok-Whole.value (rw c.in-Ok-Whole.field-0-is at c.in-Ok-Whole.ensures.pays) (rw c.in-Ok-Whole.field-0-is at c.in-Ok-Whole.ensures.weighs) settled.turns settled.places (rw c.in-Ok-None.field-0-is at settled.weighs) settled.scanned;
     }

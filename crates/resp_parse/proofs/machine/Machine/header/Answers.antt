@@ -7,27 +7,27 @@ use Rattle.resp_parse.proofs.machine.Machine.header.Goals as goal
 
 pub returns-in_default-line_end-clause-steps : goal.returns-in_default-line_end-clause-steps
 returns-in_default-line_end-clause-steps c =
-    let l : length c.args.self.now.frames < 100 = omega arith in
+    let l : length c.args.self.now.frames < c.args.self.now.levels = omega arith in
     rw c.in-Some.ensures.cases.0
     (line-waits c.args.self.now c.in-Some.first.now c.in-Some.after.now c.requires.no_body l c.in-Some-from_byte.kind (sym c.in-Some-from_byte.ensures.kind) c.in_default-line_end.ensures.line _ refl)
 
 pub returns-in-Err-clause-steps : goal.returns-in-Err-clause-steps
 returns-in-Err-clause-steps c =
-    let l : length c.args.self.now.frames < 100 = omega arith in
+    let l : length c.args.self.now.frames < c.args.self.now.levels = omega arith in
     rw (c.stop-in-Err.ensures.why, c.in-Some.ensures.cases.0)
     (header-stops c.args.self.now c.in-Some.first.now c.in-Some.after.now c.requires.no_body l c.in-Some-from_byte.kind (sym c.in-Some-from_byte.ensures.kind) c.in-Some-line_end.len c.in-Some-line_end.ensures.line
     c.begin.new.self c.stop-in-Err.new.self c.in-Err.why (ap (λ (m : Machine). m.shown) c.stop-in-Err.ensures.shown) c.in-Err.ensures.goes)
 
 pub returns-in-Ok-Some-clause-steps : goal.returns-in-Ok-Some-clause-steps
 returns-in-Ok-Some-clause-steps c =
-    let l : length c.args.self.now.frames < 100 = omega arith in
+    let l : length c.args.self.now.frames < c.args.self.now.levels = omega arith in
     rw c.in-Some.ensures.cases.0
     (header-whole c.args.self.now c.in-Some.first.now c.in-Some.after.now c.requires.no_body l c.in-Some-from_byte.kind (sym c.in-Some-from_byte.ensures.kind) c.in-Some-line_end.len c.in-Some-line_end.ensures.line
     c.begin.new.self c.in-Ok-Some.value c.in-Ok-Some.ensures.scanned (rw c.in-Ok-Some.field-0-is at c.in-Ok-Some.ensures.goes))
 
 pub returns-in-Ok-None-clause-steps : goal.returns-in-Ok-None-clause-steps
 returns-in-Ok-None-clause-steps c =
-    let l : length c.args.self.now.frames < 100 = omega arith in
+    let l : length c.args.self.now.frames < c.args.self.now.levels = omega arith in
     rw c.in-Some.ensures.cases.0
     (header-goes c.args.self.now c.in-Some.first.now c.in-Some.after.now c.requires.no_body l c.in-Some-from_byte.kind (sym c.in-Some-from_byte.ensures.kind) c.in-Some-line_end.len c.in-Some-line_end.ensures.line
     c.begin.new.self c.in-Ok-None.ensures.scanned (rw c.in-Ok-None.field-0-is at c.in-Ok-None.ensures.goes))
@@ -58,6 +58,6 @@ returns-in_default-clause-steps c =
 
 pub returns-in_default-from_byte-clause-steps : goal.returns-in_default-from_byte-clause-steps
 returns-in_default-from_byte-clause-steps c =
-    let l : length c.args.self.now.frames < 100 = omega arith in
+    let l : length c.args.self.now.frames < c.args.self.now.levels = omega arith in
     rw (c.stop-in_default-from_byte.ensures.why, c.in-Some.ensures.cases.0)
     (unknown_type c.args.self.now c.in-Some.first.now c.in-Some.after.now c.requires.no_body l c.stop-in_default-from_byte.new.self (ap (λ (m : Machine). m.shown) c.stop-in_default-from_byte.ensures.shown) (sym c.in_default-from_byte.ensures.kind))

@@ -16,12 +16,13 @@ loop-value-preserved c =
     let made = c.in_ok-value-in-Closed.ensures.value in
     let t : c.turn.new.self.turns ≡ c.loop-value.counts.turns + 1 = ap (λ (n : Tally). n.turns) c.turn.ensures in
     record {
-      same = added-closed c.args.self.now.frames c.args.value now c.loop-value.value c.loop-value.invariant.same fs kind vs a u made;
-      levels = (let l = closed-shorter c.args.self.now.frames c.args.value now c.loop-value.value c.loop-value.invariant.same fs kind vs a in let m = c.loop-value.invariant.levels in omega (arith, l, m));
+      same = added-closed c.args.self.now.levels c.args.self.now.frames c.args.value now c.loop-value.value c.loop-value.invariant.same fs kind vs a u made;
+      limit = c.loop-value.invariant.limit;
+      levels = (let l = closed-shorter c.args.self.now.levels c.args.self.now.frames c.args.value now c.loop-value.value c.loop-value.invariant.same fs kind vs a in let m = c.loop-value.invariant.levels in omega (arith, l, m));
       no_body = c.loop-value.invariant.no_body;
       scanned = c.loop-value.invariant.scanned;
-      weighs = (let w = closed-weight c.args.self.now.frames c.args.value now c.loop-value.value c.loop-value.invariant.same fs kind vs a u made in omega (arith, w, c.loop-value.invariant.weighs));
-      places = (let l = closed-credit c.args.self.now.frames c.args.value now c.loop-value.value c.loop-value.invariant.same fs kind vs a in omega (arith, l, t, c.in_ok-value-in-Closed.ensures.turns.most, c.loop-value.invariant.places));
+      weighs = (let w = closed-weight c.args.self.now.levels c.args.self.now.frames c.args.value now c.loop-value.value c.loop-value.invariant.same fs kind vs a u made in omega (arith, w, c.loop-value.invariant.weighs));
+      places = (let l = closed-credit c.args.self.now.levels c.args.self.now.frames c.args.value now c.loop-value.value c.loop-value.invariant.same fs kind vs a in omega (arith, l, t, c.in_ok-value-in-Closed.ensures.turns.most, c.loop-value.invariant.places));
       turns = same-turns c.args.counts.now c.loop-value.counts c.value.new.counts c.loop-value.invariant.turns
           (same-turns c.loop-value.counts c.turn.new.self c.value.new.counts (same-turn c.loop-value.counts c.turn.new.self c.turn.ensures) c.in_ok-value-in-Closed.ensures.turns.same);
     }

@@ -6,8 +6,9 @@ use Rattle.resp_parse.proofs.machine.Machine.settle.Given as goal
 
 abbrev pub invariant-loop-value : goal.invariant-loop-value
 invariant-loop-value l = record {
-  same : (more : List ℕ) → place l.fn.self.frames l.fn.value more ≡ place l.self.frames l.value more;
-  levels : length l.self.frames ≤ 100;
+  same : (more : List ℕ) → place l.fn.self.levels l.fn.self.frames l.fn.value more ≡ place l.fn.self.levels l.self.frames l.value more;
+  limit : l.self.levels ≡ l.fn.self.levels;
+  levels : length l.self.frames ≤ l.self.levels;
   no_body : l.self.body ≡ None;
   scanned : l.self.scanned ≡ l.fn.self.scanned;
   weighs : frames_weight l.self.frames + 3 * built l.value ≤ frames_weight l.fn.self.frames + 3 * built l.fn.value;

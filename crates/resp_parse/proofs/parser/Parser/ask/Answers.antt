@@ -40,8 +40,9 @@ invariant_of-self-in-Ok g c =
     let e = c.in_ok-extend_from_slice-in-Ok.ensures.items ∙ ap (λ x. x ++ bytes) c.reserve.ensures.items in
     record {
       consumed = fed-fits c.self.inside.buffer.items c.extend_from_slice.new.self.items bytes c.self.inside.consumed c.self.invariant.consumed e;
+      limit = c.self.invariant.limit;
       levels = c.self.invariant.levels;
-      placed = Placed-longer c.self.inside.fault_offset c.self.inside.since c.append.new.self bytes c.self.inside.failed c.append.ensures c.self.invariant.placed;
+      placed = Placed-longer c.self.inside.machine.levels c.self.inside.fault_offset c.self.inside.since c.append.new.self bytes c.self.inside.failed c.append.ensures c.self.invariant.placed;
       counted = (let l : length bytes ≡ c.in-Ok.n = grind (arith, common_steps) in
           Counted-asked c.self.inside.machine (drop c.self.inside.consumed c.self.inside.buffer.items) (drop c.self.inside.consumed c.extend_from_slice.new.self.items) c.in-Ok.n c.self.inside.counts c.come.new.self c.self.inside.failed
           c.self.invariant.counted c.come.ensures (fed-length c.self.inside.buffer.items c.extend_from_slice.new.self.items bytes c.self.inside.consumed c.self.invariant.consumed e ∙ ap (λ (k : ℕ). length (drop c.self.inside.consumed c.self.inside.buffer.items) + k) l));

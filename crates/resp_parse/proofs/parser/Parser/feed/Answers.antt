@@ -52,8 +52,9 @@ invariant_of-self-2 c =
     ] in
     record {
       consumed = fed-fits buffer c.extend_from_slice.new.self.items rest consumed c.self-2.invariant.consumed items;
-      placed = Placed-working c.self-2.inside.fault_offset c.self-2.inside.since c.append.new.self c.self-2.inside.failed w c.self-2.invariant.placed;
-      levels = rw c.in_ok-fill.ensures.fills.frames c.self-2.invariant.levels;
+      placed = Placed-working c.self-2.inside.machine.levels c.fill.new.self.levels c.self-2.inside.fault_offset c.self-2.inside.since c.append.new.self c.self-2.inside.failed w c.self-2.invariant.placed;
+      limit = rw c.in_ok-fill.ensures.fills.levels c.self-2.invariant.limit;
+      levels = rw (c.in_ok-fill.ensures.fills.levels, c.in_ok-fill.ensures.fills.frames) c.self-2.invariant.levels;
       holds = fed-holds c.self-2.inside.machine c.fill.new.self c.self-2.inside.counts c.fill.new.counts c.come.new.self buffer c.extend_from_slice.new.self.items c.self-2.inside.since c.append.new.self c.args.bytes.now direct rest consumed c.self-2.inside.failed
           c.self-2.invariant.consumed w c.self-2.invariant.holds c.self-2.invariant.counted c.in_ok-fill.ensures.fills apart joined items c.append.ensures (c.come.ensures ∙ ap (λ (t : Tally). record t { came = t.came + length c.args.bytes.now }) c.call.ensures);
       counted = fed-counted c.self-2.inside.machine c.fill.new.self c.self-2.inside.counts c.fill.new.counts c.come.new.self buffer c.extend_from_slice.new.self.items c.self-2.inside.since c.append.new.self c.args.bytes.now direct rest consumed c.self-2.inside.failed

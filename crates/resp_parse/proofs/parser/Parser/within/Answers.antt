@@ -4,14 +4,15 @@ use Rattle.resp_parse.proofs.Holding.{Holds-new}
 use Rattle.resp_parse.proofs.FaultOffsets.{Placed-none}
 use Rattle.resp_parse.proofs.Spelling.{Spelled-new}
 use Rattle.resp_parse.proofs.Counting.{Counted-new, levels-fresh, Bounded-from_kept}
-use Rattle.resp_parse.proofs.parser.Parser.new.Goals as goal
+use Rattle.resp_parse.proofs.parser.Parser.within.Goals as goal
 
 pub invariant_of-result : goal.invariant_of-result
 invariant_of-result c = record {
   consumed = omega arith;
+  limit = rw c.new-2.ensures.limit c.requires.limit;
   levels = levels-fresh c.new-2.result c.new-2.ensures.fresh;
   holds = Holds-new c.new-2.result c.new.result.items c.new-3.result c.new.ensures.items c.new-3.ensures c.new-2.ensures.fresh c.new-2.ensures.scanned;
-  placed = Placed-none None _ false refl;
+  placed = Placed-none c.new-2.result.levels None _ false refl;
   counted = Counted-new c.new-2.result c.new.result.items c.new-4.result c.new-4.ensures c.new-2.ensures.fresh c.new-2.ensures.scanned c.new.ensures.items;
   spelled = λ _. Spelled-new c.new-2.result (drop 0 c.new.result.items) c.new-3.result c.new-2.ensures.scanned c.new.ensures.items c.new-3.ensures;
 }
