@@ -348,7 +348,8 @@ impl Cmd {
             ≡ con.entry.ghost_name) }
         ensures starts { IfOk result (λ scan. Starts T.WIDTH T.of_value (C.connection con.old)
             (C.connection (borrowed scan).now) self budget (scan_state scan)) }
-        ensures refused { IfErr result (CannotStart T.WIDTH T.of_value (C.connection con.old) self) }
+        ensures refused { IfErr result
+            (CannotStart T.WIDTH T.of_value (C.connection con.old) self) }
     {
         let progress = self.start_scan(con, budget)?;
         Ok(Scan::over(con, progress))

@@ -1,5 +1,5 @@
-//! Slices, arrays and vectors are written as their items, those of bytes as one argument. Refused at
-//! the first item that is refused; those before it are written whole.
+//! Slices, arrays and vectors are written as their items, those of bytes as one argument. They are
+//! refused at the first item that is refused; those before it are written whole.
 
 ghost use Rattle.std.specs.Prelude.{◌≡◌};
 ghost use Rattle.resp_args.specs.Args.{GivesSlice, RefusesSlice, FailsSlice, count_of_slice};
