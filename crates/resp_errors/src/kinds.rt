@@ -258,7 +258,8 @@ pub enum RetryMethod {
     RefreshSlotsAndRetry,
 }
 
-/// What is wrong with bytes that can't begin a reply, however they go on.
+/// What is wrong with bytes that can't begin a reply, however they go on, or can't within the limits
+/// of a parser.
 #[derive(Clone, Copy, PartialEq, Eq, Debug)]
 pub enum FrameFault {
     /// A value begins below the deepest level that is read.
@@ -281,6 +282,8 @@ pub enum FrameFault {
     NoVerbatimFormat,
     /// A push whose first value can't name a kind.
     BadPushKind,
+    /// A value is spelled by more bytes than the limit on its size.
+    TooLong,
 }
 
 impl FrameFault {
@@ -299,6 +302,7 @@ impl FrameFault {
             FrameFault::NotDouble => "line is not a double",
             FrameFault::NoVerbatimFormat => "verbatim text names no format",
             FrameFault::BadPushKind => "push names no kind",
+            FrameFault::TooLong => "value is too long",
         }
     }
 }
