@@ -14,6 +14,7 @@ pub mod FewDigits
 pub mod FilledBodies
 pub mod HeadersInPieces
 pub mod Holding
+pub mod LimitedReadings
 pub mod LineAt
 pub mod LineReads
 pub mod LongerPrefixes

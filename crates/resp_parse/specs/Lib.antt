@@ -5,6 +5,8 @@ pub mod TypeBytes
 pub mod Grammar
 pub mod Reads
 pub mod Prefixes
+pub mod Limits
+pub mod Limited
 pub mod Laws
 pub mod PlainReading
 pub mod Shapes

@@ -4,6 +4,8 @@ ghost use Rattle.std.specs.Prelude.{ℕ, List, length, ◌*◌, ◌≤◌};
 ghost use Rattle.resp_value.specs.declared.value.Value.{Value};
 ghost use Rattle.resp_parse.specs.Built.{built};
 ghost use Rattle.resp_parse.specs.Grammar.{Good};
+ghost use Rattle.resp_parse.specs.declared.limits.Limits.{Limits};
+ghost use Rattle.resp_parse.specs.Limited.{Found, OneReading};
 ghost use Rattle.resp_parse.specs.Laws.{Completion, LawOfPrefixes, MoreLevels};
 ghost use Rattle.resp_parse.specs.Prefixes.{IsUnfinished};
 
@@ -33,4 +35,11 @@ pub fn law_of_sizes()
 /// bytes that end in a fault there, other than that of a value too deep, end in the same fault.
 pub fn law_of_levels()
     ensures law { (d e : ℕ) (b : List ℕ) → d ≤ e → MoreLevels d e b }
+{}
+
+/// Within limits on depth and size too, bytes have one reading: a value stands at their start, or a
+/// fault shows, or more are awaited; and only one of these, in one way.
+pub fn law_of_limits()
+    ensures some { (l : Limits) (b : List ℕ) → Found l b }
+    ensures one { (l : Limits) (b : List ℕ) → OneReading l b }
 {}

@@ -5,6 +5,7 @@ mod counts;
 mod double;
 mod frames;
 pub mod laws;
+mod limits;
 mod line;
 mod machine;
 mod number;
@@ -18,6 +19,7 @@ mod stop;
 mod type_byte;
 mod value_of;
 
+pub use limits::Limits;
 pub use parser::Parser;
 pub use prefix::parse_redis_value;
 pub use reading::Reading;

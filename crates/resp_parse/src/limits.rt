@@ -1,0 +1,76 @@
+//! The limits on what is read as a value.
+
+ghost use Rattle.std.specs.Prelude.{◌≡◌, ◌↔◌, IsOk, IfErr};
+ghost use Rattle.resp_containers.specs.lemmas.Clones.{of_copies};
+ghost use Rattle.resp_containers.specs.lemmas.Equality.{both, same_numbers};
+ghost use Rattle.resp_parse.specs.Limits.{AreLimits, RefusesLimits, usual};
+
+use resp_value::{ErrorKind, ExactClone, RedisError, RedisResult, StructuralEq};
+
+/// The limit on the depth where none is chosen.
+pub(crate) const LEVELS: usize = 100;
+
+/// The greatest limit on the depth.
+const MOST_LEVELS: usize = 1000;
+
+/// The greatest limit on the size, and the one where none is chosen.
+pub(crate) const LONGEST: usize = isize::MAX as usize;
+
+/// How deep and how long a value may be that is read.
+///
+/// A peer that goes on sending makes a parser hold the value in progress. It holds at most 24 times
+/// the limit on the size, and some 100 bytes for each level.
+#[derive(Clone, Copy, PartialEq, Eq, Debug)]
+pub struct Limits {
+    /// How many levels of values inside values are read, the outermost being the first: 1 to 1,000.
+    /// A value below them is refused as [`FrameFault::TooDeep`](resp_value::FrameFault).
+    pub depth: usize,
+    /// How many bytes may spell a value: 1 to 2^63 - 1. A value that has one byte more is refused
+    /// as [`FrameFault::TooLong`](resp_value::FrameFault), once that byte is there.
+    pub bytes: usize,
+}
+
+impl Default for Limits {
+    /// 100 levels, and 2^63 - 1 bytes.
+    fn default() -> Limits
+        ensures { result ≡ usual }
+    {
+        Limits {
+            depth: LEVELS,
+            bytes: LONGEST,
+        }
+    }
+}
+
+impl Limits {
+    /// Whether a parser takes them, or what it refuses them with.
+    pub(crate) fn check(self) -> RedisResult<()>
+        ensures accepts { IsOk result ↔ AreLimits self }
+        ensures error { IfErr result (RefusesLimits self) }
+    {
+        if self.depth == 0 || self.depth > MOST_LEVELS {
+            return Err(RedisError::from((
+                ErrorKind::InvalidClientConfig,
+                "depth limit must be 1 to 1000",
+            )));
+        }
+        if self.bytes == 0 || self.bytes > LONGEST {
+            return Err(RedisError::from((
+                ErrorKind::InvalidClientConfig,
+                "size limit must be 1 to 2^63 - 1 bytes",
+            )));
+        }
+        Ok(())
+    }
+}
+
+impl StructuralEq for Limits {
+    ghost structural = { λ a b h. let parts = both _ _ h in λ i. record {
+      depth = same_numbers a.depth b.depth parts.0 i;
+      bytes = same_numbers a.bytes b.bytes parts.1 i;
+    } };
+}
+
+impl ExactClone for Limits {
+    ghost exact = { of_copies };
+}
