@@ -1,6 +1,7 @@
 -- What a parser has counted, from call to call.
-use Rattle.std.proofs.Common.{◌≡◌, ℕ, ◌+◌, ◌-◌, ◌*◌, ◌≤◌, Bool, true, false, List, [], ◌∷◌, length, drop, refl, ap, arith, Option, Some, None, Ok, Err}
+use Rattle.std.proofs.Common.{◌≡◌, ℕ, ◌+◌, ◌-◌, ◌*◌, ◌≤◌, Bool, true, false, List, [], ◌∷◌, length, drop, refl, ap, ◌∙◌, arith, Option, Some, None, Ok, Err}
 use Rattle.std.proofs.lemmas.Grind.{common_steps}
+use Rattle.std.proofs.lemmas.List.{length-append}
 use Rattle.resp_value.specs.declared.value.Value.{Value}
 use Rattle.resp_parse.specs.declared.stop.Stop.{Stop}
 use Rattle.resp_parse.specs.declared.frames.Frame.{Frame}
@@ -11,7 +12,7 @@ use Rattle.resp_parse.specs.State.{State}
 use Rattle.resp_parse.specs.Bounds.{Bounded, OneCall}
 use Rattle.resp_parse.specs.Resume.{fresh_of, IsScanned}
 use Rattle.resp_parse.specs.Weights.{built_in, frames_weight, credit, DrivePays}
-use Rattle.resp_parse.specs.Kept.{Counted, Holds, Spelled}
+use Rattle.resp_parse.specs.Kept.{Counted, Holds, Spelled, limits_of}
 use Rattle.resp_parse.proofs.Holding.{nothing_open}
 
 -- what a call began with, t, of what was counted before it, c, and what it came to, e
@@ -103,9 +104,9 @@ built-weighs [] = omega arith
 built-weighs (f ∷ fs) = omega (arith, built-weighs fs)
 
 -- what is kept bounds what was done
-pub Bounded-from_kept : {offset : Option ℕ} (m : Machine) (u since : List ℕ) (failed : Bool) (c : Tally) (n : ℕ) → length m.frames ≤ m.levels → Holds m u since failed → Counted m u c failed → (failed ≡ false → Spelled m u since n) →
-    Bounded (record { levels = m.levels; unparsed = u; looked = m.scanned; since = since; failed = failed; fault_offset = offset; frames = length m.frames; built = built_in m.frames; counts = c })
-Bounded-from_kept m u since failed c n l h k p = record {
+pub Bounded-from_kept : {offset : Option ℕ} (most : ℕ) (m : Machine) (u since : List ℕ) (failed : Bool) (c : Tally) (n : ℕ) → length m.frames ≤ m.levels → Holds m u since failed → Counted m u c failed → (failed ≡ false → Spelled most m u since n) →
+    Bounded (record { limits = limits_of m most; unparsed = u; looked = m.scanned; since = since; failed = failed; fault_offset = offset; frames = length m.frames; built = built_in m.frames; counts = c })
+Bounded-from_kept most m u since failed c n l h k p = record {
   turns = omega (arith, k.turns);
   looks = k.looks;
   taken = k.taken;
@@ -118,7 +119,11 @@ Bounded-from_kept m u since failed c n l h k p = record {
       record {
         accounted = omega (arith, b.accounted, s, d);
         built = omega (arith, r.weighs, built-weighs m.frames, s, d);
-        spelled = omega (arith, (p w).counted, (p w).few, s, d);
+        spelled = (let z = p w in
+            let j : m.scanned ≤ length z.kept = scanned-within m.body m.scanned z.kept z.resumes.scanned in
+            let x : length u ≡ length z.kept + length z.later = ap length z.unparsed_is ∙ length-append z.kept z.later in
+            let y : length since ≡ length z.before + length z.later = ap length z.since_is ∙ length-append z.before z.later in
+            omega (arith, z.few, j, x, y, s, d));
       };
 }
 

@@ -183,5 +183,8 @@ Holds-asked m buffer buffer' since since' bytes consumed failed l some h e k =
       );
     })
 
+pub fed-unparsed : (buffer buffer' bytes : List ℕ) (consumed : ℕ) → consumed ≤ length buffer → buffer' ≡ buffer ++ bytes → drop consumed buffer' ≡ drop consumed buffer ++ bytes
+fed-unparsed buffer buffer' bytes consumed l e = ap (drop consumed) e ∙ drop-append consumed buffer bytes l
+
 pub fed-length : (buffer buffer' bytes : List ℕ) (consumed : ℕ) → consumed ≤ length buffer → buffer' ≡ buffer ++ bytes → length (drop consumed buffer') ≡ length (drop consumed buffer) + length bytes
 fed-length buffer buffer' bytes consumed l e = rw e (grind (arith, common_steps))

@@ -17,7 +17,6 @@ pub mod Holding
 pub mod LimitedReadings
 pub mod LineAt
 pub mod LineReads
-pub mod LongerPrefixes
 pub mod MoreLevels
 pub mod Numerals
 pub mod ParserStates

@@ -1,17 +1,18 @@
 -- What a reader with limits finds at the start of bytes is what reading finds among those that a value may have.
-use Rattle.std.proofs.Common.{◌≡◌, ℕ, zero, suc, ◌+◌, ◌-◌, ◌<◌, ◌≤◌, List, [], ◌∷◌, ◌++◌, length, take, drop, refl, ap, sym, ◌∙◌, subst, arith, append_assoc, ◌⊎◌, inl, inr}
+use Rattle.std.proofs.Common.{◌≡◌, ℕ, zero, suc, ◌+◌, ◌-◌, ◌<◌, ◌≤◌, List, [], ◌++◌, length, take, drop, refl, ap, sym, ◌∙◌, subst, arith, append_assoc, ◌⊎◌, inl, inr}
 use Rattle.std.proofs.lemmas.Grind.{common_steps}
-use Rattle.std.proofs.lemmas.List.{append_cancel_left}
+use Rattle.std.proofs.lemmas.List.{append-nil, append_cancel_left, length-append, take-append-le}
 use Rattle.std.proofs.Math.Seq.{take-append-add}
 use Rattle.resp_value.specs.declared.value.Value.{Value}
 use Rattle.resp_errors.specs.declared.kinds.FrameFault.{FrameFault}
 use Rattle.resp_errors.specs.declared.kinds.FrameFault.TheVariants.{TooLong}
 use Rattle.resp_parse.specs.declared.limits.Limits.{Limits}
+use Rattle.resp_parse.specs.Source.{Source}
 use Rattle.resp_parse.specs.PlainReading.{ReadOutcome, got, fault, unfinished, read}
 use Rattle.resp_parse.specs.Limited as limited
-use Rattle.resp_parse.specs.Prefixes.{HasFaultyPrefix, HasGoodPrefix, IsUnfinished}
-use Rattle.resp_parse.specs.Limited.{GoodWithin, HasValue, HasFault, PassesSize, Awaits, Found, more, OneReading, first_bytes, within, too_long}
-use Rattle.resp_parse.proofs.PrefixReads.{HasGoodPrefix-from_read, HasFaultyPrefix-from_read, IsUnfinished-from_read}
+use Rattle.resp_parse.specs.Prefixes.{HasFaultyPrefix, HasGoodPrefix, IsUnfinished, FaultShownBy}
+use Rattle.resp_parse.specs.Limited.{GoodWithin, HasValue, HasFault, PassesSize, Awaits, Found, more, OneReading, FaultShownAt, first_bytes}
+use Rattle.resp_parse.proofs.PrefixReads.{HasGoodPrefix-from_read, HasFaultyPrefix-from_read, IsUnfinished-from_read, FaultShownBy-longer, HasFaultyPrefix-longer}
 use Rattle.resp_parse.proofs.Prefixes.{law_of_prefixes}
 use Rattle.resp_parse.proofs.ReadingMeetsGrammar.{good-reads, faulty-reads}
 
@@ -39,8 +40,8 @@ module _ (l : Limits) (b : List ℕ) where
 
   -- a fault of the grammar, or a value that passes the limit
   fault-reads : (f : FrameFault) → HasFault l b f → ((rest : List ℕ) × (read l.depth (first_bytes l b) ≡ fault f rest)) ⊎ ((f ≡ TooLong) × PassesSize l b)
-  fault-reads f (within h) = inl (h.rest, ap (read l.depth) h.whole ∙ faulty-reads l.depth h.prefix h.rest f h.faulty)
-  fault-reads f (too_long e h) = inr (e, h)
+  fault-reads f (HasFault.within h) = inl (h.rest, ap (read l.depth) h.whole ∙ faulty-reads l.depth h.prefix h.rest f h.faulty)
+  fault-reads f (HasFault.too_long e h) = inr (e, h)
 
   passes-reads : PassesSize l b → read l.depth (first_bytes l b) ≡ unfinished
   passes-reads h = reads-unfinished l.depth (first_bytes l b) h.unfinished
@@ -87,13 +88,7 @@ module _ (l : Limits) (b : List ℕ) where
   }
 
 -- a value that the grammar has among the bytes that it may have
-pub HasValue-from_prefix : (l : Limits) (b rest : List ℕ) (v : Value) → HasGoodPrefix l.depth b v rest → length b ≤ l.bytes + length rest → HasValue l b v rest
-HasValue-from_prefix l b rest v h few =
-    let whole : b ≡ h.prefix ++ rest = h.whole in
-    let size : length b ≡ length h.prefix + length rest = ap length whole ∙ grind (arith, common_steps) in
-    record { prefix = h.prefix; whole = h.whole; good = record { good = h.good; few = omega (arith, size, few) } }
-
-first-value : (l : Limits) (b rest : List ℕ) (v : Value) → HasGoodPrefix l.depth (first_bytes l b) v rest → HasValue l b v (rest ++ drop l.bytes b)
+pub first-value : (l : Limits) (b rest : List ℕ) (v : Value) → HasGoodPrefix l.depth (first_bytes l b) v rest → HasValue l b v (rest ++ drop l.bytes b)
 first-value l b rest v h =
     let whole : take l.bytes b ≡ h.prefix ++ rest = h.whole in
     let size : length (take l.bytes b) ≡ length h.prefix + length rest = ap length whole ∙ grind (arith, common_steps) in
@@ -107,7 +102,7 @@ first-value l b rest v h =
 
 either-more : (l : Limits) (b : List ℕ) → IsUnfinished l.depth (first_bytes l b) → (length b ≤ l.bytes) ⊎ (l.bytes < length b) → Found l b
 either-more l b h (inl few) = let all : take l.bytes b ≡ b = grind (arith, common_steps) in more (record { few = few; unfinished = subst (IsUnfinished l.depth) all h })
-either-more l b h (inr l') = limited.fault TooLong (too_long refl (record { more = l'; unfinished = h }))
+either-more l b h (inr l') = limited.fault TooLong (HasFault.too_long refl (record { more = l'; unfinished = h }))
 
 compared : (m n : ℕ) → (m ≤ n) ⊎ (n < m)
 compared m n = compare m n
@@ -125,5 +120,68 @@ found l b = by_outcome (read l.depth (first_bytes l b)) refl
   where
     by_outcome : (o : ReadOutcome Value) → read l.depth (first_bytes l b) ≡ o → Found l b
     by_outcome (got v rest) e = limited.value v (rest ++ drop l.bytes b) (first-value l b rest v (HasGoodPrefix-from_read l.depth (first_bytes l b) rest v e))
-    by_outcome (fault f rest) e = limited.fault f (within (HasFaultyPrefix-from_read l.depth (first_bytes l b) rest f e))
+    by_outcome (fault f rest) e = limited.fault f (HasFault.within (HasFaultyPrefix-from_read l.depth (first_bytes l b) rest f e))
     by_outcome unfinished e = either-more l b (IsUnfinished-from_read l.depth (first_bytes l b) e) (compared (length b) l.bytes)
+
+-- where a value may have all bytes, what the grammar finds
+
+module _ (l : Limits) (b : List ℕ) (few : length b ≤ l.bytes) where
+  pub HasValue-all : (rest : List ℕ) (v : Value) → HasGoodPrefix l.depth b v rest → HasValue l b v rest
+  HasValue-all rest v h =
+      let size : length b ≡ length h.prefix + length rest = ap length h.whole ∙ length-append h.prefix rest in
+      record { prefix = h.prefix; whole = h.whole; good = record { good = h.good; few = omega (arith, size, few) } }
+
+  pub HasFault-all : (f : FrameFault) → HasFaultyPrefix l.depth b f → HasFault l b f
+  HasFault-all f h = let all : take l.bytes b ≡ b = grind (arith, common_steps) in HasFault.within (subst (λ x. HasFaultyPrefix l.depth x f) (sym all) h)
+
+-- With more bytes after them.
+
+pub HasValue-longer : (l : Limits) (b after rest : List ℕ) (v : Value) → HasValue l b v rest → HasValue l (b ++ after) v (rest ++ after)
+HasValue-longer l b after rest v h = record { prefix = h.prefix; whole = ap (λ z. z ++ after) h.whole ∙ append_assoc h.prefix rest after; good = h.good }
+
+take-append : (n : ℕ) (x y : List ℕ) → (n ≤ length x) ⊎ (length x < n) → take n (x ++ y) ≡ take n x ++ take (n - length x) y
+take-append n x y (inl l) =
+    let none : n - length x ≡ 0 = omega (arith, l) in
+    take-append-le n x y l ∙ sym (ap (λ k. take n x ++ take k y) none ∙ append-nil (take n x))
+take-append n x y (inr l) =
+    let sum : n ≡ length x + (n - length x) = omega (arith, l) in
+    let all : take n x ≡ x = grind (arith, common_steps) in
+    ap (λ k. take k (x ++ y)) sum ∙ take-append-add x y (n - length x) ∙ ap (λ z. z ++ take (n - length x) y) (sym all)
+
+-- the first bytes are those that were, and perhaps some more
+first-longer : (l : Limits) (b after : List ℕ) → first_bytes l (b ++ after) ≡ first_bytes l b ++ take (l.bytes - length b) after
+first-longer l b after = take-append l.bytes b after (compared l.bytes (length b))
+
+-- they are those that were, where these passed the limit
+first-same : (l : Limits) (b after : List ℕ) → l.bytes < length b → first_bytes l (b ++ after) ≡ first_bytes l b
+first-same l b after h = take-append-le l.bytes b after (omega (arith, h))
+
+PassesSize-longer : (l : Limits) (b after : List ℕ) → PassesSize l b → PassesSize l (b ++ after)
+PassesSize-longer l b after h =
+    let n : length (b ++ after) ≡ length b + length after = length-append b after in
+    let m = h.more in
+    record { more = omega (arith, n, m); unfinished = subst (IsUnfinished l.depth) (sym (first-same l b after h.more)) h.unfinished }
+
+pub HasFault-longer : (l : Limits) (b after : List ℕ) (f : FrameFault) → HasFault l b f → HasFault l (b ++ after) f
+HasFault-longer l b after f (HasFault.within h) = HasFault.within (subst (λ x. HasFaultyPrefix l.depth x f) (sym (first-longer l b after)) (HasFaultyPrefix-longer l.depth (first_bytes l b) (take (l.bytes - length b) after) f h))
+HasFault-longer l b after f (HasFault.too_long e h) = HasFault.too_long e (PassesSize-longer l b after h)
+
+pub FaultShownAt-longer : (l : Limits) (b after : List ℕ) (n : ℕ) → FaultShownAt l b n → FaultShownAt l (b ++ after) n
+FaultShownAt-longer l b after n (FaultShownAt.within h) = FaultShownAt.within (subst (λ x. FaultShownBy l.depth x n) (sym (first-longer l b after)) (FaultShownBy-longer l.depth (first_bytes l b) (take (l.bytes - length b) after) n h))
+FaultShownAt-longer l b after n (FaultShownAt.too_long e h) = FaultShownAt.too_long e (PassesSize-longer l b after h)
+
+-- the buffered and the incoming bytes of a source, which went from s to t and filled some of them
+module _ (l : Limits) (b filled : List ℕ) (s t : Source) (come : s.bytes ≡ filled ++ t.bytes) where
+  whole : (b ++ filled) ++ t.bytes ≡ b ++ s.bytes
+  whole = append_assoc b filled t.bytes ∙ ap (λ z. b ++ z) (sym come)
+
+  pub HasValue-whole : (v : Value) (rest : List ℕ) → HasValue l (b ++ filled) v rest → HasValue l (b ++ s.bytes) v (rest ++ t.bytes)
+  HasValue-whole v rest h = subst (λ z. HasValue l z v (rest ++ t.bytes)) whole (HasValue-longer l (b ++ filled) t.bytes rest v h)
+
+  pub HasFault-whole : (f : FrameFault) → HasFault l (b ++ filled) f → HasFault l (b ++ s.bytes) f
+  HasFault-whole f h = subst (λ z. HasFault l z f) whole (HasFault-longer l (b ++ filled) t.bytes f h)
+
+  pub Awaits-whole : t.bytes ≡ [] → Awaits l (b ++ filled) → Awaits l (b ++ s.bytes)
+  Awaits-whole none h =
+      let all : b ++ filled ≡ b ++ s.bytes = sym (append-nil (b ++ filled)) ∙ ap (λ z. (b ++ filled) ++ z) (sym none) ∙ whole in
+      subst (λ z. Awaits l z) all h

@@ -1,5 +1,5 @@
 -- Values that stand in open frames.
-use Rattle.std.proofs.Common.{◌≡◌, ℕ, suc, ◌-◌, List, [], ◌∷◌, ◌++◌, length, refl, ap, sym, ◌∙◌, append_assoc}
+use Rattle.std.proofs.Common.{◌≡◌, ℕ, suc, List, [], ◌∷◌, ◌++◌, refl, ap, sym, ◌∙◌, append_assoc}
 use Rattle.resp_value.specs.declared.value.Value.{Value}
 use Rattle.resp_parse.specs.declared.frames.Frame.{Frame}
 use Rattle.resp_parse.specs.declared.shape.ElementsKind.{ElementsKind}

@@ -7,18 +7,17 @@ use Rattle.resp_errors.specs.declared.redis_error.RedisError.{RedisError}
 use Rattle.resp_errors.specs.declared.redis_error.RedisError.TheVariants as form
 use Rattle.resp_parse.specs.State.{State, StandsAfter, FailedAfter}
 use Rattle.resp_parse.specs.Source.{Source, Came, source_of}
-use Rattle.resp_parse.specs.Prefixes.{SpelledWithin}
 use Rattle.resp_parse.specs.Calls.{Received, Takes, CannotTake, Filled, Asks, CannotFill, AsNeeded, Parses, ParsesReader, Parsed, Failed, CannotParse}
 
 -- what was filled since the parser was `old` and stood after b
 pub record FilledAsNeeded (b : List ℕ) (old p : State) (s t : Source) : Type 0 where
   pub more : Filled b old p s t
-  pub needed : AsNeeded old.levels b more.filled
+  pub needed : AsNeeded old.limits b more.filled
 
 pub FilledAsNeeded-none : (b : List ℕ) (p : State) (s : Source) → StandsAfter p b → FilledAsNeeded b p p s s
 FilledAsNeeded-none b p s h = record {
   more = record { filled = []; came = λ _. refl; received = omega arith; stands = subst (StandsAfter p) (sym (append-nil b)) h; failures = refl };
-  needed = record { before = []; last = []; whole = refl; size = omega arith; unfinished = λ some. absurd (some refl) };
+  needed = record { before = []; last = []; whole = refl; size = omega arith; awaited = λ some. absurd (some refl) };
 }
 
 -- after b, the source has filled some bytes, and the parser stands after them
@@ -27,18 +26,18 @@ module _ (b : List ℕ) (old p : State) (s t : Source) (k : FilledAsNeeded b old
   Received-no_more : (new : State) → new.counts.came ≡ p.counts.came → Received k.more.filled old new
   Received-no_more new e = e ∙ k.more.received
 
-  pub Parsed-taken : (new : State) (v : Value) → new.levels ≡ old.levels → new.counts.came ≡ p.counts.came → Takes (b ++ k.more.filled) new (Ok (Some v)) → SpelledWithin (b ++ k.more.filled) new.unparsed → Parsed b v old new s t
-  Parsed-taken new v d e w l = record { filled = k.more.filled; came = k.more.came; received = Received-no_more new e; needed = rw d k.needed; value = w.0; spelled = l; rest = w.1; failures = k.more.failures }
+  pub Parsed-taken : (new : State) (v : Value) → new.limits ≡ old.limits → new.counts.came ≡ p.counts.came → Takes (b ++ k.more.filled) new (Ok (Some v)) → Parsed b v old new s t
+  Parsed-taken new v d e w = record { filled = k.more.filled; came = k.more.came; received = Received-no_more new e; needed = rw d k.needed; value = w.0; rest = w.1; failures = k.more.failures }
 
-  Failed-taken : (new : State) → new.levels ≡ old.levels → new.counts.came ≡ p.counts.came → FailedAfter new (b ++ k.more.filled) → Failed b k.more.filled old new s t
+  Failed-taken : (new : State) → new.limits ≡ old.limits → new.counts.came ≡ p.counts.came → FailedAfter new (b ++ k.more.filled) → Failed b k.more.filled old new s t
   Failed-taken new d e h = record { came = k.more.came; received = Received-no_more new e; needed = rw d k.needed; failed = h; failures = k.more.failures }
 
-  pub CannotParse-taken : (new : State) (e : RedisError) → new.levels ≡ old.levels → new.counts.came ≡ p.counts.came → Takes (b ++ k.more.filled) new (Err e) → CannotParse b e old new s t
+  pub CannotParse-taken : (new : State) (e : RedisError) → new.limits ≡ old.limits → new.counts.came ≡ p.counts.came → Takes (b ++ k.more.filled) new (Err e) → CannotParse b e old new s t
   CannotParse-taken new e d z (CannotTake.faulty f i w, h) = CannotParse.faulty f k.more.filled i w (Failed-taken new d z h)
   CannotParse-taken new e d z (CannotTake.out_of_memory i, h) = CannotParse.out_of_memory k.more.filled i (Failed-taken new d z h)
 
   -- what was filled is unfinished, and the source was asked once more
-  module _ (mid : State) (levels : mid.levels ≡ old.levels) (same : mid.counts.came ≡ p.counts.came) (w : Takes (b ++ k.more.filled) mid (Ok None)) (u : Source) (observable : s.observable ≡ true → t.observable ≡ true) where
+  module _ (mid : State) (limits : mid.limits ≡ old.limits) (same : mid.counts.came ≡ p.counts.came) (w : Takes (b ++ k.more.filled) mid (Ok None)) (u : Source) (observable : s.observable ≡ true → t.observable ≡ true) where
     Came-asked : (more : List ℕ) → Came t more u → Came s (k.more.filled ++ more) u
     Came-asked more c = λ obs. k.more.came obs ∙ ap (λ z. k.more.filled ++ z) (c (observable obs)) ∙ sym (append_assoc k.more.filled more u.bytes)
 
@@ -57,13 +56,13 @@ module _ (b : List ℕ) (old p : State) (s t : Source) (k : FilledAsNeeded b old
         stands = subst (StandsAfter new) (append_assoc b k.more.filled a.more.filled) a.more.stands;
         failures = a.more.failures ∙ k.more.failures;
       };
-      needed = record { before = k.more.filled; last = a.more.filled; whole = refl; size = a.size; unfinished = λ _. rw (← levels) w.0 };
+      needed = record { before = k.more.filled; last = a.more.filled; whole = refl; size = a.size; awaited = λ _. rw (← limits) w.0 };
     }
 
     -- the source gave nothing
-    module _ (new : State) (kept : new.levels ≡ mid.levels) (none : new.counts.came ≡ mid.counts.came) where
+    module _ (new : State) (kept : new.limits ≡ mid.limits) (none : new.counts.came ≡ mid.counts.came) where
       Failed-asked : Came t [] u → u.failures ≡ t.failures → FailedAfter new (b ++ k.more.filled) → Failed b k.more.filled old new s u
-      Failed-asked c f h = record { came = Came-none c; received = Received-no_more new (none ∙ same); needed = rw (kept ∙ levels) k.needed; failed = h; failures = f ∙ k.more.failures }
+      Failed-asked c f h = record { came = Came-none c; received = Received-no_more new (none ∙ same); needed = rw (kept ∙ limits) k.needed; failed = h; failures = f ∙ k.more.failures }
 
       pub CannotParse-asked : (e : RedisError) → CannotFill (b ++ k.more.filled) e new t u → CannotParse b e old new s u
       CannotParse-asked e (CannotFill.early_end i c end f h) = CannotParse.early_end k.more.filled i (rw kept w.0) (λ obs. end (observable obs)) (Failed-asked c f h)
@@ -71,13 +70,13 @@ module _ (b : List ℕ) (old p : State) (s t : Source) (k : FilledAsNeeded b old
         filled = k.more.filled;
         came = Came-none c;
         received = Received-no_more new (none ∙ same);
-        unfinished = rw kept w.0;
+        awaits = rw kept w.0;
         stands = h;
         failures = rw (← k.more.failures) f;
       })
       CannotParse-asked e (CannotFill.out_of_memory i c f h) = CannotParse.out_of_memory k.more.filled i (Failed-asked c f h)
 
-  pub CannotParse-failed : (new : State) (e : RedisError) → new.levels ≡ old.levels → new.counts.came ≡ p.counts.came → e ≡ form.OutOfMemory → FailedAfter new (b ++ k.more.filled) → CannotParse b e old new s t
+  pub CannotParse-failed : (new : State) (e : RedisError) → new.limits ≡ old.limits → new.counts.came ≡ p.counts.came → e ≡ form.OutOfMemory → FailedAfter new (b ++ k.more.filled) → CannotParse b e old new s t
   CannotParse-failed new e d z i h = CannotParse.out_of_memory k.more.filled i (Failed-taken new d z h)
 
 -- a reader that was used up, as the source that counted its failures

@@ -1,5 +1,5 @@
 -- What reading gives is what stands at the start.
-use Rattle.std.proofs.Common.{◌≡◌, ℕ, ◌+◌, ◌≤◌, List, ◌++◌, length, take, ap, sym, ◌∙◌, subst, arith}
+use Rattle.std.proofs.Common.{◌≡◌, ℕ, ◌+◌, ◌≤◌, List, ◌++◌, length, take, ap, sym, ◌∙◌, subst, append_assoc, arith}
 use Rattle.std.proofs.lemmas.Grind.{common_steps}
 use Rattle.resp_value.specs.declared.value.Value.{Value}
 use Rattle.resp_errors.specs.declared.kinds.FrameFault.{FrameFault}
@@ -37,6 +37,9 @@ FaultShownBy-longer d b more n h =
     let l : n ≤ length b = h.within in
     let same : take n (b ++ more) ≡ take n b = grind (arith, common_steps) in
     record { within = grind (arith, common_steps); fault = h.fault; faulty = subst (λ x. Faulty d x h.fault) (sym same) h.faulty }
+
+pub HasFaultyPrefix-longer : (d : ℕ) (b more : List ℕ) (f : FrameFault) → HasFaultyPrefix d b f → HasFaultyPrefix d (b ++ more) f
+HasFaultyPrefix-longer d b more f h = record { prefix = h.prefix; rest = h.rest ++ more; whole = ap (λ z. z ++ more) h.whole ∙ append_assoc h.prefix h.rest more; faulty = h.faulty }
 
 no_value : (d : ℕ) (b : List ℕ) → read d b ≡ unfinished → (v : Value) (rest : List ℕ) → HasGoodPrefix d b v rest → ⊥
 no_value d b e v rest h = let k : unfinished ≡ got v rest = sym e ∙ read-from_HasGood d b rest v h in cc

@@ -2,7 +2,6 @@
 use Rattle.std.specs.Prelude.{◌≡◌, ◌≤◌, ◌+◌, ◌*◌, ℕ, false, List, length, drop, Result, Ok, Err}
 use Rattle.resp_parse.specs.Tally.{Tally}
 use Rattle.resp_parse.specs.State.{State}
-use Rattle.resp_parse.specs.Prefixes.{SpelledWithin}
 
 -- the buffered bytes that were not looked at
 abbrev pub not_looked_at : State → List ℕ
@@ -10,11 +9,11 @@ not_looked_at s = drop s.looked s.unparsed
 
 -- all bytes that came were looked at or are kept to be looked at; and three times the values built
 -- for the value in progress is at most the bytes of it that were looked at, whatever lengths are
--- announced; and these are at most 2^63 - 1
+-- announced; and these are at most as many as may spell a value
 pub record WorksWithin (s : State) : Type 0 where
   pub accounted : s.counts.taken + length (not_looked_at s) ≡ s.counts.came
   pub built : 3 * s.built + length (not_looked_at s) ≤ length s.since
-  pub spelled : SpelledWithin s.since (not_looked_at s)
+  pub spelled : length s.since ≤ s.limits.bytes + length (not_looked_at s)
 
 -- the turns are at most four for three bytes that were looked at and one for each call: where only
 -- lines came, too few to look at each byte twice; of these, the looks at a byte of a line are at most
@@ -25,7 +24,7 @@ pub record Bounded (s : State) : Type 0 where
   pub turns : 3 * s.counts.turns ≤ 4 * s.counts.taken + 3 * s.counts.calls
   pub looks : s.counts.looks ≤ s.counts.taken
   pub taken : s.counts.taken ≤ s.counts.came
-  pub frames : s.frames ≤ s.levels
+  pub frames : s.frames ≤ s.limits.depth
   pub works : s.failed ≡ false → WorksWithin s
 
 -- n bytes were fed by one call

@@ -8,7 +8,8 @@ use Rattle.resp_errors.specs.declared.kinds.IoKind.TheVariants.{UnexpectedEof}
 use Rattle.resp_errors.specs.declared.parsing_error.ParsingError.TheVariants as parsing
 use Rattle.resp_errors.specs.declared.redis_error.RedisError.{RedisError}
 use Rattle.resp_errors.specs.declared.redis_error.RedisError.TheVariants as form
-use Rattle.resp_parse.specs.Prefixes.{HasGoodPrefix, HasFaultyPrefix, IsUnfinished, SpelledWithin}
+use Rattle.resp_parse.specs.declared.limits.Limits.{Limits}
+use Rattle.resp_parse.specs.Limited.{HasValue, HasFault, Awaits}
 use Rattle.resp_parse.specs.State.{State, StandsAfter, FailedAfter, IsBetweenValues}
 use Rattle.resp_parse.specs.Source.{Source, Came, FailureCounted, source_of}
 
@@ -21,17 +22,16 @@ Feeds b bytes old new (Err e) = (e ≡ form.OutOfMemory) × (new ≡ old)
 
 -- Taking a value.
 
--- why no value can be taken, now or later, where values are read down to d levels
-pub data CannotTake (d : ℕ) (b : List ℕ) (e : RedisError) : Type 0 where
-  faulty : (f : FrameFault) → e ≡ form.Parse (parsing.Fault f) → HasFaultyPrefix d b f →
-      CannotTake d b e
-  out_of_memory : e ≡ form.OutOfMemory → CannotTake d b e
+-- why no value can be taken, now or later, within the limits
+pub data CannotTake (l : Limits) (b : List ℕ) (e : RedisError) : Type 0 where
+  faulty : (f : FrameFault) → e ≡ form.Parse (parsing.Fault f) → HasFault l b f → CannotTake l b e
+  out_of_memory : e ≡ form.OutOfMemory → CannotTake l b e
 
 -- the value at the start was taken; or it is unfinished; or the parser has failed
 abbrev pub Takes : List ℕ → State → Result (Option Value) RedisError → Type 0
-Takes b new (Ok (Some v)) = HasGoodPrefix new.levels b v new.unparsed × IsBetweenValues new
-Takes b new (Ok None) = IsUnfinished new.levels b × StandsAfter new b
-Takes b new (Err e) = CannotTake new.levels b e × FailedAfter new b
+Takes b new (Ok (Some v)) = HasValue new.limits b v new.unparsed × IsBetweenValues new
+Takes b new (Ok None) = Awaits new.limits b × StandsAfter new b
+Takes b new (Err e) = CannotTake new.limits b e × FailedAfter new b
 
 -- Asking a source once.
 
@@ -69,24 +69,23 @@ Asks b old new s t (Err e) = CannotFill b e new s t
 
 -- Parsing: a source is asked as often as a value needs.
 
--- bytes were filled only while there were too few: before the last of them, up to 4,096, they were
--- unfinished, where values are read down to d levels
-pub record AsNeeded (d : ℕ) (b filled : List ℕ) : Type 0 where
+-- bytes were filled only while there were too few: before the last of them, up to 4,096, more were
+-- awaited within the limits
+pub record AsNeeded (l : Limits) (b filled : List ℕ) : Type 0 where
   pub before : List ℕ
   pub last : List ℕ
   pub whole : filled ≡ before ++ last
   pub size : length last ≤ 4096
-  pub unfinished : last ≢ [] → IsUnfinished d (b ++ before)
+  pub awaited : last ≢ [] → Awaits l (b ++ before)
 
--- the value at the start of b and what was filled, in at most 2^63 - 1 bytes: all that follows it
--- is buffered; the source counted no failure
+-- the value at the start of b and what was filled: all that follows it is buffered; the source
+-- counted no failure
 pub record Parsed (b : List ℕ) (v : Value) (old new : State) (s t : Source) : Type 0 where
   pub filled : List ℕ
   pub came : Came s filled t
   pub received : Received filled old new
-  pub needed : AsNeeded new.levels b filled
-  pub value : HasGoodPrefix new.levels (b ++ filled) v new.unparsed
-  pub spelled : SpelledWithin (b ++ filled) new.unparsed
+  pub needed : AsNeeded new.limits b filled
+  pub value : HasValue new.limits (b ++ filled) v new.unparsed
   pub rest : IsBetweenValues new
   pub failures : t.failures ≡ s.failures
 
@@ -94,16 +93,16 @@ pub record Parsed (b : List ℕ) (v : Value) (old new : State) (s t : Source) : 
 pub record Failed (b filled : List ℕ) (old new : State) (s t : Source) : Type 0 where
   pub came : Came s filled t
   pub received : Received filled old new
-  pub needed : AsNeeded new.levels b filled
+  pub needed : AsNeeded new.limits b filled
   pub failed : FailedAfter new (b ++ filled)
   pub failures : t.failures ≡ s.failures
 
--- the source failed: the parser stands after b and what was filled, which are unfinished
+-- the source failed: the parser stands after b and what was filled, after which more is awaited
 pub record StandsMidway (b : List ℕ) (old new : State) (s t : Source) : Type 0 where
   pub filled : List ℕ
   pub came : Came s filled t
   pub received : Received filled old new
-  pub unfinished : IsUnfinished new.levels (b ++ filled)
+  pub awaits : Awaits new.limits (b ++ filled)
   pub stands : StandsAfter new (b ++ filled)
   pub failures : FailureCounted s.failures t.failures
 
@@ -111,10 +110,10 @@ pub record StandsMidway (b : List ℕ) (old new : State) (s t : Source) : Type 0
 -- value; its failure; out of memory
 pub data CannotParse (b : List ℕ) (e : RedisError) (old new : State) (s t : Source) : Type 0 where
   faulty : (f : FrameFault) (filled : List ℕ) → e ≡ form.Parse (parsing.Fault f) →
-      HasFaultyPrefix new.levels (b ++ filled) f → Failed b filled old new s t →
+      HasFault new.limits (b ++ filled) f → Failed b filled old new s t →
       CannotParse b e old new s t
   early_end : (filled : List ℕ) → e ≡ form.Io UnexpectedEof →
-      IsUnfinished new.levels (b ++ filled) → (s.observable ≡ true → t.bytes ≡ []) →
+      Awaits new.limits (b ++ filled) → (s.observable ≡ true → t.bytes ≡ []) →
       Failed b filled old new s t → CannotParse b e old new s t
   source_failed : (kind : IoKind) → e ≡ form.Io kind → StandsMidway b old new s t →
       CannotParse b e old new s t

@@ -5,7 +5,7 @@ use Rattle.resp_value.specs.declared.value.Value.{Value}
 use Rattle.resp_errors.specs.declared.kinds.FrameFault.{FrameFault}
 use Rattle.resp_errors.specs.declared.kinds.FrameFault.TheVariants.{TooLong}
 use Rattle.resp_parse.specs.declared.limits.Limits.{Limits}
-use Rattle.resp_parse.specs.Grammar.{Good, Faulty, Joined}
+use Rattle.resp_parse.specs.Grammar.{Good, Joined}
 use Rattle.resp_parse.specs.Prefixes.{HasFaultyPrefix, FaultShownBy, IsUnfinished}
 
 -- the bytes spell the value, and are no more than it may have

@@ -1,5 +1,5 @@
 -- What stands at the start of bytes.
-use Rattle.std.specs.Prelude.{◌≡◌, ◌<◌, ◌≤◌, ◌+◌, ◌^◌, ℕ, List, ◌++◌, length, take}
+use Rattle.std.specs.Prelude.{◌≡◌, ◌≤◌, ℕ, List, ◌++◌, length, take}
 use Rattle.resp_value.specs.declared.value.Value.{Value}
 use Rattle.resp_errors.specs.declared.kinds.FrameFault.{FrameFault}
 use Rattle.resp_parse.specs.Grammar.{Good, Faulty}
@@ -27,7 +27,3 @@ pub record FaultShownBy (d : ℕ) (b : List ℕ) (n : ℕ) : Type 0 where
 pub record IsUnfinished (d : ℕ) (b : List ℕ) : Type 0 where
   pub no_value : (v : Value) (rest : List ℕ) → HasGoodPrefix d b v rest → ⊥
   pub no_fault : (f : FrameFault) → HasFaultyPrefix d b f → ⊥
-
--- at most 2^63 - 1 of the bytes, as many as may spell a value, come before the rest
-abbrev pub SpelledWithin : List ℕ → List ℕ → Type 0
-SpelledWithin b rest = length b < 2 ^ 63 + length rest

@@ -1,25 +1,19 @@
 -- What a parser holds.
-use Rattle.std.specs.Prelude.{◌≡◌, ◌≤◌, ℕ, Bool, true, false, List, codes, Option, None, IsSome, Result, Ok, Err}
+use Rattle.std.specs.Prelude.{◌≡◌, ℕ, Bool, true, false, List, codes, Option, None, IsSome, Result, Ok, Err}
 use Rattle.std.proofs.Props.{props}
 use Rattle.resp_parse.specs.Tally.{Tally}
+use Rattle.resp_parse.specs.declared.limits.Limits.{Limits}
 use Rattle.resp_errors.specs.declared.parsing_error.ParsingError.TheVariants as parsing
 use Rattle.resp_errors.specs.declared.redis_error.RedisError.{RedisError}
 use Rattle.resp_errors.specs.declared.redis_error.RedisError.TheVariants as form
-use Rattle.resp_errors.specs.declared.kinds.ErrorKind.TheVariants.{InvalidClientConfig}
 
--- a limit on the levels of values inside values that a parser may be given, from 1 to 1,000
-pub record IsDepthLimit (d : ℕ) : Type 0 where
-  pub some : 1 ≤ d
-  pub most : d ≤ 1000
-
--- how many levels of values inside values are read, the outermost being the first; the bytes that
--- are buffered and not yet parsed, and how many of them were looked at; those since
--- the last value that was handed out; whether the parser has failed, and after how many of these
+-- the limits on what is read as a value; the bytes that are buffered and not yet parsed, and how many
+-- of them were looked at; those since the last value that was handed out; whether the parser has failed, and after how many of these
 -- bytes a fault showed, if one was answered; how many frames are open, of
 -- aggregates whose header was read and whose elements aren't all there; of how many values these
 -- elements are built; and what the parser has done
 pub record State : Type 0 where
-  pub levels : ℕ
+  pub limits : Limits
   pub unparsed : List ℕ
   pub looked : ℕ
   pub since : List ℕ
@@ -52,10 +46,6 @@ HasOffset _ offset = offset ≡ None
 abbrev pub KeepsFaultOffset : {X : Type 0} → State → Result X RedisError → Type 0
 KeepsFaultOffset s (Ok x) = s.fault_offset ≡ None
 KeepsFaultOffset s (Err e) = HasOffset e s.fault_offset
-
--- what a parser's limit is refused with, where it may not be given
-abbrev pub limit_refused : RedisError
-limit_refused = form.General InvalidClientConfig (codes "depth limit must be 1 to 1000") None
 
 -- what a parser that has failed answers
 abbrev pub has_failed : RedisError

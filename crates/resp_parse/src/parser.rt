@@ -3,34 +3,29 @@
 ghost use Rattle.std.specs.Prelude.{◌≡◌, ◌≢◌, ◌↔◌, ◌++◌, ◌⊎◌, [], true, false, Err, List, ℕ};
 ghost use Rattle.std.specs.Prelude.{length, IsTrue, IfErr, IfOk, IsOk, OnOk, IfSome, None};
 ghost use Rattle.resp_parse.specs.State.{StandsAfter, FailedAfter, IsBetweenValues, has_failed};
-ghost use Rattle.resp_parse.specs.State.{KeepsFaultOffset, IsDepthLimit, limit_refused};
-ghost use Rattle.resp_parse.specs.Prefixes.{SpelledWithin, FaultShownBy};
+ghost use Rattle.resp_parse.specs.State.{KeepsFaultOffset};
+ghost use Rattle.resp_parse.specs.Limits.{AreLimits, IsDepthLimit, IsSizeLimit, RefusesLimits};
+ghost use Rattle.resp_parse.specs.Limits.{depth_refused, of_depth, usual};
+ghost use Rattle.resp_parse.specs.Limited.{FaultShownAt};
+ghost use Rattle.resp_parse.specs.Kept.{PassesLimit};
 ghost use Rattle.resp_parse.specs.Calls.{Feeds, Takes, Asks, Parses, ParsesReader};
 ghost use Rattle.resp_parse.specs.Bounds.{Bounded, FedBy, OneCall, CallsWithin, AskedFor};
 ghost use Rattle.resp_parse.specs.Tally.{nothing_done};
 
 use crate::counts::Counts;
+use crate::limits::{LONGEST, Limits};
 use crate::machine::Machine;
 use crate::reading::Reading;
 use crate::since::Since;
 use crate::source::ReplySource;
 use crate::stop::Stop;
-use resp_value::{ErrorKind, IoKind, ParsingError, RedisError, RedisResult, Value};
+use resp_value::{FrameFault, IoKind, ParsingError, RedisError, RedisResult, Value};
 use std::alloc::Global;
 use std::io::Read;
 use std::marker::Model;
 
-/// The depth limit where none is chosen: how many levels of values inside values are read.
-pub(crate) const LEVELS: usize = 100;
-
-/// The greatest depth limit.
-const MOST_LEVELS: usize = 1000;
-
 /// How many bytes a source is asked for at most.
 const CHUNK: usize = 4096;
-
-/// How many bytes may spell a value.
-const LONGEST: usize = isize::MAX as usize;
 
 /// A parser of replies (RESP2 and RESP3) whose bytes come in pieces.
 ///
@@ -44,12 +39,11 @@ const LONGEST: usize = isize::MAX as usize;
 /// value for each three bytes looked at, whatever lengths are announced. Contracts see these
 /// numbers in its state.
 ///
-/// Values are read down to the depth limit, the outermost being the first level: 100 levels, or as
-/// many as [`Parser::with_depth_limit`] was given. No call changes it. A value with more levels is
-/// refused as [`FrameFault::TooDeep`](resp_value::FrameFault).
-///
-/// A value may be spelled by 2^63 - 1 bytes. One byte more is refused as `OutOfMemory` when it is
-/// looked at, and not where a length is announced.
+/// Values are read within [`Limits`]: 100 levels of values inside values and 2^63 - 1 bytes, or
+/// those that [`Parser::with_limits`] was given. No call changes them. A value with more levels is
+/// refused as [`FrameFault::TooDeep`], and one that goes on past its last byte as
+/// [`FrameFault::TooLong`], when the next byte is there and not where a length is announced; of
+/// 2^63 - 1 bytes, as `OutOfMemory`.
 ///
 /// After bytes that can't begin a value, after an early end of a source, and after `OutOfMemory` in
 /// any call but `feed`, the parser has failed permanently: each later call that feeds or takes
@@ -58,6 +52,8 @@ const LONGEST: usize = isize::MAX as usize;
 pub struct Parser {
     buffer: Vec<u8>,
     consumed: usize,
+    /// How many bytes may spell a value.
+    size_limit: usize,
     /// How many bytes of the value in progress the machine took.
     spelled: usize,
     machine: Machine,
@@ -72,12 +68,12 @@ impl Model for Parser {
     ghost use Rattle.std.specs.Prelude.{drop, length};
     ghost use Rattle.resp_parse.specs.State.{State};
     ghost use Rattle.resp_parse.specs.Weights.{built_in};
-    ghost use Rattle.resp_parse.specs.Kept.{Kept};
+    ghost use Rattle.resp_parse.specs.Kept.{Kept, limits_of};
 
     ghost Value = { State };
 
     ghost view = { λ p. record {
-      levels = p.machine.levels;
+      limits = limits_of p.machine p.size_limit;
       unparsed = drop p.consumed p.buffer.items;
       looked = p.machine.scanned;
       since = p.since;
@@ -92,44 +88,66 @@ impl Model for Parser {
 }
 
 impl Parser {
-    /// A parser that holds no bytes, with a depth limit of 100 levels. Takes no memory.
+    /// A parser that holds no bytes, with the limits that are usual: 100 levels, and 2^63 - 1 bytes
+    /// for a value. Takes no memory.
     pub fn new(alloc: Global) -> Parser
-        ensures limit { result.levels ≡ 100 }
+        ensures limits { result.limits ≡ usual }
         ensures rest { IsBetweenValues result }
         ensures empty { result.unparsed ≡ [] }
         ensures bounds { Bounded result }
         ensures counts { result.counts ≡ nothing_done }
     {
-        Parser::within(alloc, LEVELS)
+        Parser::within(alloc, Limits::default())
     }
 
-    /// A parser that holds no bytes and reads values down to `limit` levels, from 1 to 1,000. Takes
-    /// no memory.
+    /// A parser that holds no bytes and reads values within these limits. Takes no memory.
     ///
-    /// Another limit is refused with kind [`ErrorKind::InvalidClientConfig`] and the text
-    /// `depth limit must be 1 to 1000`.
-    pub fn with_depth_limit(alloc: Global, limit: usize) -> RedisResult<Parser>
-        ensures accepts { IsOk result ↔ IsDepthLimit limit }
-        ensures limit { IfOk result (λ parser. parser.levels ≡ limit) }
+    /// Other limits than 1 to 1,000 levels and 1 to 2^63 - 1 bytes are refused with kind
+    /// `InvalidClientConfig` and the text `depth limit must be 1 to 1000`, or, where the depth is
+    /// right, `size limit must be 1 to 2^63 - 1 bytes`.
+    ///
+    /// ```text
+    /// let limits = Limits { depth: 8, bytes: 1_000_000 };
+    /// let mut parser = Parser::with_limits(alloc, limits)?;
+    /// ```
+    pub fn with_limits(alloc: Global, limits: Limits) -> RedisResult<Parser>
+        ensures accepts { IsOk result ↔ AreLimits limits }
+        ensures limits { IfOk result (λ parser. parser.limits ≡ limits) }
         ensures rest { IfOk result IsBetweenValues }
         ensures empty { IfOk result (λ parser. parser.unparsed ≡ []) }
         ensures bounds { IfOk result Bounded }
         ensures counts { IfOk result (λ parser. parser.counts ≡ nothing_done) }
-        ensures error { IfErr result (λ e. e ≡ limit_refused) }
+        ensures error { IfErr result (RefusesLimits limits) }
     {
-        if limit == 0 || limit > MOST_LEVELS {
-            return Err(RedisError::from((
-                ErrorKind::InvalidClientConfig,
-                "depth limit must be 1 to 1000",
-            )));
-        }
-        Ok(Parser::within(alloc, limit))
+        limits.check()?;
+        Ok(Parser::within(alloc, limits))
     }
 
-    /// A parser that holds no bytes, with this depth limit.
-    fn within(alloc: Global, levels: usize) -> Parser
-        requires limit { IsDepthLimit levels }
-        ensures limit { result.levels ≡ levels }
+    /// A parser that holds no bytes and reads values down to `limit` levels, from 1 to 1,000, of
+    /// any size: [`Parser::with_limits`] with 2^63 - 1 bytes. Takes no memory.
+    ///
+    /// Another limit is refused with kind `InvalidClientConfig` and the text
+    /// `depth limit must be 1 to 1000`.
+    pub fn with_depth_limit(alloc: Global, limit: usize) -> RedisResult<Parser>
+        ensures accepts { IsOk result ↔ IsDepthLimit limit }
+        ensures limits { IfOk result (λ parser. parser.limits ≡ of_depth limit) }
+        ensures rest { IfOk result IsBetweenValues }
+        ensures empty { IfOk result (λ parser. parser.unparsed ≡ []) }
+        ensures bounds { IfOk result Bounded }
+        ensures counts { IfOk result (λ parser. parser.counts ≡ nothing_done) }
+        ensures error { IfErr result (λ e. e ≡ depth_refused) }
+    {
+        let limits = Limits {
+            depth: limit,
+            bytes: LONGEST,
+        };
+        Parser::with_limits(alloc, limits)
+    }
+
+    /// A parser that holds no bytes, with these limits.
+    fn within(alloc: Global, limits: Limits) -> Parser
+        requires limits { AreLimits limits }
+        ensures limits { result.limits ≡ limits }
         ensures rest { IsBetweenValues result }
         ensures empty { result.unparsed ≡ [] }
         ensures bounds { Bounded result }
@@ -138,8 +156,9 @@ impl Parser {
         Parser {
             buffer: Vec::new(alloc),
             consumed: 0,
+            size_limit: limits.bytes,
             spelled: 0,
-            machine: Machine::new(alloc, levels),
+            machine: Machine::new(alloc, limits.depth),
             failed: false,
             fault_offset: None,
             since: Since::new(),
@@ -147,11 +166,22 @@ impl Parser {
         }
     }
 
-    /// How many levels of values inside values are read, the outermost being the first; from 1 to
-    /// 1,000.
+    /// The limits within which values are read.
+    pub fn limits(&self) -> Limits
+        ensures limits { result ≡ self.now.limits }
+        ensures valid { AreLimits result }
+    {
+        Limits {
+            depth: self.machine.levels,
+            bytes: self.size_limit,
+        }
+    }
+
+    /// How many levels of values inside values are read, the outermost being the first: the depth
+    /// of [`Parser::limits`].
     pub fn depth_limit(&self) -> usize
-        ensures limit { result ≡ self.now.levels }
-        ensures within { IsDepthLimit result }
+        ensures limit { result ≡ self.now.limits.depth }
+        ensures valid { IsDepthLimit result }
     {
         self.machine.levels
     }
@@ -164,7 +194,7 @@ impl Parser {
         ensures feeds { (b : List ℕ) → StandsAfter self.old b →
             Feeds b bytes.now self.old self.new result }
         ensures rest { OnOk result (IsBetweenValues self.old → IsBetweenValues self.new) }
-        ensures limit { self.new.levels ≡ self.old.levels }
+        ensures limits { self.new.limits ≡ self.old.limits }
         ensures bounds { Bounded self.new }
         ensures counts { OnOk result (FedBy (length bytes.now) self.old.counts self.new.counts) }
     {
@@ -174,10 +204,8 @@ impl Parser {
         self.compact();
         let taken_all = self.consumed == self.buffer.len();
         let lacking = if taken_all { self.machine.lacks() } else { 0 };
-        let (direct, rest) = bytes.split_at(lacking.min(bytes.len()));
-        if direct.len() > LONGEST - self.spelled {
-            return Err(RedisError::OutOfMemory);
-        }
+        let room = self.size_limit - self.spelled;
+        let (direct, rest) = bytes.split_at(lacking.min(room).min(bytes.len()));
         self.buffer.reserve(rest.len())?;
         self.machine.fill(direct, &mut self.counts)?;
         self.buffer.extend_from_slice(rest)?;
@@ -191,15 +219,13 @@ impl Parser {
     /// The next value; None while the bytes since the last one are unfinished.
     ///
     /// Bytes that can't begin a value are refused as [`RedisError::Parse`] with their
-    /// [`FrameFault`](resp_value::FrameFault); values before them are still handed out. Values are
-    /// read down to [`Parser::depth_limit`] levels, the outermost being the first.
+    /// [`FrameFault`]; values before them are still handed out. Values are read within
+    /// [`Parser::limits`].
     pub fn take_value(&mut self) -> RedisResult<Option<Value>>
         ensures failed { self.old.failed ≡ true → (result ≡ Err has_failed)
             × (self.new ≡ self.old) }
         ensures takes { (b : List ℕ) → StandsAfter self.old b → Takes b self.new result }
-        ensures spelled { (b : List ℕ) → StandsAfter self.old b →
-            OnOk result (SpelledWithin b self.new.unparsed) }
-        ensures limit { self.new.levels ≡ self.old.levels }
+        ensures limits { self.new.limits ≡ self.old.limits }
         ensures bounds { Bounded self.new }
         ensures offset { self.old.failed ≡ false → KeepsFaultOffset self.new result }
         ensures counts { self.old.failed ≡ false → OneCall self.old.counts self.new.counts }
@@ -209,23 +235,23 @@ impl Parser {
         }
         self.counts.call();
         let alloc = *self.buffer.allocator();
-        let bytes = &self.buffer[self.consumed..];
-        let limit = LONGEST - self.spelled;
+        let unparsed = &self.buffer[self.consumed..];
+        let room = self.size_limit - self.spelled;
+        let (bytes, later) = unparsed.split_at(room.min(unparsed.len()));
+        let passes = !later.is_empty();
         match self.machine.drive(alloc, bytes, &mut self.counts) {
             Ok((taken, Some(value))) => {
-                if taken > limit {
-                    self.failed = true;
-                    return Err(RedisError::OutOfMemory);
-                }
                 self.consumed += taken;
                 self.spelled = 0;
                 self.since.restart(&self.buffer[self.consumed..]);
                 Ok(Some(value))
             }
             Ok((taken, None)) => {
-                if taken + self.machine.scanned > limit {
+                if passes {
+                    let (why, offset) = too_long(self.size_limit);
                     self.failed = true;
-                    return Err(RedisError::OutOfMemory);
+                    self.fault_offset = offset;
+                    return Err(why);
                 }
                 self.consumed += taken;
                 self.spelled += taken;
@@ -257,7 +283,7 @@ impl Parser {
         ensures parses { (b : List ℕ) → StandsAfter self.old b →
             Parses b self.old self.new (S.source source.old) (S.source source.new) result }
         ensures offset { self.old.failed ≡ false → KeepsFaultOffset self.new result }
-        ensures limit { self.new.levels ≡ self.old.levels }
+        ensures limits { self.new.limits ≡ self.old.limits }
         ensures bounds { Bounded self.new }
         ensures calls { CallsWithin self.old.counts self.new.counts }
         ensures observable { (S.source source.old).observable ≡ true →
@@ -286,7 +312,7 @@ impl Parser {
         ensures parses { (b : List ℕ) → StandsAfter self.old b →
             ParsesReader R.remaining b self.old self.new reader result }
         ensures offset { self.old.failed ≡ false → KeepsFaultOffset self.new result }
-        ensures limit { self.new.levels ≡ self.old.levels }
+        ensures limits { self.new.limits ≡ self.old.limits }
         ensures bounds { Bounded self.new }
         ensures calls { CallsWithin self.old.counts self.new.counts }
     {
@@ -314,7 +340,7 @@ impl Parser {
         ensures offset { result ≡ self.now.fault_offset }
         ensures works { self.now.failed ≡ false → result ≡ None }
         ensures shows { (b : List ℕ) → FailedAfter self.now b →
-            IfSome result (FaultShownBy self.now.levels b) }
+            IfSome result (FaultShownAt self.now.limits b) }
     {
         self.fault_offset
     }
@@ -333,7 +359,7 @@ impl Parser {
         ensures asks { (b : List ℕ) → StandsAfter self.old b →
             Asks b self.old self.new (S.source source.old) (S.source source.new) result }
         ensures offset { self.new.fault_offset ≡ self.old.fault_offset }
-        ensures limit { self.new.levels ≡ self.old.levels }
+        ensures limits { self.new.limits ≡ self.old.limits }
         ensures bounds { Bounded self.new }
         ensures asked { AskedFor self.old.counts self.new.counts result }
         ensures observable { (S.source source.old).observable ≡ true →
@@ -363,7 +389,7 @@ impl Parser {
     /// From here on the parser has failed.
     fn fail(&mut self)
         ensures fails { (b : List ℕ) → StandsAfter self.old b → FailedAfter self.new b }
-        ensures limit { self.new.levels ≡ self.old.levels }
+        ensures limits { self.new.limits ≡ self.old.limits }
         ensures bounds { Bounded self.new }
         ensures offset { self.new.fault_offset ≡ self.old.fault_offset }
         ensures counts { self.new.counts ≡ self.old.counts }
@@ -389,4 +415,16 @@ fn failed_before() -> RedisError
     ensures error { result ≡ has_failed }
 {
     RedisError::Parse(ParsingError::from("parser has failed"))
+}
+
+/// What a value of more than `most` bytes is refused with, and how many bytes show its fault.
+fn too_long(most: usize) -> (RedisError, Option<usize>)
+    requires limit { IsSizeLimit most }
+    ensures refuses { PassesLimit most result.0 result.1 }
+{
+    if most == LONGEST {
+        return (RedisError::OutOfMemory, None);
+    }
+    let fault = ParsingError::Fault(FrameFault::TooLong);
+    (RedisError::Parse(fault), Some(most + 1))
 }

@@ -1,12 +1,10 @@
 //! The value at the start of bytes.
 
-ghost use Rattle.std.specs.Prelude.{[]};
 ghost use Rattle.resp_parse.specs.FirstValue.{ParsesFirst};
-ghost use Rattle.resp_parse.specs.Prefixes.{SpelledWithin};
 
 use crate::counts::Counts;
+use crate::limits::LEVELS;
 use crate::machine::Machine;
-use crate::parser::LEVELS;
 use crate::stop::Stop;
 use resp_value::{IoKind, ParsingError, RedisError, RedisResult, Value};
 use std::alloc::Global;
@@ -18,7 +16,6 @@ use std::alloc::Global;
 /// [`IoKind::UnexpectedEof`]. Values are read down to 100 levels, the outermost being the first.
 pub fn parse_redis_value(alloc: Global, bytes: &[u8]) -> RedisResult<Value>
     ensures answers { ParsesFirst bytes.now result }
-    ensures spelled { SpelledWithin bytes.now [] }
 {
     let mut machine = Machine::new(alloc, LEVELS);
     let mut counts = Counts::new();

@@ -3,7 +3,8 @@ use Rattle.std.proofs.lemmas.Grind.{common_steps}
 use Rattle.resp_parse.specs.State.{State}
 use Rattle.resp_parse.specs.Tally.{Tally}
 use Rattle.resp_parse.proofs.Asking.{Asks-out_of_memory, Asks-early_end, Asks-source_failed, Asks-filled, take-some}
-use Rattle.resp_parse.proofs.Holding.{Holds-asked, fed-fits, fed-length}
+use Rattle.resp_parse.specs.Kept.{limits_of}
+use Rattle.resp_parse.proofs.Holding.{Holds-asked, fed-fits, fed-length, fed-unparsed}
 use Rattle.resp_parse.proofs.FaultOffsets.{Placed-longer}
 use Rattle.resp_parse.proofs.Spelling.{Spelled-asked}
 use Rattle.resp_parse.proofs.Counting.{Counted-asked, Bounded-from_kept}
@@ -40,22 +41,22 @@ invariant_of-self-in-Ok g c =
     let e = c.in_ok-extend_from_slice-in-Ok.ensures.items ∙ ap (λ x. x ++ bytes) c.reserve.ensures.items in
     record {
       consumed = fed-fits c.self.inside.buffer.items c.extend_from_slice.new.self.items bytes c.self.inside.consumed c.self.invariant.consumed e;
-      limit = c.self.invariant.limit;
+      limits = c.self.invariant.limits;
       levels = c.self.invariant.levels;
-      placed = Placed-longer c.self.inside.machine.levels c.self.inside.fault_offset c.self.inside.since c.append.new.self bytes c.self.inside.failed c.append.ensures c.self.invariant.placed;
+      placed = Placed-longer (limits_of c.self.inside.machine c.self.inside.size_limit) c.self.inside.fault_offset c.self.inside.since c.append.new.self bytes c.self.inside.failed c.append.ensures c.self.invariant.placed;
       counted = (let l : length bytes ≡ c.in-Ok.n = grind (arith, common_steps) in
           Counted-asked c.self.inside.machine (drop c.self.inside.consumed c.self.inside.buffer.items) (drop c.self.inside.consumed c.extend_from_slice.new.self.items) c.in-Ok.n c.self.inside.counts c.come.new.self c.self.inside.failed
           c.self.invariant.counted c.come.ensures (fed-length c.self.inside.buffer.items c.extend_from_slice.new.self.items bytes c.self.inside.consumed c.self.invariant.consumed e ∙ ap (λ (k : ℕ). length (drop c.self.inside.consumed c.self.inside.buffer.items) + k) l));
       holds = Holds-asked c.self.inside.machine c.self.inside.buffer.items c.extend_from_slice.new.self.items c.self.inside.since c.append.new.self bytes c.self.inside.consumed c.self.inside.failed c.self.invariant.consumed
           (take-some c.in-Ok.n c.fill.new.buf c.in-Ok.n-test.1 (grind (arith, common_steps))) c.self.invariant.holds e c.append.ensures;
-      spelled = λ w. Spelled-asked c.self.inside.machine (drop c.self.inside.consumed c.self.inside.buffer.items) (drop c.self.inside.consumed c.extend_from_slice.new.self.items) c.self.inside.since c.append.new.self bytes c.self.inside.spelled
-          (c.self.invariant.spelled w) (fed-length c.self.inside.buffer.items c.extend_from_slice.new.self.items bytes c.self.inside.consumed c.self.invariant.consumed e) c.append.ensures;
+      spelled = λ w. Spelled-asked c.self.inside.size_limit c.self.inside.machine (drop c.self.inside.consumed c.self.inside.buffer.items) (drop c.self.inside.consumed c.extend_from_slice.new.self.items) c.self.inside.since c.append.new.self bytes c.self.inside.spelled
+          (c.self.invariant.spelled w) (fed-unparsed c.self.inside.buffer.items c.extend_from_slice.new.self.items bytes c.self.inside.consumed c.self.invariant.consumed e) c.append.ensures;
     }
 
 pub returns-in_ok-extend_from_slice-in-Ok-clause-bounds : goal.returns-in_ok-extend_from_slice-in-Ok-clause-bounds
-returns-in_ok-extend_from_slice-in-Ok-clause-bounds g c = let k = invariant_of-self-in-Ok g c in Bounded-from_kept c.self.inside.machine (drop c.self.inside.consumed c.extend_from_slice.new.self.items) c.append.new.self c.self.inside.failed c.come.new.self c.self.inside.spelled k.levels k.holds k.counted k.spelled
+returns-in_ok-extend_from_slice-in-Ok-clause-bounds g c = let k = invariant_of-self-in-Ok g c in Bounded-from_kept c.self.inside.size_limit c.self.inside.machine (drop c.self.inside.consumed c.extend_from_slice.new.self.items) c.append.new.self c.self.inside.failed c.come.new.self c.self.inside.spelled k.levels k.holds k.counted k.spelled
 
 pub returns-in-Err-clause-bounds : goal.returns-in-Err-clause-bounds
 returns-in-Err-clause-bounds g c =
     rw c.reserve.ensures.items
-    (Bounded-from_kept c.self.inside.machine (drop c.self.inside.consumed c.self.inside.buffer.items) c.self.inside.since c.self.inside.failed c.self.inside.counts c.self.inside.spelled c.self.invariant.levels c.self.invariant.holds c.self.invariant.counted c.self.invariant.spelled)
+    (Bounded-from_kept c.self.inside.size_limit c.self.inside.machine (drop c.self.inside.consumed c.self.inside.buffer.items) c.self.inside.since c.self.inside.failed c.self.inside.counts c.self.inside.spelled c.self.invariant.levels c.self.invariant.holds c.self.invariant.counted c.self.invariant.spelled)
