@@ -18,8 +18,9 @@ pub(crate) const LONGEST: usize = isize::MAX as usize;
 
 /// How deep and how long a value may be that is read.
 ///
-/// A peer that goes on sending makes a parser hold the value in progress. It holds at most 24 times
-/// the limit on the size, and some 100 bytes for each level.
+/// A peer that goes on sending makes a parser hold the value in progress, in more memory than it
+/// has bytes: a null takes three bytes to send and as many to keep as a [`Value`](resp_value::Value) has. So whoever
+/// reads from strangers chooses limits.
 #[derive(Clone, Copy, PartialEq, Eq, Debug)]
 pub struct Limits {
     /// How many levels of values inside values are read, the outermost being the first: 1 to 1,000.
