@@ -6,7 +6,10 @@
 //! packed alone into a buffer at hand; `big`, one of an argument of 1 MiB, built and packed;
 //! `big-only`, the same, packed alone; `pipe`, a pipeline of 1,000 of the first.
 //!
-//! Each does one round untimed and then ROUNDS timed ones, and prints how many replies or
+//! `resp_bench hold FILE PIECE LIMIT` feeds them to a parser of values of at most LIMIT bytes and
+//! 1,000 levels, until it refuses, and prints why: what memory that takes shows from outside.
+//!
+//! Each of the others does one round untimed and then ROUNDS timed ones, and prints how many replies or
 //! commands a round reads or packs, how many bytes those are, and the nanoseconds of CPU time
 //! of the best timed round, 0 if there is none. The exit status is 1 for wrong words, and 2
 //! where the file can't be read or a call is refused.
@@ -17,7 +20,7 @@ mod parsing;
 
 use packing::{Load, Packing, pack_round};
 use parsing::parse_round;
-use resp_core::RedisResult;
+use resp_core::{Limits, RedisResult};
 use std::process::ExitCode;
 use std::time::CpuClock;
 use std::{env, fs, io};
@@ -46,6 +49,7 @@ fn run(rt: &HostRuntime) -> u8 {
             };
             match task.as_str() {
                 "parse" => parse(rt, what.as_str(), size, rounds),
+                "hold" => hold(rt, what.as_str(), size, rounds as usize),
                 "pack" => pack(rt, what.as_str(), size, rounds),
                 _ => 1,
             }
@@ -71,18 +75,39 @@ fn parse(rt: &HostRuntime, file: &str, piece: usize, rounds: u64) -> u8 {
 }
 
 fn parse_rounds(rt: &HostRuntime, bytes: &[u8], piece: usize, rounds: u64) -> u8 {
-    let Ok(round) = parse_round(rt.alloc(), bytes, piece) else {
+    let Ok(round) = parse_round(rt.alloc(), Limits::default(), bytes, piece) else {
         return 2;
     };
     let mut best = None;
     for _ in 0..rounds {
         let start = now(rt);
-        let Ok(_) = parse_round(rt.alloc(), bytes, piece) else {
+        let Ok(_) = parse_round(rt.alloc(), Limits::default(), bytes, piece) else {
             return 2;
         };
         best = quicker(best, now(rt).saturating_sub(start));
     }
     print(rt, round, best)
+}
+
+fn hold(rt: &HostRuntime, file: &str, piece: usize, limit: usize) -> u8 {
+    let Ok(bytes) = fs::read(rt, file) else {
+        return 2;
+    };
+    let limits = Limits {
+        depth: 1000,
+        bytes: limit,
+    };
+    let refusal = match parse_round(rt.alloc(), limits, bytes.as_slice(), piece) {
+        Ok(_) => "none",
+        Err(error) => match error.frame_fault() {
+            Some(fault) => fault.text(),
+            None => error.category(),
+        },
+    };
+    match println!(rt; "{refusal}") {
+        Ok(()) => 0,
+        Err(_) => 2,
+    }
 }
 
 fn pack(rt: &HostRuntime, what: &str, count: usize, rounds: u64) -> u8 {

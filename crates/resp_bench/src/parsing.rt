@@ -1,7 +1,7 @@
 //! Rounds of parsing.
 
 use crate::Round;
-use resp_core::{Parser, RedisResult, Value};
+use resp_core::{Limits, Parser, RedisResult, Value};
 use std::alloc::Global;
 
 /// How many bytes are fed at a time where nothing is said of it.
@@ -9,9 +9,14 @@ const PIECE: usize = 16_384;
 
 /// Feeds all of the bytes piece by piece, and takes and drops each value as soon as it is whole.
 #[inline(never)]
-pub fn parse_round(alloc: Global, bytes: &[u8], piece: usize) -> RedisResult<Round> {
+pub fn parse_round(
+    alloc: Global,
+    limits: Limits,
+    bytes: &[u8],
+    piece: usize,
+) -> RedisResult<Round> {
     let piece = if piece == 0 { PIECE } else { piece };
-    let mut parser = Parser::new(alloc);
+    let mut parser = Parser::with_limits(alloc, limits)?;
     let mut units: u64 = 0;
     for part in bytes.chunks(piece) {
         parser.feed(part)?;

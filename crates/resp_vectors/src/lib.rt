@@ -24,3 +24,5 @@ mod pieces;
 mod pipelines;
 #[cfg(test)]
 mod replies;
+#[cfg(test)]
+mod sizes;
