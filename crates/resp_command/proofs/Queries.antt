@@ -119,13 +119,13 @@ module _ {X : Type 0} (old new : Connection) (c : Command) (Of : Value → X →
   pub command_refused : (sent : Result Value RedisError) (e : RedisError) → sent ≡ Err e → CommandCall old new c sent (λ reply. sent ≡ Ok reply) → CommandQuery old new c Of (Err e)
   command_refused sent e is h = record {
     reads_only = packed_reads_only c.args;
-    takes_one = takes_one_thing old.levels (needed c) (incoming old);
+    takes_one = takes_one_thing old.limits (needed c) (incoming old);
     call = call_err old new (packed c.args) (needed c) (ReplyIs (Err e)) _ _ e (none_answered e) (rw is at h);
   }
 
   pub command_answered : (sent : Result Value RedisError) (v : Value) (r : Result X RedisError) → sent ≡ Ok v → Answers Of r v → CommandCall old new c sent (λ reply. sent ≡ Ok reply) → CommandQuery old new c Of r
   command_answered sent v r is answer h = record {
     reads_only = packed_reads_only c.args;
-    takes_one = takes_one_thing old.levels (needed c) (incoming old);
+    takes_one = takes_one_thing old.limits (needed c) (incoming old);
     call = call_ok old new (packed c.args) (needed c) (ReplyIs (Ok v)) _ _ v r (λ replies _. reply_answered Of v r answer replies) (rw is at h);
   }

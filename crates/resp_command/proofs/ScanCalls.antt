@@ -57,7 +57,7 @@ module _ {X : Type 0} (n : ℕ) (Of : Value → X → Type 0) (old new : Connect
   first_failed answer e is h = record {
     answer = answer;
     reads_only = packed_reads_only c.args;
-    takes_one = takes_one_thing old.levels (needed c) (incoming old);
+    takes_one = takes_one_thing old.limits (needed c) (incoming old);
     call = h;
     gives = rw is refl;
   }
@@ -66,7 +66,7 @@ module _ {X : Type 0} (n : ℕ) (Of : Value → X → Type 0) (old new : Connect
   first_read answer reply given is h read = record {
     answer = answer;
     reads_only = packed_reads_only c.args;
-    takes_one = takes_one_thing old.levels (needed c) (incoming old);
+    takes_one = takes_one_thing old.limits (needed c) (incoming old);
     call = h;
     gives = rw is read;
   }
@@ -76,7 +76,7 @@ module _ {X : Type 0} (n : ℕ) (Of : Value → X → Type 0) (old new : Connect
     later_failed answer e is h = record {
       answer = answer;
       reads_only = packed_reads_only (with_cursor u c).args;
-      takes_one = takes_one_thing old.levels 1 (incoming old);
+      takes_one = takes_one_thing old.limits 1 (incoming old);
       sends = h;
       gives = rw is refl;
     }
@@ -85,7 +85,7 @@ module _ {X : Type 0} (n : ℕ) (Of : Value → X → Type 0) (old new : Connect
     later_read answer reply given is h read = record {
       answer = answer;
       reads_only = packed_reads_only (with_cursor u c).args;
-      takes_one = takes_one_thing old.levels 1 (incoming old);
+      takes_one = takes_one_thing old.limits 1 (incoming old);
       sends = h;
       gives = rw is read;
     }

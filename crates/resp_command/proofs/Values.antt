@@ -3,9 +3,9 @@ use Rattle.std.proofs.Common.{◌≡◌, ℕ, ◌+◌, None, Some, is_none, List
 use Rattle.std.proofs.lemmas.List.Elements.{filter-append, filter_map-append}
 use Rattle.resp_value.specs.declared.value.Value.{Value, Push, the_lemmas}
 use Rattle.resp_value.specs.declared.names.PushKind.{PushKind}
-use Rattle.resp_parse.specs.Grammar.{Good, Joined}
-use Rattle.resp_parse.specs.Prefixes.{HasGoodPrefix}
-use Rattle.resp_parse.specs.Reads.{Reads}
+use Rattle.resp_parse.specs.declared.limits.Limits.{Limits}
+use Rattle.resp_parse.specs.Grammar.{Joined}
+use Rattle.resp_parse.specs.Limited.{GoodWithin, ReadsWithin, HasValue}
 use Rattle.resp_command.specs.Taken.{as_push, replies_in, pushes_in, PrefixReads, EndsAtReply}
 
 -- a push is one
@@ -22,24 +22,24 @@ Joined-append P x y (v ∷ vs) ws j h = record {
   others_are = Joined-append P j.others y vs ws j.others_are h;
 }
 
-pub reads_nothing : (d : ℕ) (b : List ℕ) → PrefixReads d b [] b
-unfolding Reads
-reads_nothing d b = record { prefix = []; whole = refl; reads = refl }
+pub reads_nothing : (l : Limits) (b : List ℕ) → PrefixReads l b [] b
+unfolding ReadsWithin
+reads_nothing l b = record { prefix = []; whole = refl; reads = refl }
 
-pub reads_one : (d : ℕ) (b rest : List ℕ) (v : Value) → HasGoodPrefix d b v rest → PrefixReads d b (v ∷ []) rest
-unfolding Reads
-reads_one d b rest v h = record {
+pub reads_one : (l : Limits) (b rest : List ℕ) (v : Value) → HasValue l b v rest → PrefixReads l b (v ∷ []) rest
+unfolding ReadsWithin
+reads_one l b rest v h = record {
   prefix = h.prefix;
   whole = h.whole;
   reads = record { first = h.prefix; others = []; whole = sym (append-nil h.prefix); first_is = h.good; others_are = refl };
 }
 
-pub reads_both : (d : ℕ) (b mid rest : List ℕ) (vs ws : List Value) → PrefixReads d b vs mid → PrefixReads d mid ws rest → PrefixReads d b (vs ++ ws) rest
-unfolding Reads
-reads_both d b mid rest vs ws h k = record {
+pub reads_both : (l : Limits) (b mid rest : List ℕ) (vs ws : List Value) → PrefixReads l b vs mid → PrefixReads l mid ws rest → PrefixReads l b (vs ++ ws) rest
+unfolding ReadsWithin
+reads_both l b mid rest vs ws h k = record {
   prefix = h.prefix ++ k.prefix;
   whole = h.whole ∙ ap (λ s. h.prefix ++ s) k.whole ∙ sym (append_assoc h.prefix k.prefix rest);
-  reads = Joined-append (Good d) h.prefix k.prefix vs ws h.reads k.reads;
+  reads = Joined-append (GoodWithin l) h.prefix k.prefix vs ws h.reads k.reads;
 }
 
 pub replies_in-append : (vs ws : List Value) → replies_in (vs ++ ws) ≡ replies_in vs ++ replies_in ws

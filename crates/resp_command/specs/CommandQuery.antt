@@ -14,5 +14,5 @@ use Rattle.resp_command.specs.Taken.{TakesOneThing}
 pub record CommandQuery {X : Type 0} (old new : Connection) (c : Command)
     (of_value : Value → X → Type 0) (result : Result X RedisError) : Type 0 where
   pub reads_only : LawOfPacking c.args
-  pub takes_one : TakesOneThing old.levels (needed c) (incoming old)
+  pub takes_one : TakesOneThing old.limits (needed c) (incoming old)
   pub call : CommandCall old new c result (Answers of_value result)

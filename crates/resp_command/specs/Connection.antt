@@ -8,7 +8,9 @@ use Rattle.resp_errors.specs.declared.parsing_error.ParsingError.TheVariants.{Fa
 use Rattle.resp_errors.specs.declared.redis_error.RedisError.{RedisError}
 use Rattle.resp_errors.specs.declared.redis_error.RedisError.TheVariants.{Io, Parse, OutOfMemory}
 use Rattle.resp_parse.specs.Source.{FailureCounted}
-use Rattle.resp_parse.specs.Prefixes.{IsUnfinished}
+use Rattle.resp_parse.specs.declared.limits.Limits.{Limits}
+use Rattle.resp_parse.specs.Limits.{usual}
+use Rattle.resp_parse.specs.Limited.{Awaits}
 use Rattle.resp_command.specs.Taken.{Taken, took, met_fault, ended_early, PrefixReads, ListsPushes, pushes_in, replies_in}
 
 pub record Connection : Type 0 where
@@ -26,8 +28,8 @@ pub record Connection : Type 0 where
   -- the pushes that were set aside and aren't taken
   pub pushes : List PushInfo
   pub broken : Bool
-  -- how many levels of values inside values are read
-  pub levels : ℕ
+  -- how deep and how long the values may be that are read
+  pub limits : Limits
   pub source_failures : ℕ
   pub sink_failures : ℕ
 
@@ -36,7 +38,7 @@ abbrev pub incoming : Connection → List ℕ
 incoming c = c.received ++ c.to_come
 
 -- a connection that isn't observable and takes one command at a time: only whether it is broken is
--- known, since what is said of bytes and levels is said of observable connections alone
+-- known, since what is said of bytes and limits is said of observable connections alone
 abbrev pub unobservable : Bool → Connection
 unobservable broken = record {
   observable = false;
@@ -47,7 +49,7 @@ unobservable broken = record {
   to_come = [];
   pushes = [];
   broken = broken;
-  levels = 0;
+  limits = usual;
   source_failures = 0;
   sink_failures = 0;
 }
@@ -56,7 +58,7 @@ unobservable broken = record {
 pub record SameKind (old new : Connection) : Type 0 where
   pub observable : old.observable ≡ true → new.observable ≡ true
   pub pipelines : new.pipelines ≡ old.pipelines
-  pub levels : new.levels ≡ old.levels
+  pub limits : new.limits ≡ old.limits
 
 -- what was sent grew by a prefix of the request
 pub record SentPrefix (old new q : List ℕ) : Type 0 where
@@ -87,7 +89,7 @@ pub record Replied (old new : Connection) (q : List ℕ) (n : ℕ)
   pub pushes : List PushInfo
   pub enough : length replies ≡ n
   pub sent : Sent old new q
-  pub takes : old.observable ≡ true → Taken old.levels n (incoming old) (took replies pushes (incoming new))
+  pub takes : old.observable ≡ true → Taken old.limits n (incoming old) (took replies pushes (incoming new))
   pub listed : new.pushes ≡ old.pushes ++ pushes
   pub usable : new.broken ≡ false
   pub no_failure : NoFailure old new
@@ -99,7 +101,7 @@ pub record FaultMet {A : Type 0} (old new : Connection) (q : List ℕ) (n : ℕ)
   pub frame_fault : FrameFault
   pub pushes : List PushInfo
   pub sent : Sent old new q
-  pub takes : old.observable ≡ true → Taken old.levels n (incoming old) (met_fault frame_fault pushes)
+  pub takes : old.observable ≡ true → Taken old.limits n (incoming old) (met_fault frame_fault pushes)
   pub listed : new.pushes ≡ old.pushes ++ pushes
   pub broken : new.broken ≡ true
   pub no_failure : NoFailure old new
@@ -110,7 +112,7 @@ pub record EndedEarly {A : Type 0} (old new : Connection) (q : List ℕ) (n : �
     (result : Result A RedisError) : Type 0 where
   pub pushes : List PushInfo
   pub sent : Sent old new q
-  pub takes : old.observable ≡ true → Taken old.levels n (incoming old) (ended_early pushes)
+  pub takes : old.observable ≡ true → Taken old.limits n (incoming old) (ended_early pushes)
   pub listed : new.pushes ≡ old.pushes ++ pushes
   pub broken : new.broken ≡ true
   pub no_failure : NoFailure old new
@@ -140,10 +142,10 @@ pub record SinkFailed {A : Type 0} (old new : Connection) (q : List ℕ)
 -- received after them is unfinished
 pub record TookTooFew (n : ℕ) (old new : Connection) (pushes : List PushInfo) : Type 0 where
   pub values : List Value
-  pub taken : PrefixReads old.levels (incoming old) values (incoming new)
+  pub taken : PrefixReads old.limits (incoming old) values (incoming new)
   pub few : length (replies_in values) < n
   pub pushes_are : pushes ≡ pushes_in values
-  pub unfinished : IsUnfinished old.levels new.received
+  pub unfinished : Awaits old.limits new.received
 
 -- the source failed: the request was sent, and too little was received for n replies
 pub record SourceFailed {A : Type 0} (old new : Connection) (q : List ℕ) (n : ℕ)
@@ -161,7 +163,7 @@ pub record SourceFailed {A : Type 0} (old new : Connection) (q : List ℕ) (n : 
 -- found no room
 pub record TookSome (old new : Connection) (pushes : List PushInfo) : Type 0 where
   pub values : List Value
-  pub taken : PrefixReads old.levels (incoming old) values (incoming new)
+  pub taken : PrefixReads old.limits (incoming old) values (incoming new)
   pub listed : ListsPushes values pushes
 
 -- the connection is broken, and a part of the request was sent; the pushes among what was taken

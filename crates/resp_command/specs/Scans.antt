@@ -43,7 +43,7 @@ module _ {X : Type 0} (n : ℕ) (Of : Value → X → Type 0) where
   pub record FirstRequest (old new : Connection) (c : Command) (given : Given X) : Type 0 where
     pub answer : Result Value RedisError
     pub reads_only : LawOfPacking c.args
-    pub takes_one : TakesOneThing old.levels (needed c) (incoming old)
+    pub takes_one : TakesOneThing old.limits (needed c) (incoming old)
     pub call : CommandCall old new c answer (λ reply. answer ≡ Ok reply)
     pub gives : Gives IsFirstPage n Of answer given
 
@@ -57,7 +57,7 @@ module _ {X : Type 0} (n : ℕ) (Of : Value → X → Type 0) where
       Type 0 where
     pub answer : Result Value RedisError
     pub reads_only : LawOfPacking (with_cursor cursor c).args
-    pub takes_one : TakesOneThing old.levels 1 (incoming old)
+    pub takes_one : TakesOneThing old.limits 1 (incoming old)
     pub sends : Sends old new (request c cursor) answer
     pub gives : Gives IsPage n Of answer given
 

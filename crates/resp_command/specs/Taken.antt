@@ -4,8 +4,8 @@ use Rattle.resp_value.specs.declared.value.Value.{Value, out-Value}
 use Rattle.resp_value.specs.declared.value.Value.TheOpen.{Value-F}
 use Rattle.resp_value.specs.declared.value.PushInfo.{PushInfo}
 use Rattle.resp_errors.specs.declared.kinds.FrameFault.{FrameFault}
-use Rattle.resp_parse.specs.Prefixes.{HasFaultyPrefix, IsUnfinished}
-use Rattle.resp_parse.specs.Reads.{Reads}
+use Rattle.resp_parse.specs.declared.limits.Limits.{Limits}
+use Rattle.resp_parse.specs.Limited.{ReadsWithin, HasFault, Awaits}
 
 -- the push that a value is, if it is one
 abbrev pub as_push_in : Value-F Value → Option PushInfo
@@ -22,11 +22,11 @@ pushes_in = filter_map as_push
 abbrev pub replies_in : List Value → List Value
 replies_in = filter (λ v. is_none (as_push v))
 
--- a prefix of the bytes reads as these values, of up to d levels, and the rest follows it
-pub record PrefixReads (d : ℕ) (b : List ℕ) (values : List Value) (rest : List ℕ) : Type 0 where
+-- a prefix of the bytes reads as these values, each within the limits, and the rest follows it
+pub record PrefixReads (l : Limits) (b : List ℕ) (values : List Value) (rest : List ℕ) : Type 0 where
   pub prefix : List ℕ
   pub whole : b ≡ prefix ++ rest
-  pub reads : Reads d prefix values
+  pub reads : ReadsWithin l prefix values
 
 -- the pushes among values, of which the last may be a push that found no room in the list
 pub data ListsPushes (values : List Value) (pushes : List PushInfo) : Type 0 where
@@ -49,32 +49,32 @@ pub data Taking : Type 0 where
   ended_early : (pushes : List PushInfo) → Taking
 
 -- the least prefix that holds n replies
-pub record TakesAll (d n : ℕ) (b : List ℕ) (replies : List Value) (pushes : List PushInfo)
-    (rest : List ℕ) : Type 0 where
+pub record TakesAll (l : Limits) (n : ℕ) (b : List ℕ) (replies : List Value)
+    (pushes : List PushInfo) (rest : List ℕ) : Type 0 where
   pub values : List Value
-  pub prefix : PrefixReads d b values rest
+  pub prefix : PrefixReads l b values rest
   pub ends : EndsAtReply n values
   pub replies_are : replies ≡ replies_in values
   pub pushes_are : pushes ≡ pushes_in values
 
 -- values that hold fewer than n replies, and then something else
-pub record TakesFewer (d n : ℕ) (b : List ℕ) (pushes : List PushInfo)
+pub record TakesFewer (l : Limits) (n : ℕ) (b : List ℕ) (pushes : List PushInfo)
     (After : List ℕ → Type 0) : Type 0 where
   pub values : List Value
   pub rest : List ℕ
-  pub prefix : PrefixReads d b values rest
+  pub prefix : PrefixReads l b values rest
   pub few : length (replies_in values) < n
   pub pushes_are : pushes ≡ pushes_in values
   pub follows : After rest
 
--- by a reader of values of up to d levels
-unfoldable pub Taken : ℕ → ℕ → List ℕ → Taking → Type 0
-Taken d n b (took replies pushes rest) = TakesAll d n b replies pushes rest
-Taken d n b (met_fault f pushes) = TakesFewer d n b pushes (λ rest. HasFaultyPrefix d rest f)
-Taken d n b (ended_early pushes) = TakesFewer d n b pushes (IsUnfinished d)
+-- by a reader with limits
+unfoldable pub Taken : Limits → ℕ → List ℕ → Taking → Type 0
+Taken l n b (took replies pushes rest) = TakesAll l n b replies pushes rest
+Taken l n b (met_fault f pushes) = TakesFewer l n b pushes (λ rest. HasFault l rest f)
+Taken l n b (ended_early pushes) = TakesFewer l n b pushes (Awaits l)
 
--- whatever bytes come: n replies of up to d levels take one thing from them, and nothing else
-pub record TakesOneThing (d n : ℕ) (b : List ℕ) : Type 0 where
+-- whatever bytes come: n replies within the limits take one thing from them, and nothing else
+pub record TakesOneThing (l : Limits) (n : ℕ) (b : List ℕ) : Type 0 where
   pub taking : Taking
-  pub taken : Taken d n b taking
-  pub only : (other : Taking) → Taken d n b other → other ≡ taking
+  pub taken : Taken l n b taking
+  pub only : (other : Taking) → Taken l n b other → other ≡ taking

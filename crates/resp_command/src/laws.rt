@@ -3,6 +3,7 @@
 ghost use Rattle.std.specs.Prelude.{◌≡◌, ℕ, List};
 ghost use Rattle.resp_command.specs.ShownArgs.{arg_eq};
 ghost use Rattle.resp_args.specs.Args.{Args};
+ghost use Rattle.resp_parse.specs.declared.limits.Limits.{Limits};
 ghost use Rattle.resp_command.specs.PackingLaw.{LawOfPacking, LawOfRequests};
 ghost use Rattle.resp_command.specs.ScanLaw.{LawOfScans};
 ghost use Rattle.resp_command.specs.Taken.{TakesOneThing};
@@ -25,7 +26,7 @@ pub fn law_of_requests()
 /// From any bytes n replies take one thing, and nothing else: the replies with the pushes before
 /// the last of them and the rest; or a fault, or an early end, and the pushes before it.
 pub fn law_of_taking()
-    ensures { (d n : ℕ) (b : List ℕ) → TakesOneThing d n b }
+    ensures { (l : Limits) (n : ℕ) (b : List ℕ) → TakesOneThing l n b }
 {}
 
 /// A scan that is called until it answers nothing made requests one after another, each with the
