@@ -6,7 +6,7 @@ use Rattle.resp_errors.specs.declared.kinds.IoKind.{IoKind}
 use Rattle.resp_errors.specs.declared.kinds.FrameFault.{FrameFault}
 use Rattle.resp_errors.specs.declared.redis_error.RedisError.{RedisError}
 use Rattle.resp_errors.specs.declared.redis_error.RedisError.TheVariants.{Io}
-use Rattle.resp_parse.specs.Prefixes.{HasFaultyPrefix, IsUnfinished}
+use Rattle.resp_parse.specs.Limited.{HasFault, Awaits}
 use Rattle.resp_link.specs.Linking.{connection_of, Exchanges}
 use Rattle.resp_link.specs.Sink.{Sink, SendsAll}
 use Rattle.resp_command.specs.Taken.{Taken, took, met_fault, ended_early, pushes_in, replies_in, PrefixReads, all, all_but_last}
@@ -22,19 +22,19 @@ both_true false b h = (h, cc)
 and_true : (a b : Bool) → a ≡ true → b ≡ true → (a && b) ≡ true
 and_true a b h k = rw (h, k) refl
 
-taken_got : (n : ℕ) (i i' : Inflow) (replies : List Value) (r : Receives n i i' replies) → i.observable ≡ true → Taken i.levels n (inflowing i) (took replies (pushes_in r.values) (inflowing i'))
+taken_got : (n : ℕ) (i i' : Inflow) (replies : List Value) (r : Receives n i i' replies) → i.observable ≡ true → Taken i.limits n (inflowing i) (took replies (pushes_in r.values) (inflowing i'))
 unfolding Taken
 taken_got n i i' replies r obs = record { values = r.values; prefix = r.on.prefix obs; ends = r.ends; replies_are = r.replies_are; pushes_are = refl }
 
 -- what was read before it stopped
 module _ (n : ℕ) (i i' : Inflow) (e : RedisError) (r : CannotReceive n i i' e) (few : length (replies_in r.values) < n) where
-  taken_fault : (f : FrameFault) → (r.at.observable ≡ true → HasFaultyPrefix r.at.levels (inflowing r.at) f) → i.observable ≡ true → Taken i.levels n (inflowing i) (met_fault f (pushes_in r.values))
+  taken_fault : (f : FrameFault) → (r.at.observable ≡ true → HasFault r.at.limits (inflowing r.at) f) → i.observable ≡ true → Taken i.limits n (inflowing i) (met_fault f (pushes_in r.values))
   unfolding Taken
-  taken_fault f bad obs = record { values = r.values; rest = inflowing r.at; prefix = r.on.prefix obs; few = few; pushes_are = refl; follows = rw r.on.levels at bad (r.on.observable obs) }
+  taken_fault f bad obs = record { values = r.values; rest = inflowing r.at; prefix = r.on.prefix obs; few = few; pushes_are = refl; follows = rw r.on.limits at bad (r.on.observable obs) }
 
-  taken_early : (r.at.observable ≡ true → IsUnfinished r.at.levels (inflowing r.at)) → i.observable ≡ true → Taken i.levels n (inflowing i) (ended_early (pushes_in r.values))
+  taken_early : (r.at.observable ≡ true → Awaits r.at.limits (inflowing r.at)) → i.observable ≡ true → Taken i.limits n (inflowing i) (ended_early (pushes_in r.values))
   unfolding Taken
-  taken_early unfinished obs = record { values = r.values; rest = inflowing r.at; prefix = r.on.prefix obs; few = few; pushes_are = refl; follows = rw r.on.levels at unfinished (r.on.observable obs) }
+  taken_early unfinished obs = record { values = r.values; rest = inflowing r.at; prefix = r.on.prefix obs; few = few; pushes_are = refl; follows = rw r.on.limits at unfinished (r.on.observable obs) }
 
 -- what came in while nothing or everything was sent
 module _ (i i' : Inflow) (k k' : Sink) (b b' : Bool) where
@@ -42,7 +42,7 @@ module _ (i i' : Inflow) (k k' : Sink) (b b' : Bool) where
       TookTooFew n (connection_of i k b) (connection_of i' k' b') (pushes_in r.values)
   too_few n e r few awaits obs =
       let a = awaits (r.on.observable obs) in
-      record { values = r.values; taken = rw a.same at r.on.prefix obs; few = few; pushes_are = refl; unfinished = rw r.on.levels at a.unfinished }
+      record { values = r.values; taken = rw a.same at r.on.prefix obs; few = few; pushes_are = refl; unfinished = rw r.on.limits at a.unfinished }
 
   -- memory ran out once the request was sent
   midway : (n : ℕ) (q : List ℕ) (e : RedisError) → SendsAll k k' q (Ok tt) → (r : CannotReceive n i i' e) → b' ≡ true
@@ -66,15 +66,15 @@ module _ (i i' : Inflow) (k k' : Sink) (b b' : Bool) where
       let p = reads (r.on.observable obs) in
       record {
         values = r.values ++ p.push ∷ [];
-        taken = reads_both i.levels (inflowing i) (inflowing r.at) (inflowing i') r.values (p.push ∷ []) (r.on.prefix obs) (reads_one i.levels (inflowing r.at) (inflowing i') p.push (rw r.on.levels at p.prefix));
+        taken = reads_both i.limits (inflowing i) (inflowing r.at) (inflowing i') r.values (p.push ∷ []) (r.on.prefix obs) (reads_one i.limits (inflowing r.at) (inflowing i') p.push (rw r.on.limits at p.prefix));
         listed = all_but_last r.values p.push refl p.is_push refl;
       }
 
-  same_kind : (i.observable ≡ true → i'.observable ≡ true) → i'.levels ≡ i.levels → (k.observable ≡ true → k'.observable ≡ true) → SameKind (connection_of i k b) (connection_of i' k' b')
-  same_kind f levels g = record {
+  same_kind : (i.observable ≡ true → i'.observable ≡ true) → i'.limits ≡ i.limits → (k.observable ≡ true → k'.observable ≡ true) → SameKind (connection_of i k b) (connection_of i' k' b')
+  same_kind f limits g = record {
     observable = λ obs. let t = both_true i.observable k.observable obs in and_true i'.observable k'.observable (f t.0) (g t.1);
     pipelines = refl;
-    levels = levels;
+    limits = limits;
   }
 
   sent_whole : (q : List ℕ) → SendsAll k k' q (Ok tt) → Sent (connection_of i k b) (connection_of i' k' b') q
@@ -100,7 +100,7 @@ unsent i k k' b q n kind answers sending = record {
 pub replied : {A : Type 0} (i i' : Inflow) (k k' : Sink) (b : Bool) (q : List ℕ) (n : ℕ) (replies : List Value) (result : Result A RedisError) (answers : List Value → Type 0) →
     SendsAll k k' q (Ok tt) → Receives n i i' replies → answers replies → Exchanges (connection_of i k b) (connection_of i' k' false) q n result answers
 replied i i' k k' b q n replies result answers sending r answer = record {
-  same = same_kind i i' k k' b false r.on.observable r.on.levels sending.observable;
+  same = same_kind i i' k k' b false r.on.observable r.on.limits sending.observable;
   exchange = connection.replied (record {
     replies = replies;
     pushes = pushes_in r.values;
@@ -160,6 +160,6 @@ missed i i' k k' b q n e answers sending r (no_room is push same) = connection.o
 pub unanswered : {A : Type 0} (i i' : Inflow) (k k' : Sink) (b : Bool) (q : List ℕ) (n : ℕ) (e : RedisError) (answers : List Value → Type 0) →
     SendsAll k k' q (Ok tt) → CannotReceive n i i' e → Exchanges {A = A} (connection_of i k b) (connection_of i' k' true) q n (Err e) answers
 unanswered i i' k k' b q n e answers sending r = record {
-  same = same_kind i i' k k' b true (λ t. r.observable (r.on.observable t)) (r.levels ∙ r.on.levels) sending.observable;
+  same = same_kind i i' k k' b true (λ t. r.observable (r.on.observable t)) (r.limits ∙ r.on.limits) sending.observable;
   exchange = missed i i' k k' b q n e answers sending r r.stops;
 }

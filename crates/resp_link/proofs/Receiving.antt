@@ -8,22 +8,22 @@ use Rattle.resp_errors.specs.declared.redis_error.RedisError.TheVariants as form
 use Rattle.resp_parse.specs.Source.{Source}
 use Rattle.resp_parse.specs.State.{State, StandsAfter, IsBetweenValues}
 use Rattle.resp_parse.specs.Calls.{Parses, CannotParse, faulty, early_end, source_failed, out_of_memory}
-use Rattle.resp_parse.specs.Prefixes.{HasGoodPrefix}
+use Rattle.resp_parse.specs.Limited.{HasValue}
 use Rattle.resp_parse.proofs.ParserStates.{StandsAfter-from_since, StandsAfter-works, StandsAfter-since, FailedAfter-since, IsBetweenValues-same}
-use Rattle.resp_parse.proofs.LongerPrefixes.{HasGoodPrefix-whole, HasFaultyPrefix-whole, IsUnfinished-whole}
+use Rattle.resp_parse.proofs.LimitedReadings.{HasValue-whole, HasFault-whole, Awaits-whole}
 use Rattle.resp_command.specs.Taken.{as_push, replies_in, pushes_in}
 use Rattle.resp_link.specs.Receiving as receiving
 use Rattle.resp_link.specs.Receiving.{Inflow, inflow_of, inflowing, ReadsOn, StopsReceiving, Receives, CannotReceive}
 use Rattle.resp_command.proofs.Values.{reads_nothing, reads_one, reads_both, replies_in-append, pushes_in-append, count-append, ends_at_nothing, ends_after_pushes, ends_after_both}
 
 pub on_nothing : (at : Inflow) → ReadsOn at at []
-on_nothing at = record { observable = λ t. t; prefix = λ t. reads_nothing at.levels (inflowing at); levels = refl; pushes = sym (append-nil at.pushes); failures = refl }
+on_nothing at = record { observable = λ t. t; prefix = λ t. reads_nothing at.limits (inflowing at); limits = refl; pushes = sym (append-nil at.pushes); failures = refl }
 
 pub on_both : (a b c : Inflow) (vs ws : List Value) → ReadsOn a b vs → ReadsOn b c ws → ReadsOn a c (vs ++ ws)
 on_both a b c vs ws h k = record {
   observable = λ t. k.observable (h.observable t);
-  prefix = λ t. reads_both a.levels (inflowing a) (inflowing b) (inflowing c) vs ws (h.prefix t) (rw h.levels at k.prefix (h.observable t));
-  levels = k.levels ∙ h.levels;
+  prefix = λ t. reads_both a.limits (inflowing a) (inflowing b) (inflowing c) vs ws (h.prefix t) (rw h.limits at k.prefix (h.observable t));
+  limits = k.limits ∙ h.limits;
   pushes = k.pushes ∙ ap (λ l. l ++ pushes_in ws) h.pushes ∙ append_assoc a.pushes (pushes_in vs) (pushes_in ws) ∙ ap (λ l. a.pushes ++ l) (sym (pushes_in-append vs ws));
   failures = k.failures ∙ h.failures;
 }
@@ -36,36 +36,36 @@ pub received_nothing : (s : State) → IsBetweenValues s → s.unparsed ≡ [] �
 received_nothing s h none = IsBetweenValues-same s h ∙ none
 
 -- a value that was parsed, and what follows it
-good_since : (s t : Source) (was new : State) (v : Value) → new.levels ≡ was.levels → Parses was.since was new s t (Ok v) → s.observable ≡ true →
-    HasGoodPrefix was.levels (was.since ++ s.bytes) v (new.since ++ t.bytes)
+good_since : (s t : Source) (was new : State) (v : Value) → new.limits ≡ was.limits → Parses was.since was new s t (Ok v) → s.observable ≡ true →
+    HasValue was.limits (was.since ++ s.bytes) v (new.since ++ t.bytes)
 good_since s t was new v same parsed obs =
-    let value : HasGoodPrefix was.levels (was.since ++ parsed.filled) v new.since = rw (IsBetweenValues-same new parsed.rest) (rw same at parsed.value) in
-    HasGoodPrefix-whole was.levels was.since parsed.filled s t (parsed.came obs) v new.since value
+    let value : HasValue was.limits (was.since ++ parsed.filled) v new.since = rw (IsBetweenValues-same new parsed.rest) (rw same at parsed.value) in
+    HasValue-whole was.limits was.since parsed.filled s t (parsed.came obs) v new.since value
 
 -- what was filled moved from the source to the bytes that were received
 moved : (s t : Source) (since filled : List ℕ) (new : State) → since ++ filled ≡ new.since → s.bytes ≡ filled ++ t.bytes → since ++ s.bytes ≡ new.since ++ t.bytes
 moved s t since filled new is came = ap (λ z. since ++ z) came ∙ sym (append_assoc since filled t.bytes) ∙ ap (λ z. z ++ t.bytes) is
 
 -- a value that was parsed, and set aside where it is a push
-on_value : (s t : Source) (was new : State) (p : List PushInfo) (v : Value) → (s.observable ≡ true → t.observable ≡ true) → new.levels ≡ was.levels → Parses was.since was new s t (Ok v) →
+on_value : (s t : Source) (was new : State) (p : List PushInfo) (v : Value) → (s.observable ≡ true → t.observable ≡ true) → new.limits ≡ was.limits → Parses was.since was new s t (Ok v) →
     ReadsOn (inflow_of was s p) (inflow_of new t (p ++ pushes_in (v ∷ []))) (v ∷ [])
 on_value s t was new p v observable same parsed = record {
   observable = observable;
-  prefix = λ obs. reads_one was.levels (was.since ++ s.bytes) (new.since ++ t.bytes) v (good_since s t was new v same parsed obs);
-  levels = same;
+  prefix = λ obs. reads_one was.limits (was.since ++ s.bytes) (new.since ++ t.bytes) v (good_since s t was new v same parsed obs);
+  limits = same;
   pushes = refl;
   failures = parsed.failures;
 }
 
-stops : (Needed : Type 0) (s t : Source) (was new : State) (p : List PushInfo) (e : RedisError) → Needed → new.levels ≡ was.levels → CannotParse was.since e was new s t →
+stops : (Needed : Type 0) (s t : Source) (was new : State) (p : List PushInfo) (e : RedisError) → Needed → new.limits ≡ was.limits → CannotParse was.since e was new s t →
     StopsReceiving Needed (inflow_of was s p) (inflow_of new t p) e
 stops Needed s t was new p e needed same (faulty f filled is bad failed) =
-    receiving.faulty f needed is (λ obs. HasFaultyPrefix-whole was.levels was.since filled s t (failed.came obs) f (rw same at bad)) failed.failures
+    receiving.faulty f needed is (λ obs. HasFault-whole was.limits was.since filled s t (failed.came obs) f (rw same at bad)) failed.failures
 stops Needed s t was new p e needed same (early_end filled is unfinished nothing failed) =
-    receiving.early_end needed is (λ obs. IsUnfinished-whole was.levels was.since filled s t (failed.came obs) (nothing obs) (rw same at unfinished)) failed.failures
+    receiving.early_end needed is (λ obs. Awaits-whole was.limits was.since filled s t (failed.came obs) (nothing obs) (rw same at unfinished)) failed.failures
 stops Needed s t was new p e needed same (source_failed kind is midway) = receiving.source_failed kind needed is (λ obs. record {
   same = moved s t was.since midway.filled new (StandsAfter-since new (was.since ++ midway.filled) midway.stands) (midway.came obs);
-  unfinished = rw (StandsAfter-since new (was.since ++ midway.filled) midway.stands, same) at midway.unfinished;
+  unfinished = rw (StandsAfter-since new (was.since ++ midway.filled) midway.stands, same) at midway.awaits;
 }) midway.failures
 stops Needed s t was new p e needed same (out_of_memory filled is failed) =
     receiving.out_of_memory is (λ obs. moved s t was.since filled new (FailedAfter-since new (was.since ++ filled) failed.failed) (failed.came obs)) failed.failures
@@ -89,7 +89,7 @@ only_pushes_none at = record { values = []; on = on_nothing at; none = refl }
 
 -- one push more
 pub only_pushes_more : (old : Inflow) (s t : Source) (was new : State) (p p' : List PushInfo) (v : Value) (info : PushInfo) →
-    OnlyPushes old (inflow_of was s p) → (s.observable ≡ true → t.observable ≡ true) → new.levels ≡ was.levels → Parses was.since was new s t (Ok v) →
+    OnlyPushes old (inflow_of was s p) → (s.observable ≡ true → t.observable ≡ true) → new.limits ≡ was.limits → Parses was.since was new s t (Ok v) →
     as_push v ≡ Some info → p' ≡ p ++ info ∷ [] → OnlyPushes old (inflow_of new t p')
 only_pushes_more old s t was new p p' v info so_far observable same parsed push listed =
     let step = on_value s t was new p v observable same parsed in
@@ -102,7 +102,7 @@ only_pushes_more old s t was new p p' v info so_far observable same parsed push 
 
 -- the reply after the pushes
 pub received_one : (old : Inflow) (s t : Source) (was new : State) (p : List PushInfo) (v : Value) → OnlyPushes old (inflow_of was s p) →
-    (s.observable ≡ true → t.observable ≡ true) → new.levels ≡ was.levels → Parses was.since was new s t (Ok v) → as_push v ≡ None → Receives 1 old (inflow_of new t p) (v ∷ [])
+    (s.observable ≡ true → t.observable ≡ true) → new.limits ≡ was.limits → Parses was.since was new s t (Ok v) → as_push v ≡ None → Receives 1 old (inflow_of new t p) (v ∷ [])
 received_one old s t was new p v so_far observable same parsed reply =
     let step = on_value s t was new p v observable same parsed in
     let quiet : p ++ pushes_in (v ∷ []) ≡ p = rw reply (append-nil p) in
@@ -115,26 +115,26 @@ received_one old s t was new p v so_far observable same parsed reply =
 
 -- no reply after the pushes
 pub received_none : (old : Inflow) (s t : Source) (was new : State) (p : List PushInfo) (e : RedisError) → OnlyPushes old (inflow_of was s p) →
-    (s.observable ≡ true → t.observable ≡ true) → new.levels ≡ was.levels → Parses was.since was new s t (Err e) → CannotReceive 1 old (inflow_of new t p) e
+    (s.observable ≡ true → t.observable ≡ true) → new.limits ≡ was.limits → Parses was.since was new s t (Err e) → CannotReceive 1 old (inflow_of new t p) e
 received_none old s t was new p e so_far observable same parses = record {
   values = so_far.values;
   at = inflow_of was s p;
   on = so_far.on;
   observable = observable;
-  levels = same;
+  limits = same;
   pushes = refl;
   stops = stops _ s t was new p e (let none = ap length so_far.none in omega arith) same parses;
 }
 
 -- a push that found no room
 pub no_room : (old : Inflow) (s t : Source) (was new : State) (p : List PushInfo) (v : Value) (info : PushInfo) → OnlyPushes old (inflow_of was s p) →
-    (s.observable ≡ true → t.observable ≡ true) → new.levels ≡ was.levels → Parses was.since was new s t (Ok v) → as_push v ≡ Some info → CannotReceive 1 old (inflow_of new t p) form.OutOfMemory
+    (s.observable ≡ true → t.observable ≡ true) → new.limits ≡ was.limits → Parses was.since was new s t (Ok v) → as_push v ≡ Some info → CannotReceive 1 old (inflow_of new t p) form.OutOfMemory
 no_room old s t was new p v info so_far observable same parsed push = record {
   values = so_far.values;
   at = inflow_of was s p;
   on = so_far.on;
   observable = observable;
-  levels = same;
+  limits = same;
   pushes = refl;
   stops = receiving.no_room refl (λ obs. record { push = v; prefix = good_since s t was new v same parsed obs; is_push = rw push refl }) parsed.failures;
 }
@@ -156,7 +156,7 @@ cannot_receive_after m k n a b c rs e within h stop = record {
   at = stop.at;
   on = on_both a b stop.at h.values stop.values h.on stop.on;
   observable = stop.observable;
-  levels = stop.levels;
+  limits = stop.limits;
   pushes = stop.pushes;
   stops = stops-needed _ _ stop.at c e (λ more. let some = h.ends.enough in let both = count-append h.values stop.values in omega arith) stop.stops;
 }
@@ -168,7 +168,7 @@ no_room_after m n a b rs h = record {
   at = b;
   on = h.on;
   observable = λ t. t;
-  levels = refl;
+  limits = refl;
   pushes = refl;
   stops = receiving.out_of_memory refl (λ _. refl) refl;
 }

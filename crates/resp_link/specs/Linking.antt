@@ -19,7 +19,7 @@ connection_of inflow sink broken = record {
   to_come = inflow.to_come;
   pushes = inflow.pushes;
   broken = broken;
-  levels = inflow.levels;
+  limits = inflow.limits;
   source_failures = inflow.failures;
   sink_failures = sink.failures;
 }

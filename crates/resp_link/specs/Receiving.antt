@@ -9,7 +9,8 @@ use Rattle.resp_errors.specs.declared.kinds.IoKind.TheVariants.{UnexpectedEof}
 use Rattle.resp_errors.specs.declared.parsing_error.ParsingError.TheVariants as parsing
 use Rattle.resp_errors.specs.declared.redis_error.RedisError.{RedisError}
 use Rattle.resp_errors.specs.declared.redis_error.RedisError.TheVariants as form
-use Rattle.resp_parse.specs.Prefixes.{HasGoodPrefix, HasFaultyPrefix, IsUnfinished}
+use Rattle.resp_parse.specs.declared.limits.Limits.{Limits}
+use Rattle.resp_parse.specs.Limited.{HasValue, HasFault, Awaits}
 use Rattle.resp_parse.specs.Source.{Source, FailureCounted}
 use Rattle.resp_parse.specs.State.{State}
 use Rattle.resp_command.specs.Taken.{PrefixReads, EndsAtReply, replies_in, pushes_in}
@@ -21,8 +22,8 @@ pub record Inflow : Type 0 where
   pub received : List ℕ
   -- those that the source has yet to give
   pub to_come : List ℕ
-  -- how many levels of values inside values are read
-  pub levels : ℕ
+  -- how deep and how long the values may be that are read
+  pub limits : Limits
   -- the pushes that were set aside
   pub pushes : List PushInfo
   -- how often the source has failed
@@ -38,18 +39,18 @@ inflow_of parser source pushes = record {
   observable = source.observable;
   received = parser.since;
   to_come = source.bytes;
-  levels = parser.levels;
+  limits = parser.limits;
   pushes = pushes;
   failures = source.failures;
 }
 
--- a source of which nothing was received, for values of up to d levels
-abbrev pub unread : ℕ → Source → Inflow
-unread d source = record {
+-- a source of which nothing was received, for values within the limits
+abbrev pub unread : Limits → Source → Inflow
+unread l source = record {
   observable = source.observable;
   received = [];
   to_come = source.bytes;
-  levels = d;
+  limits = l;
   pushes = [];
   failures = source.failures;
 }
@@ -57,30 +58,30 @@ unread d source = record {
 -- these values were read, and the pushes among them set aside
 pub record ReadsOn (old new : Inflow) (values : List Value) : Type 0 where
   pub observable : old.observable ≡ true → new.observable ≡ true
-  pub prefix : old.observable ≡ true → PrefixReads old.levels (inflowing old) values (inflowing new)
-  pub levels : new.levels ≡ old.levels
+  pub prefix : old.observable ≡ true → PrefixReads old.limits (inflowing old) values (inflowing new)
+  pub limits : new.limits ≡ old.limits
   pub pushes : new.pushes ≡ old.pushes ++ pushes_in values
   pub failures : new.failures ≡ old.failures
 
 -- no value was taken, and all that was received is unfinished
 pub record AwaitsMore (at now : Inflow) : Type 0 where
   pub same : inflowing at ≡ inflowing now
-  pub unfinished : IsUnfinished at.levels now.received
+  pub unfinished : Awaits at.limits now.received
 
 -- a value was read that is a push
 pub record ReadsPush (at now : Inflow) : Type 0 where
   pub push : Value
-  pub prefix : HasGoodPrefix at.levels (inflowing at) push (inflowing now)
+  pub prefix : HasValue at.limits (inflowing at) push (inflowing now)
   pub is_push : replies_in (push ∷ []) ≡ []
 
 -- why no value comes next: a fault, the end of the bytes or a failure of the source, where more
 -- were needed; or out of memory, perhaps for the place of a push
 pub data StopsReceiving (Needed : Type 0) (at now : Inflow) (e : RedisError) : Type 0 where
   faulty : (f : FrameFault) → Needed → e ≡ form.Parse (parsing.Fault f) →
-      (at.observable ≡ true → HasFaultyPrefix at.levels (inflowing at) f) →
+      (at.observable ≡ true → HasFault at.limits (inflowing at) f) →
       now.failures ≡ at.failures → StopsReceiving Needed at now e
   early_end : Needed → e ≡ form.Io UnexpectedEof →
-      (at.observable ≡ true → IsUnfinished at.levels (inflowing at)) →
+      (at.observable ≡ true → Awaits at.limits (inflowing at)) →
       now.failures ≡ at.failures → StopsReceiving Needed at now e
   source_failed : (kind : IoKind) → Needed → e ≡ form.Io kind →
       (at.observable ≡ true → AwaitsMore at now) →
@@ -103,7 +104,7 @@ pub record CannotReceive (n : ℕ) (old new : Inflow) (e : RedisError) : Type 0 
   pub at : Inflow
   pub on : ReadsOn old at values
   pub observable : at.observable ≡ true → new.observable ≡ true
-  pub levels : new.levels ≡ at.levels
+  pub limits : new.limits ≡ at.limits
   pub pushes : new.pushes ≡ at.pushes
   pub stops : StopsReceiving (length (replies_in values) < n) at new e
 

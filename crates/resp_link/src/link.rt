@@ -1,8 +1,9 @@
 //! A connection over bytes.
 
 ghost use Rattle.std.specs.Prelude.{◌≡◌, ◌↔◌, ◌+◌, [], true, false, Ok, IsOk, IfOk, IfErr, length};
-ghost use Rattle.resp_parse.specs.State.{IsBetweenValues, IsBetweenValues-prop, IsDepthLimit};
-ghost use Rattle.resp_parse.specs.State.{limit_refused};
+ghost use Rattle.resp_parse.specs.State.{IsBetweenValues, IsBetweenValues-prop};
+ghost use Rattle.resp_parse.specs.Limits.{AreLimits, RefusesLimits, IsDepthLimit, of_depth, usual};
+ghost use Rattle.resp_parse.specs.Limits.{depth_refused};
 ghost use Rattle.resp_parse.specs.Source.{source_of};
 ghost use Rattle.resp_link.specs.Sink.{sink_of};
 ghost use Rattle.resp_command.specs.Call.{AnswersReply, AnswersFrom, broken_link, no_command};
@@ -13,7 +14,7 @@ use crate::inbox::Inbox;
 use crate::sink::{CommandSink, send_all};
 use crate::writing::Writing;
 use resp_command::{Cmd, ConnectionLike};
-use resp_parse::{Parser, Reading, ReplySource};
+use resp_parse::{Limits, Parser, Reading, ReplySource};
 use resp_value::{ErrorKind, PushInfo, RedisError, RedisResult, Value};
 use std::alloc::Global;
 use std::io::{Read, Write};
@@ -34,10 +35,10 @@ pub struct ByteLink<S, K> {
 }
 
 impl<R: Read, W: Write> ByteLink<Reading<R>, Writing<W>> {
-    /// A link over a reader and a writer. Replies are read down to 100 levels.
+    /// A link over a reader and a writer. Replies are read within [`Limits::default`].
     pub fn new(alloc: Global, reader: R, writer: W) -> ByteLink<Reading<R>, Writing<W>>
         ensures { ⟦<ByteLink<Reading<R>, Writing<W>> as ConnectionLike>⟧.connection result
-            ≡ connection_of (unread 100 (source_of (R.remaining reader) 0))
+            ≡ connection_of (unread usual (source_of (R.remaining reader) 0))
             (sink_of (W.contents writer) false 0) false }
     {
         ByteLink::over(alloc, Reading::new(reader), Writing::new(writer))
@@ -45,6 +46,24 @@ impl<R: Read, W: Write> ByteLink<Reading<R>, Writing<W>> {
 }
 
 impl<R: Read + Drop, W: Write + Drop> ByteLink<Reading<R>, Writing<W>> {
+    /// A link over a reader and a writer, whose replies are read within `limits`. Fails as
+    /// [`ByteLink::over_with_limits`] does.
+    pub fn with_limits(
+        alloc: Global,
+        reader: R,
+        writer: W,
+        limits: Limits,
+    ) -> RedisResult<ByteLink<Reading<R>, Writing<W>>>
+        ensures accepts { IsOk result ↔ AreLimits limits }
+        ensures made { IfOk result (λ link.
+            ⟦<ByteLink<Reading<R>, Writing<W>> as ConnectionLike>⟧.connection link
+            ≡ connection_of (unread limits (source_of (R.remaining reader) 0))
+            (sink_of (W.contents writer) false 0) false) }
+        ensures error { IfErr result (RefusesLimits limits) }
+    {
+        ByteLink::over_with_limits(alloc, Reading::new(reader), Writing::new(writer), limits)
+    }
+
     /// A link over a reader and a writer, whose replies are read down to `limit` levels. Fails as
     /// [`ByteLink::over_with_depth_limit`] does.
     pub fn with_depth_limit(
@@ -56,15 +75,36 @@ impl<R: Read + Drop, W: Write + Drop> ByteLink<Reading<R>, Writing<W>> {
         ensures accepts { IsOk result ↔ IsDepthLimit limit }
         ensures made { IfOk result (λ link.
             ⟦<ByteLink<Reading<R>, Writing<W>> as ConnectionLike>⟧.connection link
-            ≡ connection_of (unread limit (source_of (R.remaining reader) 0))
+            ≡ connection_of (unread (of_depth limit) (source_of (R.remaining reader) 0))
             (sink_of (W.contents writer) false 0) false) }
-        ensures error { IfErr result (λ e. e ≡ limit_refused) }
+        ensures error { IfErr result (λ e. e ≡ depth_refused) }
     {
         ByteLink::over_with_depth_limit(alloc, Reading::new(reader), Writing::new(writer), limit)
     }
 }
 
 impl<S: ReplySource + Drop, K: CommandSink + Drop> ByteLink<S, K> {
+    /// A link over a source and a sink, whose replies are read within `limits`: from 1 to 1,000
+    /// levels, the outermost value being the first, and from 1 to 2^63 - 1 bytes of a value. Takes
+    /// no memory.
+    ///
+    /// Other limits are refused with kind `InvalidClientConfig`: `depth limit must be 1 to 1000`,
+    /// or else `size limit must be 1 to 2^63 - 1 bytes`. The source and the sink are then dropped.
+    pub fn over_with_limits(
+        alloc: Global,
+        source: S,
+        sink: K,
+        limits: Limits,
+    ) -> RedisResult<ByteLink<S, K>>
+        ensures accepts { IsOk result ↔ AreLimits limits }
+        ensures made { IfOk result (λ link. ⟦<ByteLink<S, K> as ConnectionLike>⟧.connection link
+            ≡ connection_of (unread limits (S.source source)) (K.sink sink) false) }
+        ensures error { IfErr result (RefusesLimits limits) }
+    {
+        let parser = Parser::with_limits(alloc, limits)?;
+        Ok(ByteLink::around(alloc, parser, source, sink))
+    }
+
     /// A link over a source and a sink, whose replies are read down to `limit` levels, the
     /// outermost value being the first. Takes no memory.
     ///
@@ -78,19 +118,22 @@ impl<S: ReplySource + Drop, K: CommandSink + Drop> ByteLink<S, K> {
     ) -> RedisResult<ByteLink<S, K>>
         ensures accepts { IsOk result ↔ IsDepthLimit limit }
         ensures made { IfOk result (λ link. ⟦<ByteLink<S, K> as ConnectionLike>⟧.connection link
-            ≡ connection_of (unread limit (S.source source)) (K.sink sink) false) }
-        ensures error { IfErr result (λ e. e ≡ limit_refused) }
+            ≡ connection_of (unread (of_depth limit) (S.source source)) (K.sink sink) false) }
+        ensures error { IfErr result (λ e. e ≡ depth_refused) }
     {
-        let parser = Parser::with_depth_limit(alloc, limit)?;
-        Ok(ByteLink::around(alloc, parser, source, sink))
+        let limits = Limits {
+            depth: limit,
+            ..Limits::default()
+        };
+        ByteLink::over_with_limits(alloc, source, sink, limits)
     }
 }
 
 impl<S: ReplySource, K: CommandSink> ByteLink<S, K> {
-    /// A link over a source and a sink. Replies are read down to 100 levels.
+    /// A link over a source and a sink. Replies are read within [`Limits::default`].
     pub fn over(alloc: Global, source: S, sink: K) -> ByteLink<S, K>
         ensures { ⟦<ByteLink<S, K> as ConnectionLike>⟧.connection result
-            ≡ connection_of (unread 100 (S.source source)) (K.sink sink) false }
+            ≡ connection_of (unread usual (S.source source)) (K.sink sink) false }
     {
         ByteLink::around(alloc, Parser::new(alloc), source, sink)
     }
@@ -100,7 +143,7 @@ impl<S: ReplySource, K: CommandSink> ByteLink<S, K> {
         requires rest { IsBetweenValues parser }
         requires empty { parser.unparsed ≡ [] }
         ensures { ⟦<ByteLink<S, K> as ConnectionLike>⟧.connection result
-            ≡ connection_of (unread parser.levels (S.source source)) (K.sink sink) false }
+            ≡ connection_of (unread parser.limits (S.source source)) (K.sink sink) false }
     {
         ByteLink {
             alloc,
@@ -114,11 +157,18 @@ impl<S: ReplySource, K: CommandSink> ByteLink<S, K> {
         }
     }
 
+    /// The limits on the depth and the size of replies and pushes.
+    pub fn limits(&self) -> Limits
+        ensures { result ≡ (⟦<ByteLink<S, K> as ConnectionLike>⟧.connection self.now).limits }
+    {
+        self.inbox.parser.limits()
+    }
+
     /// How many levels of values inside values are read, the outermost being the first.
     pub fn depth_limit(&self) -> usize
-        ensures { result ≡ (⟦<ByteLink<S, K> as ConnectionLike>⟧.connection self.now).levels }
+        ensures { result ≡ (⟦<ByteLink<S, K> as ConnectionLike>⟧.connection self.now).limits.depth }
     {
-        self.inbox.parser.depth_limit()
+        self.limits().depth
     }
 
     /// The pushes that were set aside, the oldest first.
