@@ -35,8 +35,8 @@ module _ {X : Type 0} (old new : Connection) (p : Plan) (Of : Value → X → Ty
   pub unsupported : old.pipelines ≡ false → new ≡ old → PipelineQuery old new p Of (Err no_pipelining)
   unsupported alone same = record {
     reads_only = pipeline_reads_only p;
-    takes_one = takes_one_thing old.levels (replies_needed p) (incoming old);
-    same = record { observable = λ t. ap (λ (c : Connection). c.observable) same ∙ t; pipelines = ap (λ (c : Connection). c.pipelines) same; levels = ap (λ (c : Connection). c.levels) same };
+    takes_one = takes_one_thing old.limits (replies_needed p) (incoming old);
+    same = record { observable = λ t. ap (λ (c : Connection). c.observable) same ∙ t; pipelines = ap (λ (c : Connection). c.pipelines) same; limits = ap (λ (c : Connection). c.limits) same };
     unsupported = λ _. record { answer = refl; same = same };
     when_broken = λ t _. absurd (let k : true ≡ false = sym t ∙ alone in cc);
     otherwise = λ t _. absurd (let k : true ≡ false = sym t ∙ alone in cc);
@@ -45,8 +45,8 @@ module _ {X : Type 0} (old new : Connection) (p : Plan) (Of : Value → X → Ty
   pub not_packed : old.pipelines ≡ true → new ≡ old → PipelineQuery old new p Of (Err OutOfMemory)
   not_packed several same = record {
     reads_only = pipeline_reads_only p;
-    takes_one = takes_one_thing old.levels (replies_needed p) (incoming old);
-    same = record { observable = λ t. ap (λ (c : Connection). c.observable) same ∙ t; pipelines = ap (λ (c : Connection). c.pipelines) same; levels = ap (λ (c : Connection). c.levels) same };
+    takes_one = takes_one_thing old.limits (replies_needed p) (incoming old);
+    same = record { observable = λ t. ap (λ (c : Connection). c.observable) same ∙ t; pipelines = ap (λ (c : Connection). c.pipelines) same; limits = ap (λ (c : Connection). c.limits) same };
     unsupported = λ t. absurd (let k : true ≡ false = sym several ∙ t in cc);
     when_broken = λ _ _. inr (record { answer = refl; same = same });
     otherwise = λ _ _. out_of_memory (record {
@@ -67,7 +67,7 @@ module _ {X V : Type 0} (items : V → List Value) (old new : Connection) (p : P
       let call = call_err {A = V} {B = X} old new (request p) (replies_needed p) (AnswersFrom items (passed_over p) (Err e)) (Outcome p Of (Err e)) ⊥ e (λ replies k. k) (rw is at asked) in
       record {
         reads_only = pipeline_reads_only p;
-        takes_one = takes_one_thing old.levels (replies_needed p) (incoming old);
+        takes_one = takes_one_thing old.limits (replies_needed p) (incoming old);
         same = h.same;
         unsupported = λ t. absurd (let k : true ≡ false = sym several ∙ t in cc);
         when_broken = λ _ b. inl (call.when_broken b);
@@ -80,7 +80,7 @@ module _ {X V : Type 0} (items : V → List Value) (old new : Connection) (p : P
       (λ replies len kept. outcome_of_all p Of r (items v) replies len kept answer) (rw is at asked) in
       record {
         reads_only = pipeline_reads_only p;
-        takes_one = takes_one_thing old.levels (replies_needed p) (incoming old);
+        takes_one = takes_one_thing old.limits (replies_needed p) (incoming old);
         same = h.same;
         unsupported = λ t. absurd (let k : true ≡ false = sym several ∙ t in cc);
         when_broken = λ _ b. inl (call.when_broken b);

@@ -18,7 +18,12 @@ pub use Rattle.resp_parse.specs.Prefixes.{HasGoodPrefix, HasFaultyPrefix, FaultS
 pub use Rattle.resp_parse.specs.Prefixes.{IsUnfinished}
 pub use Rattle.resp_parse.specs.Reads.{Reads}
 pub use Rattle.resp_parse.specs.State.{State, StandsAfter, FailedAfter, IsBetweenValues}
-pub use Rattle.resp_parse.specs.State.{IsDepthLimit, KeepsFaultOffset, limit_refused}
+pub use Rattle.resp_parse.specs.State.{KeepsFaultOffset}
+pub use Rattle.resp_parse.specs.Limits.{AreLimits, IsDepthLimit, IsSizeLimit, RefusesLimits}
+pub use Rattle.resp_parse.specs.Limits.{depth_refused, of_depth, size_refused, usual}
+pub use Rattle.resp_parse.specs.Limited.{Awaits, FaultShownAt, Found, GoodWithin, HasFault}
+pub use Rattle.resp_parse.specs.Limited.{HasValue, OneReading, PassesSize, ReadsWithin}
+pub use Rattle.resp_parse.specs.Limited.{first_bytes}
 pub use Rattle.resp_parse.specs.Tally.{Tally, nothing_done}
 pub use Rattle.resp_parse.specs.Built.{built}
 pub use Rattle.resp_parse.specs.Bounds.{not_looked_at, WorksWithin, Bounded, FedBy, OneCall}

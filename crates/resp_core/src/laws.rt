@@ -10,7 +10,9 @@ pub use resp_errors::laws::{law_of_equal_errors, law_of_error_texts};
 pub use resp_laws::{
     SingleKey, SingleValued, law_of_one_value, law_of_owned_and_borrowed, law_of_written_scalars,
 };
-pub use resp_parse::laws::{law_of_completion, law_of_levels, law_of_prefixes, law_of_sizes};
+pub use resp_parse::laws::{
+    law_of_completion, law_of_levels, law_of_limits, law_of_prefixes, law_of_sizes,
+};
 pub use resp_value::{ExactClone, StructuralEq, law_of_clones, law_of_equal_values};
 
 /// The bytes of a pipeline, up to 2^63 - 1 of them, are read by the grammar as the arrays of its

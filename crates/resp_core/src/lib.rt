@@ -26,7 +26,7 @@ pub use resp_command::{
 };
 pub use resp_from::{FromRedisValue, from_redis_value, from_redis_value_by, from_redis_value_ref};
 pub use resp_link::{ByteLink, CommandSink, Writing};
-pub use resp_parse::{Parser, Reading, ReplySource, parse_redis_value};
+pub use resp_parse::{Limits, Parser, Reading, ReplySource, parse_redis_value};
 pub use resp_types::{IncrexResult, InfoDict, IntegerReplyOrNoOp, ReplicaInfo, Role, ValueType};
 pub use resp_value::{
     Boxed, Description, ErrorKind, FrameFault, IoKind, Items, MapIter, OwnedMapIter, ParsingError,
