@@ -1,3 +1,4 @@
+pub mod Conclusions
 pub mod KeptItems
 pub mod LastCommand
 pub mod Queries

@@ -1,6 +1,5 @@
 -- What a pipeline's query answers, by what the connection's call answers.
-use Rattle.std.proofs.Common.{◌≡◌, ℕ, ◌+◌, inl, inr, true, false, List, [], ◌∷◌, ◌++◌, length, drop, Result, Ok, Err, refl, sym, ap, ◌∙◌, subst, arith}
-use Rattle.std.proofs.lemmas.Grind.{common_steps}
+use Rattle.std.proofs.Common.{◌≡◌, ℕ, ◌+◌, inl, inr, true, false, List, Result, Ok, Err, refl, sym, ap, ◌∙◌, subst, arith}
 use Rattle.resp_value.specs.declared.value.Value.{Value}
 use Rattle.resp_errors.specs.declared.redis_error.RedisError.{RedisError}
 use Rattle.resp_errors.specs.declared.redis_error.RedisError.TheVariants.{OutOfMemory}
@@ -9,27 +8,9 @@ use Rattle.resp_command.specs.Connection.{Connection, incoming, out_of_memory}
 use Rattle.resp_command.proofs.OneTaking.{takes_one_thing}
 use Rattle.resp_command.proofs.Queries.{call_err, call_ok}
 use Rattle.resp_core.specs.Outcome.{Outcome}
-use Rattle.resp_core.specs.Pipeline.{Plan, request, passed_over, deciding, replies_needed}
+use Rattle.resp_core.specs.Pipeline.{Plan, request, replies_needed}
 use Rattle.resp_core.specs.PipelineQuery.{PipelineQuery, no_pipelining}
 use Rattle.resp_core.proofs.Requests.{pipeline_reads_only}
-
--- the replies that decide, among all
-module _ {X : Type 0} (p : Plan) (Of : Value → X → Type 0) (r : Result X RedisError) (kept replies : List Value) (len : length replies ≡ replies_needed p) (is : kept ≡ drop (passed_over p) replies) where
-  all_decide : p.atomic ≡ false → kept ≡ replies
-  all_decide plain = rw plain at is
-
-  one_decides : p.atomic ≡ true → (before : List Value) (last : Value) → replies ≡ before ++ last ∷ [] → kept ≡ last ∷ []
-  one_decides atomic before last e =
-      let all : length (before ++ last ∷ []) ≡ length p.commands + 1 + 1 = ap length (sym e) ∙ rw atomic at len in
-      let first : length before ≡ length p.commands + 1 = grind (arith, common_steps) in
-      let tail : kept ≡ drop (length p.commands + 1) (before ++ last ∷ []) = rw (atomic, e) at is in
-      tail ∙ rw (← first) (grind (arith, common_steps))
-
-  outcome_of_all : Outcome p Of r kept → Outcome p Of r replies
-  outcome_of_all h = record {
-    plain = λ plain. (subst (λ (vs : List Value). Outcome p Of r vs) (all_decide plain) h).plain plain;
-    atomic = λ atomic before last e. h.atomic atomic [] last (one_decides atomic before last e);
-  }
 
 module _ {X : Type 0} (old new : Connection) (p : Plan) (Of : Value → X → Type 0) where
   pub unsupported : old.pipelines ≡ false → new ≡ old → PipelineQuery old new p Of (Err no_pipelining)
@@ -57,14 +38,14 @@ module _ {X : Type 0} (old new : Connection) (p : Plan) (Of : Value → X → Ty
   }
 
 -- what the connection's call was asked, and what it answered
-module _ {X V : Type 0} (items : V → List Value) (old new : Connection) (p : Plan) (Of : Value → X → Type 0) (q : List ℕ) (offset count : ℕ) (sent : Result V RedisError)
-    (same_request : q ≡ request p) (same_offset : offset ≡ passed_over p) (same_count : count ≡ deciding p) (several : old.pipelines ≡ true) (h : Call old new ⊥ q (offset + count) sent (AnswersFrom items offset sent)) where
-  asked : Call old new ⊥ (request p) (replies_needed p) sent (AnswersFrom items (passed_over p) sent)
-  asked = rw (same_request, same_offset, same_count) at h
+module _ {X V : Type 0} (items : V → List Value) (old new : Connection) (p : Plan) (Of : Value → X → Type 0) (q : List ℕ) (count : ℕ) (sent : Result V RedisError)
+    (same_request : q ≡ request p) (same_count : count ≡ replies_needed p) (several : old.pipelines ≡ true) (h : Call old new ⊥ q (0 + count) sent (AnswersFrom items 0 sent)) where
+  asked : Call old new ⊥ (request p) (replies_needed p) sent (AnswersFrom items 0 sent)
+  asked = let all : 0 + count ≡ count = omega arith in rw (same_request, all, same_count) at h
 
   pub pipeline_refused : (e : RedisError) → sent ≡ Err e → PipelineQuery old new p Of (Err e)
   pipeline_refused e is =
-      let call = call_err {A = V} {B = X} old new (request p) (replies_needed p) (AnswersFrom items (passed_over p) (Err e)) (Outcome p Of (Err e)) ⊥ e (λ replies k. k) (rw is at asked) in
+      let call = call_err {A = V} {B = X} old new (request p) (replies_needed p) (AnswersFrom items 0 (Err e)) (Outcome p Of (Err e)) ⊥ e (λ replies k. k) (rw is at asked) in
       record {
         reads_only = pipeline_reads_only p;
         takes_one = takes_one_thing old.limits (replies_needed p) (incoming old);
@@ -76,8 +57,8 @@ module _ {X V : Type 0} (items : V → List Value) (old new : Connection) (p : P
 
   pub pipeline_answered : (v : V) (r : Result X RedisError) → sent ≡ Ok v → Outcome p Of r (items v) → PipelineQuery old new p Of r
   pipeline_answered v r is answer =
-      let call = call_ok {A = V} {B = X} old new (request p) (replies_needed p) (AnswersFrom items (passed_over p) (Ok v)) (Outcome p Of r) ⊥ v r
-      (λ replies len kept. outcome_of_all p Of r (items v) replies len kept answer) (rw is at asked) in
+      let call = call_ok {A = V} {B = X} old new (request p) (replies_needed p) (AnswersFrom items 0 (Ok v)) (Outcome p Of r) ⊥ v r
+      (λ replies len all. subst (λ (vs : List Value). Outcome p Of r vs) all answer) (rw is at asked) in
       record {
         reads_only = pipeline_reads_only p;
         takes_one = takes_one_thing old.limits (replies_needed p) (incoming old);

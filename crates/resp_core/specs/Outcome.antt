@@ -5,7 +5,7 @@ use Rattle.resp_value.specs.declared.value.Value.TheOpen.{Value-F}
 use Rattle.resp_errors.specs.declared.server_error.ServerError.{ServerError}
 use Rattle.resp_errors.specs.declared.kinds.ErrorKind.TheVariants.{UnexpectedReturnType}
 use Rattle.resp_errors.specs.declared.redis_error.RedisError.{RedisError}
-use Rattle.resp_errors.specs.declared.redis_error.RedisError.TheVariants.{General, Pipeline, OutOfMemory}
+use Rattle.resp_errors.specs.declared.redis_error.RedisError.TheVariants.{General, Server, Pipeline, Aborted, OutOfMemory}
 use Rattle.resp_from.specs.Conversion.{ConvertsCall}
 use Rattle.resp_command.specs.Call.{Answers}
 use Rattle.resp_core.specs.Pipeline.{Plan}
@@ -45,23 +45,34 @@ pub record Composes {X : Type 0} (p : Plan) (of_value : Value → X → Type 0)
   pub answering : p.ignores_errors ≡ false → errors_of items ≡ [] →
       Answers of_value result (kept_reply p items)
 
--- what is answered where the reply to EXEC is neither nil nor an array
+-- what is answered where the reply to EXEC is neither nil nor an array nor a server error
 abbrev pub no_transaction : RedisError
 no_transaction =
     General UnexpectedReturnType (codes "Invalid response when parsing multi response") None
 
--- what a transaction makes of the reply to EXEC
-abbrev pub Concludes : {X : Type 0} → Plan → (Value → X → Type 0) → Result X RedisError → Value
-    → Type 0
-Concludes p of_value result last = elim (out-Value last) [
+-- what a server error in the place of the reply to EXEC makes, after the replies to the commands
+pub record Aborts {X : Type 0} (result : Result X RedisError) (queued : List Value)
+    (error : ServerError) : Type 0 where
+  -- where commands were refused, ignored ones too, their errors are listed; the list takes memory
+  pub caused : errors_of queued ≢ [] →
+      (result ≡ Err (Aborted (errors_of queued))) ⊎ (result ≡ Err OutOfMemory)
+  -- else the error itself is answered
+  pub uncaused : errors_of queued ≡ [] → result ≡ Err (Server error)
+
+-- what a transaction makes of the reply to EXEC, after the replies to the commands
+abbrev pub Concludes : {X : Type 0} → Plan → (Value → X → Type 0) → Result X RedisError
+    → List Value → Value → Type 0
+Concludes p of_value result queued last = elim (out-Value last) [
   | Value-F.Nil ↦ ConvertsCall (of_value Nil) result
   | Value-F.Array items ↦ Composes p of_value result items
+  | Value-F.ServerError error ↦ Aborts result queued error
   | _ ↦ result ≡ Err no_transaction
 ]
 
--- what a pipeline makes of all replies to it; of a transaction the last one decides
+-- what a pipeline makes of all replies to it; in a transaction the first is that to MULTI and the
+-- last that to EXEC, which decides
 pub record Outcome {X : Type 0} (p : Plan) (of_value : Value → X → Type 0)
     (result : Result X RedisError) (replies : List Value) : Type 0 where
   pub plain : p.atomic ≡ false → Composes p of_value result replies
-  pub atomic : p.atomic ≡ true → (before : List Value) (last : Value) →
-      replies ≡ before ++ last ∷ [] → Concludes p of_value result last
+  pub atomic : p.atomic ≡ true → (multi last : Value) (queued : List Value) →
+      replies ≡ multi ∷ (queued ++ last ∷ []) → Concludes p of_value result queued last

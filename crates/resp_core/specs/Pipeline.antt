@@ -56,14 +56,7 @@ request p = flat_map packed (argument_lists p)
 abbrev pub as_values : Plan → List Value
 as_values p = map as_value (argument_lists p)
 
--- how many replies pass before those that decide: in a transaction, one to MULTI and one to each
--- command
-abbrev pub passed_over : Plan → ℕ
-passed_over p = if p.atomic then length p.commands + 1 else 0
-
--- how many replies decide: in a transaction the one to EXEC, else one for each command
-abbrev pub deciding : Plan → ℕ
-deciding p = if p.atomic then 1 else length p.commands
-
+-- how many replies a pipeline needs: one to each command, and in a transaction one to MULTI and
+-- one to EXEC too
 abbrev pub replies_needed : Plan → ℕ
-replies_needed p = passed_over p + deciding p
+replies_needed p = if p.atomic then length p.commands + 2 else length p.commands

@@ -1,24 +1,24 @@
 //! Pipelines.
 
-ghost use Rattle.std.specs.Prelude.{◌≡◌, ◌↔◌, ◌<◌, [], ◌∷◌, ◌++◌, List, length, IsTrue};
+ghost use Rattle.std.specs.Prelude.{◌≡◌, ◌↔◌, ◌<◌, [], ◌∷◌, ◌++◌, List, length, drop, IsTrue};
 ghost use Rattle.std.specs.Prelude.{IfOk, IfErr, OnOk, OnErr, true};
 ghost use Rattle.std.specs.List.{flat_map};
 ghost use Rattle.std.specs.Slice.Iter.{iter_rest};
 ghost use Rattle.resp_errors.specs.Memory.{OnlyMemory};
 ghost use Rattle.resp_args.specs.Args.{Args, IsFailure, IsRefusal};
-ghost use Rattle.resp_core.specs.Outcome.{Composes, Concludes, Outcome};
+ghost use Rattle.resp_core.specs.Outcome.{Aborts, Composes, Concludes, Outcome};
 ghost use Rattle.resp_command.specs.Command.{new_command};
 ghost use Rattle.resp_command.specs.Packed.{packed};
 ghost use Rattle.resp_core.specs.Pipeline.{Plan, new_plan, with_command, AppendsToLast};
 ghost use Rattle.resp_core.specs.Pipeline.{last_marked, args_of_commands, request};
-ghost use Rattle.resp_core.specs.Pipeline.{passed_over, deciding};
+ghost use Rattle.resp_core.specs.Pipeline.{replies_needed};
 ghost use Rattle.resp_core.specs.PipelineQuery.{PipelineQuery, no_pipelining};
 
 use crate::composing::{has_server_error, into_server_errors, keep};
 use resp_args::ToRedisArgs;
 use resp_command::{Cmd, ConnectionLike, cmd};
 use resp_from::FromRedisValue;
-use resp_value::{ErrorKind, Items, RedisError, RedisResult, Value};
+use resp_value::{ErrorKind, Items, RedisError, RedisResult, ServerError, Value};
 use std::alloc::{AllocError, Global};
 use std::marker::Model;
 use std::slice;
@@ -272,8 +272,13 @@ impl Pipeline {
     ///   ignored; after [`Pipeline::ignore_errors`] neither;
     /// - else kind `Parse` where the array doesn't convert.
     ///
-    /// Of a transaction the reply to `EXEC` decides: its items are composed in the same way, `Nil`
-    /// is converted by itself, and anything else is of kind `UnexpectedReturnType`.
+    /// Of a transaction the reply to `EXEC` decides:
+    ///
+    /// - the items of an array are composed in the same way, and `Nil` is converted by itself;
+    /// - where it is a server error, those that its commands were refused with are answered as
+    ///   [`RedisError::Aborted`], each with the position of its command, or where there are none
+    ///   it itself; [`Pipeline::ignore`] and [`Pipeline::ignore_errors`] change nothing of this;
+    /// - anything else is of kind `UnexpectedReturnType`.
     pub fn query<T: FromRedisValue>(&self, con: &mut dyn ConnectionLike) -> RedisResult<T>
         ensures { PipelineQuery (connection con.old) (connection con.new) self.now T.of_value
             result }
@@ -282,8 +287,7 @@ impl Pipeline {
             return Err(unsupported());
         }
         let request = self.get_packed_pipeline()?;
-        let (offset, count) = self.replies_needed();
-        let replies = con.req_packed_commands(request.as_slice(), offset, count)?;
+        let replies = con.req_packed_commands(request.as_slice(), 0, self.replies_needed())?;
         self.outcome(replies)
     }
 
@@ -297,15 +301,14 @@ impl Pipeline {
         self.query(con)
     }
 
-    /// How many replies pass before those that decide, and how many decide.
-    fn replies_needed(&self) -> (usize, usize)
-        ensures passed { result.0 ≡ passed_over self.now }
-        ensures deciding { result.1 ≡ deciding self.now }
+    /// How many replies there are: of a transaction one to `MULTI` and one to `EXEC` too.
+    fn replies_needed(&self) -> usize
+        ensures { result ≡ replies_needed self.now }
     {
         if self.atomic {
-            (self.commands.len() + 1, 1)
+            self.commands.len() + 2
         } else {
-            (0, self.commands.len())
+            self.commands.len()
         }
     }
 
@@ -324,30 +327,45 @@ impl Pipeline {
 
     /// What the replies make: of a transaction the last one decides, else all do.
     fn outcome<T: FromRedisValue>(&self, mut replies: Vec<Value>) -> RedisResult<T>
-        requires { self.now.atomic ≡ true → 0 < length replies.items }
+        requires { self.now.atomic ≡ true → 1 < length replies.items }
         ensures { Outcome self.now T.of_value result replies.items }
     {
         if !self.atomic {
             return self.compose(replies);
         }
         match replies.pop() {
-            Some(last) => self.conclude(last),
+            Some(last) => self.conclude(replies, last),
             None => unreachable!(),
         }
     }
 
-    /// What the reply to `EXEC` makes.
-    fn conclude<T: FromRedisValue>(&self, last: Value) -> RedisResult<T>
-        ensures { Concludes self.now T.of_value result last }
+    /// What the reply to `EXEC` makes, after those to `MULTI` and to the commands.
+    fn conclude<T: FromRedisValue>(&self, before: Vec<Value>, last: Value) -> RedisResult<T>
+        requires { 0 < length before.items }
+        ensures { Concludes self.now T.of_value result (drop 1 before.items) last }
     {
         match last {
             Value::Nil => Ok(T::from_redis_value(self.alloc, Value::Nil)?),
             Value::Array(items) => self.compose(items.into_vec()),
+            Value::ServerError(error) => self.abort(before, error),
             _ => Err(RedisError::from((
                 ErrorKind::UnexpectedReturnType,
                 "Invalid response when parsing multi response",
             ))),
         }
+    }
+
+    /// What a server error in the place of the reply to `EXEC` makes: a list of the errors that the
+    /// commands were refused with, or where there are none this one.
+    fn abort<T: FromRedisValue>(&self, mut before: Vec<Value>, error: ServerError) -> RedisResult<T>
+        requires { 0 < length before.items }
+        ensures { Aborts result (drop 1 before.items) error }
+    {
+        before.remove(0);
+        if has_server_error(before.as_slice()) {
+            return Err(RedisError::Aborted(into_server_errors(self.alloc, before)?));
+        }
+        Err(RedisError::Server(error))
     }
 
     /// What items make, one for each command. Those that are kept are moved, never copied.

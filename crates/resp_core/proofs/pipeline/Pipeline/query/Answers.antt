@@ -17,11 +17,11 @@ pub returns-in_err-replies : goal.returns-in_err-replies
 returns-in_err-replies g c =
     let p = err_from_is_err_and c.from_residual-in_err-replies.result c.from_residual-in_err-replies.ensures.1 in
     let request = rw c.in_ok-request.was at c.get_packed_pipeline.ensures.packed in
-    rw (p.1, p.2) (pipeline_refused _ _ _ _ _ _ _ _ _ (c.as_slice.ensures.value ∙ request) c.replies_needed-offset.ensures.passed c.replies_needed-offset.ensures.deciding
+    rw (p.1, p.2) (pipeline_refused _ _ _ _ _ _ _ _ (c.as_slice.ensures.value ∙ request) c.replies_needed.ensures
     (sym c.supports_pipelining.ensures ∙ c.if-not-supports_pipelining.false) c.req_packed_commands.ensures.0 _ c.in_err-replies.was)
 
 pub returns : goal.returns
 returns g c =
     let request = rw c.in_ok-request.was at c.get_packed_pipeline.ensures.packed in
-    pipeline_answered _ _ _ _ _ _ _ _ _ (c.as_slice.ensures.value ∙ request) c.replies_needed-offset.ensures.passed c.replies_needed-offset.ensures.deciding
+    pipeline_answered _ _ _ _ _ _ _ _ (c.as_slice.ensures.value ∙ request) c.replies_needed.ensures
     (sym c.supports_pipelining.ensures ∙ c.if-not-supports_pipelining.false) c.req_packed_commands.ensures.0 _ _ c.in_ok-replies.was c.outcome.ensures
