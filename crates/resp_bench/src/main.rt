@@ -101,7 +101,7 @@ fn hold(rt: &HostRuntime, file: &str, piece: usize, limit: usize) -> u8 {
         Ok(_) => "none",
         Err(error) => match error.frame_fault() {
             Some(fault) => fault.text(),
-            None => error.category(),
+            None => "refused otherwise",
         },
     };
     match println!(rt; "{refusal}") {
