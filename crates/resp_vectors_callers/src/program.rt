@@ -223,12 +223,29 @@ fn queries_a_transaction(rt: HostRuntime) {
         ),
         (
             "+OK\r\n+QUEUED\r\n+QUEUED\r\n-EXECABORT x\r\n",
+            "refused: script execution aborted 0:EXECABORT\n",
+            2,
+        ),
+        (
+            "+OK\r\n+QUEUED\r\n+QUEUED\r\n:5\r\n",
             "refused: type error\n",
             2,
         ),
     ] {
         queries(&rt, words, replies, (printed, status), sent);
     }
+}
+
+#[test]
+fn queries_an_aborted_transaction(rt: HostRuntime) {
+    queries(
+        &rt,
+        &["--atomic", "SET", "k", "1", ",", "FOO", "bar"],
+        "+OK\r\n-ERR a\r\n-ERR b\r\n-EXECABORT x\r\n",
+        ("refused: script execution aborted 0:ERR 1:ERR\n", 2),
+        "*1\r\n$5\r\nMULTI\r\n*3\r\n$3\r\nSET\r\n$1\r\nk\r\n$1\r\n1\r\n\
+            *2\r\n$3\r\nFOO\r\n$3\r\nbar\r\n*1\r\n$4\r\nEXEC\r\n",
+    );
 }
 
 #[test]

@@ -3,11 +3,12 @@
 use crate::checks::{debugs, equals, server_error, shows, string};
 use resp_core::laws::law_of_equal_errors;
 use resp_core::{
-    Boxed, Description, ErrorKind, FrameFault, IoKind, Items, ParsingError, PushInfo, PushKind,
-    RedisError, ServerError, ServerErrorKind, Text, Value, VerbatimFormat, get_push_kind,
-    verbatim_format,
+    Boxed, ByteLink, Description, ErrorKind, FrameFault, IoKind, Items, ParsingError, PushInfo,
+    PushKind, RedisError, RetryMethod, ServerError, ServerErrorKind, Text, Value, VerbatimFormat,
+    get_push_kind, pipe, verbatim_format,
 };
 use std::io;
+use std::io::Cursor;
 use std::process::Abort;
 
 #[test]
@@ -324,16 +325,45 @@ fn lone_errors(rt: HostRuntime) {
     assert!(rt; count_server_errors(&rt, lone) == 1);
 }
 
+/// What a transaction of two commands is refused with over these replies.
+fn refused_transaction(rt: &(impl Abort + AllocGlobal), replies: &str) -> RedisError {
+    let bytes = Vec::from_slice(rt.alloc(), replies.as_bytes()).expect(rt, "no refusal");
+    let mut link = ByteLink::new(rt.alloc(), Cursor::new(bytes), Vec::new(rt.alloc()));
+    let mut transaction = pipe(rt.alloc());
+    let _ = transaction.atomic();
+    transaction.push_cmd("SET").expect(rt, "no refusal");
+    transaction.push_cmd("FOO").expect(rt, "no refusal");
+    transaction
+        .query::<Value>(&mut link)
+        .expect_err(rt, "a refusal")
+}
+
+/// The replies to a transaction whose second command is unknown.
+const ABORTED: &str = "+OK\r\n+QUEUED\r\n-ERR unknown command\r\n-EXECABORT x\r\n";
+
 #[test]
 fn aborted_transactions(rt: HostRuntime) {
-    let list = listed(&rt, &[(1, "ERR unknown command")]);
-    let aborted = RedisError::Aborted(list.into());
+    let aborted = refused_transaction(&rt, ABORTED);
     assert!(rt; aborted.kind() == ErrorKind::Server(ServerErrorKind::ExecAbort));
+    assert!(rt; aborted.category() == "script execution aborted");
+    assert!(rt; aborted.code() == Some("EXECABORT") && aborted.detail().is_none());
+    assert!(rt; aborted.retry_method() == RetryMethod::NoRetry);
+    equals(&rt, aborted.try_clone(rt.alloc()), &aborted);
     shows(
         &rt,
         &aborted,
         "Transaction aborted: [(Index 1, error: ResponseError: unknown command)]",
     );
+}
+
+#[test]
+fn causes_of_an_aborted_transaction(rt: HostRuntime) {
+    let causes = refused_transaction(&rt, ABORTED)
+        .into_server_errors(rt.alloc())
+        .expect(&rt, "no refusal")
+        .expect(&rt, "some");
+    let unknown = server_error(&rt, "ERR unknown command");
+    assert!(rt; causes.len() == 1 && causes[0] == (1, unknown));
 }
 
 #[test]
