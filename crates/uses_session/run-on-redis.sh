@@ -1,6 +1,7 @@
 #!/bin/sh
-# Runs the program with a redis-server of its own: starts one on a port of this machine, 7777 or
-# the one that is given, joins the two by socat, and ends the server again.
+# Runs the program with a redis-server of its own, over version 2 of the protocol and then over
+# version 3: starts one on a port of this machine, 7777 or the one that is given, joins the two by
+# socat, and ends the server again.
 #
 # Debian has both as packages: apt-get install redis-server socat. The program is proved and built
 # first where `rt run` hasn't yet left it in out/.
@@ -17,4 +18,6 @@ until redis-cli -p "$port" ping > /dev/null 2>&1; do
     kill -0 "$server"
     sleep 0.1
 done
-socat "TCP:127.0.0.1:$port" "EXEC:$program"
+for protocol in 2 3; do
+    socat "TCP:127.0.0.1:$port" "EXEC:$program $protocol"
+done

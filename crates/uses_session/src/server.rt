@@ -13,9 +13,9 @@ pub struct Server {
     pub protocol: i64,
 }
 
-/// Asks for version 3 of the protocol.
-pub fn greet(alloc: Global, con: &mut dyn ConnectionLike) -> RedisResult<Server> {
-    let mut fields: BTreeMap<String, Value> = cmd(alloc, "HELLO")?.arg(3)?.query(con)?;
+/// Asks for this version of the protocol.
+pub fn greet(alloc: Global, con: &mut dyn ConnectionLike, protocol: i64) -> RedisResult<Server> {
+    let mut fields: BTreeMap<String, Value> = cmd(alloc, "HELLO")?.arg(protocol)?.query(con)?;
     Ok(Server {
         version: field(alloc, &mut fields, "version")?,
         protocol: field(alloc, &mut fields, "proto")?,

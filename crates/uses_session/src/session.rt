@@ -39,13 +39,18 @@ pub struct Learned {
 ///
 /// Visits that are answered are one more than were read after their key was watched, and were set
 /// by the last request, a transaction that was not aborted.
-pub fn session(alloc: Global, con: &mut dyn ConnectionLike, name: &str) -> RedisResult<Learned>
+pub fn session(
+    alloc: Global,
+    con: &mut dyn ConnectionLike,
+    protocol: i64,
+    name: &str,
+) -> RedisResult<Learned>
     ensures { IfOk result (λ learned. IfSome learned.visits (λ visits.
         CountedUp (⟦<() as FromRedisValue>⟧.of_value) (⟦<Option<i64> as FromRedisValue>⟧.of_value)
         (⟦<Option<()> as FromRedisValue>⟧.of_value) (connection con.new) (codes "visits") visits)) }
 {
     Ok(Learned {
-        server: greet(alloc, con)?,
+        server: greet(alloc, con, protocol)?,
         name: rename(alloc, con, name)?,
         entry: look(alloc, con)?,
         visits: count_up(alloc, con, "visits", ATTEMPTS)?,
