@@ -8,6 +8,7 @@ pub mod Nexts
 pub mod OneTaking
 pub mod PackedPieces
 pub mod PackedReadsBack
+pub mod PageReading
 pub mod PrefixOfPrefix
 pub mod PiecesAgree
 pub mod Queries

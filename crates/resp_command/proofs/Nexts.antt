@@ -39,13 +39,11 @@ module _ {X : Type 0} (n : ℕ) (Of : Value → X → Type 0) where
 
     pub next_done : s.found ≡ Nothing → w' ≡ [] → s.cursor ≡ 0 → Next n Of old new (standing c u w l) None (standing c s.cursor w' (Some s.left))
     next_done g m z =
-        let i : (answers_in h.givens ≡ []) × ((s.cursor ≡ 0) ⊎ (s.left ≡ 0)) = rw g at h.found in
-        rw (e, f, m, z) (done k s.left h.givens refl refl (rw z at h.asked) i.0 refl refl)
+        rw (e, f, m, z) (done k s.left h.givens refl refl (rw z at h.asked) (rw g at h.found) refl refl)
 
     pub next_used_up : (x : RedisError) → s.found ≡ Nothing → w' ≡ [] → s.cursor ≢ 0 → x ≡ budget_used_up → Next n Of old new (standing c u w l) (Some (Err x)) (standing c s.cursor w' None)
     next_used_up x g m z is =
-        let i : (answers_in h.givens ≡ []) × ((s.cursor ≡ 0) ⊎ (s.left ≡ 0)) = rw g at h.found in
-        rw (e, f, m, is) (last i.0 i.1)
+        rw (e, f, m, is) (last (rw g at h.found) (h.nothing g))
       where
         last : answers_in h.givens ≡ [] → (s.cursor ≡ 0) ⊎ (s.left ≡ 0) → Next n Of old new (standing c u [] (Some k)) (Some (Err budget_used_up)) (standing c s.cursor [] None)
         last i (inl a) = absurd (z a)

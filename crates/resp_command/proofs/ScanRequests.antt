@@ -10,7 +10,7 @@ use Rattle.resp_command.specs.Scans.{LaterRequest, Requests, Fits, Asked}
 
 module _ {X : Type 0} where
   latest_step : (u : ℕ) (g : Given X) (gs : List (Given X)) → latest (latest u (g ∷ [])) gs ≡ latest u (g ∷ gs)
-  latest_step u (Ok batch) gs = refl
+  latest_step u (Ok page) gs = refl
   latest_step u (Err e) gs = refl
 
   pub latest_append : (u : ℕ) (gs hs : List (Given X)) → latest u (gs ++ hs) ≡ latest (latest u gs) hs

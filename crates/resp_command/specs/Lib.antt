@@ -6,6 +6,7 @@ pub mod Cursors
 pub mod Frames
 pub mod Packed
 pub mod PackingLaw
+pub mod PageParts
 pub mod Pieces
 pub mod ScanLaw
 pub mod ScanReplies

@@ -10,7 +10,7 @@ use Rattle.resp_command.specs.Connection.{Connection, incoming}
 use Rattle.resp_command.specs.Cursors.{with_cursor}
 use Rattle.resp_command.specs.Packed.{packed_or_none}
 use Rattle.resp_command.specs.PackingLaw.{LawOfPacking}
-use Rattle.resp_command.specs.ScanReplies.{Given, Gives, IsPage, IsFirstPage, as_answers, answers_in, latest}
+use Rattle.resp_command.specs.ScanReplies.{Given, GivesFirst, Gives, as_answers, answers_in, latest}
 use Rattle.resp_command.specs.Taken.{TakesOneThing}
 use Rattle.resp_command.specs.declared.batch.Batch.{Batch}
 
@@ -40,12 +40,13 @@ budget_used_up = General Client (codes "scan budget used up") None
 module _ {X : Type 0} (n : ℕ) (Of : Value → X → Type 0) where
   -- a scan's first request: it reads only as the command's arguments, its reply is the one thing
   -- that the incoming bytes hold, and it gives what the reply or a refusal determines
-  pub record FirstRequest (old new : Connection) (c : Command) (given : Given X) : Type 0 where
+  pub record FirstRequest (old new : Connection) (c : Command)
+      (given : Result (Batch X) RedisError) : Type 0 where
     pub answer : Result Value RedisError
     pub reads_only : LawOfPacking c.args
     pub takes_one : TakesOneThing old.limits (needed c) (incoming old)
     pub call : CommandCall old new c answer (λ reply. answer ≡ Ok reply)
-    pub gives : Gives IsFirstPage n Of answer given
+    pub gives : GivesFirst n Of answer given
 
   -- a first request over some connection gave this error
   pub record CannotStart (old : Connection) (c : Command) (e : RedisError) : Type 0 where
@@ -59,7 +60,7 @@ module _ {X : Type 0} (n : ℕ) (Of : Value → X → Type 0) where
     pub reads_only : LawOfPacking (with_cursor cursor c).args
     pub takes_one : TakesOneThing old.limits 1 (incoming old)
     pub sends : Sends old new (request c cursor) answer
-    pub gives : Gives IsPage n Of answer given
+    pub gives : Gives n Of answer given
 
   -- requests, one after another, each with the latest cursor
   abbrev pub Requests : Connection → Connection → Command → ℕ → List (Given X) → Type 0

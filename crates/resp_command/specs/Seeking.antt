@@ -10,14 +10,15 @@ use Rattle.resp_command.specs.declared.seeking.Found.{Found}
 use Rattle.resp_command.specs.declared.seeking.Found.TheVariants.{Results, Failed, Nothing}
 use Rattle.resp_command.specs.declared.seeking.Sought.{Sought}
 
--- the answers that were found; none only where the cursor is 0 or no request is left
-abbrev pub IsFound : {X : Type 0} → Found X → List (Result X RedisError) → ℕ → ℕ → Type 0
-IsFound (Results v) answers cursor left = (answers ≡ as_answers v.items) × (v.items ≢ [])
-IsFound (Failed e) answers cursor left = answers ≡ Err e ∷ []
-IsFound Nothing answers cursor left = (answers ≡ []) × ((cursor ≡ 0) ⊎ (left ≡ 0))
+-- what was found is these answers
+abbrev pub IsFound : {X : Type 0} → Found X → List (Result X RedisError) → Type 0
+IsFound (Results v) answers = (answers ≡ as_answers v.items) × (v.items ≢ [])
+IsFound (Failed e) answers = answers ≡ Err e ∷ []
+IsFound Nothing answers = answers ≡ []
 
 pub record Seeks {X : Type 0} (n : ℕ) (Of : Value → X → Type 0) (old new : Connection)
     (c : Command) (from k : ℕ) (sought : Sought X) : Type 0 where
   pub givens : List (Given X)
   pub asked : Asked n Of old new c from k sought.cursor sought.left givens
-  pub found : IsFound sought.found (answers_in givens) sought.cursor sought.left
+  pub found : IsFound sought.found (answers_in givens)
+  pub nothing : sought.found ≡ Nothing → (sought.cursor ≡ 0) ⊎ (sought.left ≡ 0)

@@ -4,8 +4,9 @@ ghost use Rattle.std.specs.Prelude.{◌≡◌};
 ghost use Rattle.resp_from.specs.Conversion.{Converts};
 ghost use Rattle.resp_command.specs.ScanReplies.{IsBatch, IsFirstPage, IsPage};
 
+use crate::pages::Page;
 use resp_from::FromRedisValue;
-use resp_value::{ParsingError, Value};
+use resp_value::{Items, ParsingError, Value};
 use std::alloc::Global;
 
 /// The next cursor, and for each item of a page its value, or why it is none.
@@ -22,9 +23,12 @@ impl<T: FromRedisValue> Batch<T> {
     pub fn of_page(alloc: Global, reply: Value) -> Result<Batch<T>, ParsingError>
         ensures converts { Converts (IsBatch IsPage T.WIDTH T.of_value reply) result }
     {
-        let (cursor, items) = <(u64, Vec<Value>)>::from_redis_value(alloc, reply)?;
-        let results = T::from_each_redis_values(alloc, items)?;
-        Ok(Batch { cursor, results })
+        let page = Page::of_reply(alloc, reply)?;
+        let cursor = page.cursor;
+        match page.results {
+            Some(results) => Ok(Batch { cursor, results }),
+            None => Err(ParsingError::OutOfMemory),
+        }
     }
 
     /// The batch of the first reply, which may also be a list without a cursor.
@@ -36,8 +40,8 @@ impl<T: FromRedisValue> Batch<T> {
         if reply.looks_like_cursor() {
             return Batch::of_page(alloc, reply);
         }
-        let items = <Vec<Value>>::from_redis_value(alloc, reply)?;
-        let results = T::from_each_redis_values(alloc, items)?;
+        let items = <Items<Value>>::from_redis_value(alloc, reply)?;
+        let results = T::from_each_redis_values(alloc, items.into_vec())?;
         Ok(Batch { cursor: 0, results })
     }
 }

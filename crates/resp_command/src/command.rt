@@ -328,9 +328,9 @@ impl Cmd {
     /// `budget` times. See [`Scan`] for what its items are.
     ///
     /// A first reply that is no array of a bulk string and an array is a list alone, which is all.
-    /// Fails with kind `Parse` where the first reply is neither, with `OutOfMemory`, and where the
-    /// connection's `req_command` fails. Server errors in a reply are values as others are, and
-    /// aren't looked for.
+    /// Fails with kind `Parse` where the first reply is neither, with `OutOfMemory`, also where
+    /// memory runs out for its items alone, and where the connection's `req_command` fails. Server
+    /// errors in a reply are values as others are, and aren't looked for.
     ///
     /// ```text
     /// let mut scan = cmd(alloc, "SCAN")?;

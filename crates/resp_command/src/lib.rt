@@ -10,6 +10,7 @@ mod frames;
 mod framing;
 pub mod laws;
 mod packing;
+mod pages;
 mod progress;
 mod scan;
 mod seeking;

@@ -16,6 +16,11 @@ use resp_value::RedisResult;
 /// isn't a cursor and a list. After the last two the same cursor is sent again. Each request after
 /// the first spends one of the budget; where none is left and the cursor isn't 0, one refusal of
 /// kind `Client` comes, `scan budget used up`. Once `None` came, nothing else does.
+///
+/// Where memory runs out for the items of a reply, they are lost: one `OutOfMemory` is answered in
+/// their place, and the cursor of that reply is sent next. Reading that cursor takes no memory; so
+/// only where memory runs out before there is a reply, as the request is packed or over the
+/// exchange, the same cursor is sent again.
 pub struct Scan<'a, C, P> {
     con: &'a mut C,
     progress: P,

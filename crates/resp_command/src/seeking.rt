@@ -1,12 +1,13 @@
 //! The requests of a scan.
 
-ghost use Rattle.std.specs.Prelude.{◌≡◌};
+ghost use Rattle.std.specs.Prelude.{◌≡◌, ◌∷◌, []};
 ghost use Rattle.resp_command.specs.Scans.{LaterRequest, Sends, request};
-ghost use Rattle.resp_command.specs.Seeking.{Seeks};
+ghost use Rattle.resp_command.specs.ScanReplies.{answers_of, as_answers, latest};
+ghost use Rattle.resp_command.specs.Seeking.{IsFound, Seeks};
 
-use crate::batch::Batch;
 use crate::command::Cmd;
 use crate::connection::ConnectionLike;
+use crate::pages::Page;
 use resp_from::FromRedisValue;
 use resp_value::{ParsingError, RedisError, RedisResult, Value};
 use std::alloc::Global;
@@ -16,7 +17,7 @@ use std::alloc::Global;
 pub enum Found<T> {
     /// The results of a batch, one or more.
     Results(Vec<Result<T, ParsingError>>),
-    /// The error of a request, or of its reply.
+    /// The error of a request, or of its reply, or `OutOfMemory` in place of a page's results.
     Failed(RedisError),
     /// Nothing: the cursor is 0, or the budget is used up.
     Nothing,
@@ -45,20 +46,13 @@ pub fn seek<T: FromRedisValue, C: ConnectionLike>(
     let mut left = budget;
     while cursor != 0 && left > 0 {
         left -= 1;
-        match ask(alloc, con, command, cursor) {
-            Ok(batch) => {
-                cursor = batch.cursor;
-                if !batch.results.is_empty() {
-                    return Sought {
-                        found: Found::Results(batch.results),
-                        cursor,
-                        left,
-                    };
-                }
-            }
-            Err(error) => {
+        let given = ask(alloc, con, command, cursor);
+        cursor = cursor_after(&given, cursor);
+        match found_in(given) {
+            Found::Nothing => {}
+            found => {
                 return Sought {
-                    found: Found::Failed(error),
+                    found,
                     cursor,
                     left,
                 };
@@ -72,18 +66,51 @@ pub fn seek<T: FromRedisValue, C: ConnectionLike>(
     }
 }
 
+/// The cursor that a request gave, also where its page has no results; this one where it failed.
+fn cursor_after<T>(given: &RedisResult<Page<T>>, cursor: u64) -> u64
+    ensures { result ≡ latest cursor (given.now ∷ []) }
+{
+    match given {
+        Ok(page) => page.cursor,
+        Err(_) => cursor,
+    }
+}
+
+/// What is found in what a request gave; a page has no results where memory ran out for them.
+fn found_in<T: Drop>(given: RedisResult<Page<T>>) -> Found<T>
+    ensures { IsFound result (answers_of given) }
+{
+    match given {
+        Ok(page) => match page.results {
+            Some(results) => found_among(results),
+            None => Found::Failed(RedisError::OutOfMemory),
+        },
+        Err(error) => Found::Failed(error),
+    }
+}
+
+fn found_among<T: Drop>(results: Vec<Result<T, ParsingError>>) -> Found<T>
+    ensures { IsFound result (as_answers results.items) }
+{
+    if results.is_empty() {
+        Found::Nothing
+    } else {
+        Found::Results(results)
+    }
+}
+
 /// Sends the command with this cursor, and reads its reply as a page.
 fn ask<T: FromRedisValue, C: ConnectionLike>(
     alloc: Global,
     con: &mut C,
     command: &Cmd,
     cursor: u64,
-) -> RedisResult<Batch<T>>
+) -> RedisResult<Page<T>>
     ensures { LaterRequest T.WIDTH T.of_value (C.connection con.old) (C.connection con.new)
         command.now cursor result }
 {
     let reply = send(con, command, cursor)?;
-    Ok(Batch::of_page(alloc, reply)?)
+    Ok(Page::of_reply(alloc, reply)?)
 }
 
 fn send<C: ConnectionLike>(con: &mut C, command: &Cmd, cursor: u64) -> RedisResult<Value>

@@ -10,6 +10,6 @@ returns g c = record {
   converts = record {
     items = c.in_ok-items.items;
     page = list_first c.args.reply 0 c.in_ok-items.items (sym c.looks_like_cursor.ensures ∙ c.if-looks_like_cursor.false) refl c.in_ok-items.ensures.converts;
-    results = c.in_ok-results.ensures.answers;
+    results = rw c.into_vec.ensures at c.in_ok-results.ensures.answers;
   };
 }
