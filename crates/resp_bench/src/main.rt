@@ -20,7 +20,7 @@ mod parsing;
 
 use packing::{Load, Packing, pack_round};
 use parsing::parse_round;
-use resp_core::{Limits, RedisResult};
+use resp_core::{Limits, RedisError, RedisResult};
 use std::process::ExitCode;
 use std::time::CpuClock;
 use std::{env, fs, io};
@@ -97,14 +97,22 @@ fn hold(rt: &HostRuntime, file: &str, piece: usize, limit: usize) -> u8 {
         depth: 1000,
         bytes: limit,
     };
-    let refusal = match parse_round(rt.alloc(), limits, bytes.as_slice(), piece) {
-        Ok(_) => "none",
-        Err(error) => match error.frame_fault() {
-            Some(fault) => fault.text(),
-            None => "refused otherwise",
-        },
-    };
-    match println!(rt; "{refusal}") {
+    match parse_round(rt.alloc(), limits, bytes.as_slice(), piece) {
+        Ok(_) => say(rt, "none"),
+        Err(error) => say_why(rt, &error),
+    }
+}
+
+/// Prints the fault that a refusal names.
+fn say_why(rt: &HostRuntime, error: &RedisError) -> u8 {
+    match error.frame_fault() {
+        Some(fault) => say(rt, fault.text()),
+        None => say(rt, "no fault"),
+    }
+}
+
+fn say(rt: &HostRuntime, text: &str) -> u8 {
+    match println!(rt; "{text}") {
         Ok(()) => 0,
         Err(_) => 2,
     }
