@@ -8,7 +8,8 @@
 //!
 //! The exit status is 0 on success; 1 for wrong words, with the usage on standard error; 2 where
 //! the answer is a refusal, with `refused: ` and its category on standard error, and then the
-//! position and code of each server error in it, as `1:CROSSSLOT`.
+//! position and code of each server error in it, as `1:CROSSSLOT`. Where memory runs out for these,
+//! it is `refused: out of memory`.
 #![tactic(auto)]
 
 use resp_core::ByteLink;

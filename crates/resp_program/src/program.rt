@@ -265,18 +265,25 @@ fn print_answer<E: Write>(value: &Value, err: &mut E) -> u8 {
     }
 }
 
-/// Prints the category of a refusal, and the position and code of each server error in it.
+/// Prints the category of a refusal, and the position and code of each server error in it; that
+/// memory ran out, where it did for their list.
 fn print_refusal<E: Write>(alloc: Global, error: RedisError, err: &mut E) -> u8 {
     let _ = write_refusal(alloc, error, err);
     REFUSED
 }
 
 fn write_refusal<E: Write>(alloc: Global, error: RedisError, err: &mut E) -> io::Result<()> {
-    write!(err, "refused: {}", error.category())?;
-    if let Ok(Some(errors)) = error.into_server_errors(alloc) {
-        write_places(errors.as_slice(), err)?;
+    let kind = error.kind();
+    match error.into_server_errors(alloc) {
+        Ok(errors) => {
+            write!(err, "refused: {}", kind.category())?;
+            if let Some(errors) = errors {
+                write_places(errors.as_slice(), err)?;
+            }
+            writeln!(err)
+        }
+        Err(refusal) => writeln!(err, "refused: {}", refusal.category()),
     }
-    writeln!(err)
 }
 
 /// Prints the position and the code of each error.
