@@ -7,7 +7,8 @@ pub use Rattle.resp_command.specs.Cursors.{HoldsCursor, with_cursor, with_cursor
 pub use Rattle.resp_command.specs.Cursors.{with_extended_arg}
 pub use Rattle.resp_command.specs.Packed.{packed}
 pub use Rattle.resp_command.specs.ScanLaw.{Calls, LawOfScans, WholeScan}
-pub use Rattle.resp_command.specs.ScanReplies.{Given, Gives, IsBatch, IsPage, IsFirstPage}
+pub use Rattle.resp_command.specs.ScanReplies.{Given, Gives, GivesFirst, IsBatch, IsPage, IsFirstPage}
+pub use Rattle.resp_command.specs.ScanReplies.{ReadsPage}
 pub use Rattle.resp_command.specs.ScanReplies.{answers_in, latest}
 pub use Rattle.resp_command.specs.ScanStates.{borrowed, scan_state, state_of}
 pub use Rattle.resp_command.specs.Scans.{Asked, CannotStart, FirstRequest, LaterRequest, Next}

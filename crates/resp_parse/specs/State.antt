@@ -7,11 +7,11 @@ use Rattle.resp_errors.specs.declared.parsing_error.ParsingError.TheVariants as 
 use Rattle.resp_errors.specs.declared.redis_error.RedisError.{RedisError}
 use Rattle.resp_errors.specs.declared.redis_error.RedisError.TheVariants as form
 
--- the limits on what is read as a value; the bytes that are buffered and not yet parsed, and how many
--- of them were looked at; those since the last value that was handed out; whether the parser has failed, and after how many of these
--- bytes a fault showed, if one was answered; how many frames are open, of
--- aggregates whose header was read and whose elements aren't all there; of how many values these
--- elements are built; and what the parser has done
+-- the limits on what is read as a value; the bytes that are buffered and not yet parsed, and how
+-- many of them were looked at; those since the last value that was handed out; whether the parser
+-- has failed, and after how many of these bytes a fault showed, if one was answered; how many frames
+-- are open, of aggregates whose header was read and whose elements aren't all there; of how many
+-- values these elements are built; and what the parser has done
 pub record State : Type 0 where
   pub limits : Limits
   pub unparsed : List ℕ

@@ -81,7 +81,7 @@ pub(crate) fn pairs_from(
     ensures pairs { IfOk result (λ made. made ≡ pairs_of elements.items) }
     ensures turns { Turns counts.old counts.new (length elements.items) }
 {
-    let mut pairs = Items::new(alloc);
+    let mut pairs = Items::from(Vec::with_capacity(alloc, elements.len() / 2)?);
     let mut rest = elements.into_iter();
     while let Some(key) = rest.next() {
         counts.turn();
