@@ -101,13 +101,33 @@ fn are_no_limits(rt: &(impl Abort + AllocGlobal), limits: Limits, wanted: &str) 
 #[test]
 fn no_limits(rt: HostRuntime) {
     let usual = Limits::default();
-    assert_eq!(rt; usual, Limits { depth: 100, bytes: 9_223_372_036_854_775_807 });
+    assert_eq!(rt;
+        usual,
+        Limits {
+            depth: 100,
+            bytes: 9_223_372_036_854_775_807
+        }
+    );
     let size = "size limit must be 1 to 2^63 - 1 bytes - InvalidClientConfig";
     are_no_limits(&rt, Limits { depth: 1, bytes: 0 }, size);
-    are_no_limits(&rt, Limits { depth: 1, bytes: 9_223_372_036_854_775_808 }, size);
+    are_no_limits(
+        &rt,
+        Limits {
+            depth: 1,
+            bytes: 9_223_372_036_854_775_808,
+        },
+        size,
+    );
     let depth = "depth limit must be 1 to 1000 - InvalidClientConfig";
     are_no_limits(&rt, Limits { depth: 0, bytes: 0 }, depth);
-    are_no_limits(&rt, Limits { depth: 1001, bytes: 1 }, depth);
+    are_no_limits(
+        &rt,
+        Limits {
+            depth: 1001,
+            bytes: 1,
+        },
+        depth,
+    );
 }
 
 #[test]
