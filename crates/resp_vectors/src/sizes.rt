@@ -46,9 +46,9 @@ fn a_bulk_string(rt: HostRuntime) {
 fn a_simple_string(rt: HostRuntime) {
     is_too_long(&rt, 1, b"+a", b"\r\n");
     is_too_long(&rt, 3, b"+a\r\n", b"");
-    is_read(&rt, 4, b"+a\r\n", "simple-string('\"a\"')");
-    is_read(&rt, 5, b"+a\r\n", "simple-string('\"a\"')");
-    is_read(&rt, 6, b"+a\r\n", "simple-string('\"a\"')");
+    is_read(&rt, 4, b"+a\r\n", "simple-string(\"a\")");
+    is_read(&rt, 5, b"+a\r\n", "simple-string(\"a\")");
+    is_read(&rt, 6, b"+a\r\n", "simple-string(\"a\")");
 }
 
 #[test]
