@@ -24,11 +24,13 @@ pub fn view(alloc: Global, row: &Row) -> RedisResult<String> {
         write!(text, "sequence {}", values.len())?;
     }
     if let Some(pairs) = reply.as_map_iter() {
-        let comma = if text.is_empty() { "" } else { ", " };
-        write!(text, "{comma}pairs {}", pairs.size_hint().0)?;
+        add_part(
+            &mut text,
+            format!(in alloc; "pairs {}", pairs.size_hint().0)?.as_str(),
+        )?;
     }
     if reply.looks_like_cursor() {
-        text.push_str(", cursor")?;
+        add_part(&mut text, "cursor")?;
     }
     if text.is_empty() {
         text.push_str("none")?;

@@ -9,7 +9,7 @@ use std::alloc::Global;
 
 /// What the program wrote, and its exit status.
 #[derive(Drop)]
-struct Run {
+struct Written {
     status: u8,
     out: Vec<u8>,
     err: Vec<u8>,
@@ -28,7 +28,7 @@ pub fn resp(alloc: Global, row: &Row) -> RedisResult<String> {
     Ok(format!(in alloc; "{} {out} {err}", ran.status)?)
 }
 
-fn run(alloc: Global, words: &[String], mut input: &[u8]) -> RedisResult<Run> {
+fn run(alloc: Global, words: &[String], mut input: &[u8]) -> RedisResult<Written> {
     let mut out: Vec<u8> = Vec::new(alloc);
     let mut err: Vec<u8> = Vec::new(alloc);
     let status = match task_of(words) {
@@ -37,15 +37,15 @@ fn run(alloc: Global, words: &[String], mut input: &[u8]) -> RedisResult<Run> {
         Task::Query(words) => return run_query(alloc, words, input),
         Task::Usage => print_usage(&mut err),
     };
-    Ok(Run { status, out, err })
+    Ok(Written { status, out, err })
 }
 
-fn run_query(alloc: Global, words: &[String], input: &[u8]) -> RedisResult<Run> {
+fn run_query(alloc: Global, words: &[String], input: &[u8]) -> RedisResult<Written> {
     let mut err: Vec<u8> = Vec::new(alloc);
     let mut link = link_over(alloc, input)?;
     let status = query(alloc, words, &mut link, &mut err);
     let (_source, sink) = link.into_ends();
-    Ok(Run {
+    Ok(Written {
         status,
         out: sink.into_inner(),
         err,

@@ -22,7 +22,7 @@ pub fn link_over(alloc: Global, incoming: &[u8]) -> RedisResult<MemoryLink> {
 
 /// A query of a command or a pipeline.
 #[derive(Clone, Copy, Drop)]
-struct Query<'a> {
+struct Asked<'a> {
     alloc: Global,
     flags: &'a [Vec<u8>],
     words: &'a [Vec<u8>],
@@ -38,7 +38,7 @@ pub fn query(alloc: Global, row: &Row) -> RedisResult<String> {
     let (flags, words) = split_flags(words);
     at_answer_type(
         text_of(name.as_slice())?,
-        Query {
+        Asked {
             alloc,
             flags,
             words,
@@ -47,17 +47,17 @@ pub fn query(alloc: Global, row: &Row) -> RedisResult<String> {
     )
 }
 
-impl<'a> AtType for Query<'a> {
+impl<'a> AtType for Asked<'a> {
     fn at<T: FromRedisValue + Debug>(self) -> RedisResult<String> {
         let mut link = link_over(self.alloc, self.incoming)?;
-        let answer = asked::<T>(self, &mut link)?;
+        let answer = answer_of::<T>(self, &mut link)?;
         with_link(self.alloc, answer, link)
     }
 }
 
 /// What the query answers.
-fn asked<T: FromRedisValue + Debug>(
-    query: Query<'_>,
+fn answer_of<T: FromRedisValue + Debug>(
+    query: Asked<'_>,
     con: &mut dyn ConnectionLike,
 ) -> RedisResult<String> {
     let no_response = has_flag(query.flags, "--no-response");

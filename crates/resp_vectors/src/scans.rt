@@ -62,11 +62,11 @@ fn all_answers<T: FromRedisValue + Debug>(
     mut scan: Iter<'_, T, MemoryLink>,
 ) -> RedisResult<String> {
     let mut text = String::new(alloc);
-    let mut ends = 0;
+    let mut ends = 0u8;
     for _ in 0..10_000 {
         match scan.next() {
             Some(answer) => add_answer(alloc, &mut text, answer)?,
-            None => ends += 1,
+            None => ends = ends.saturating_add(1),
         }
         if ends == 3 {
             break;
