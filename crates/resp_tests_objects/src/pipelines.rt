@@ -1,0 +1,101 @@
+//! Pipelines between calls, and the two connections that they meet.
+
+use crate::checks::{answers, is};
+use crate::commands::refused_map;
+use crate::writing::{WIDE, wide_pairs};
+use resp_core::{Cmd, Pipeline, Value, pipe};
+use resp_testing::{OneAtATime, bytes_text, pipeline, pipeline_text};
+use std::process::Abort;
+use std::test::Fail;
+
+/// The pipeline is packed as these bytes.
+fn packs(rt: &(impl Abort + AllocGlobal), pipeline: &Pipeline, wanted: &str) {
+    is(rt, pipeline_text(rt.alloc(), pipeline), wanted);
+}
+
+#[test]
+fn a_pipeline_without_commands(rt: HostRuntime) {
+    let mut pipeline = pipe(rt.alloc());
+    assert!(rt; pipeline.is_empty() && !pipeline.is_transaction());
+    packs(&rt, &pipeline, "");
+    let _ = pipeline.ignore().atomic();
+    assert!(rt; pipeline.is_empty() && pipeline.is_transaction());
+    packs(&rt, &pipeline, "*1\r\n$5\r\nMULTI\r\n*1\r\n$4\r\nEXEC\r\n");
+}
+
+#[test]
+fn a_transaction_in_a_chain(rt: HostRuntime) -> Result<(), Fail> {
+    let mut pipeline = Pipeline::with_capacity(rt.alloc(), 2)?;
+    let set = pipeline.atomic().cmd("SET")?.arg("k")?.arg(1i64)?;
+    let _ = set.ignore().cmd("GET")?.arg("k")?;
+    let wanted = "*1\r\n$5\r\nMULTI\r\n*3\r\n$3\r\nSET\r\n$1\r\nk\r\n$1\r\n1\r\n\
+        *2\r\n$3\r\nGET\r\n$1\r\nk\r\n*1\r\n$4\r\nEXEC\r\n";
+    packs(&rt, &pipeline, wanted);
+    packs(&rt, &pipeline.try_clone()?, wanted);
+    Ok(())
+}
+
+#[test]
+fn a_cleared_transaction_stays_one(rt: HostRuntime) {
+    let mut pipeline = pipeline(rt.alloc(), &[&["PING"]]).expect(&rt, "memory");
+    let _ = pipeline.atomic().ignore_errors();
+    pipeline.clear();
+    assert!(rt; pipeline.is_empty() && pipeline.is_transaction());
+    let _ = pipeline
+        .add_command(Cmd::new(rt.alloc()))
+        .expect(&rt, "memory");
+    assert_eq!(rt; pipeline.len(), 1);
+    packs(
+        &rt,
+        &pipeline,
+        "*1\r\n$5\r\nMULTI\r\n*0\r\n*1\r\n$4\r\nEXEC\r\n",
+    );
+}
+
+#[test]
+fn the_commands_in_order(rt: HostRuntime) {
+    let pipeline = pipeline(rt.alloc(), &[&["A"], &["B", "c"]]).expect(&rt, "memory");
+    let mut packed = Vec::new(rt.alloc());
+    for command in pipeline.cmd_iter() {
+        answers(&rt, command.write_packed_command(&mut packed), "()");
+    }
+    let wanted = "*1\r\n$1\r\nA\r\n*2\r\n$1\r\nB\r\n$1\r\nc\r\n";
+    is(&rt, bytes_text(rt.alloc(), packed.as_slice()), wanted);
+}
+
+#[test]
+fn refused_argument_of_a_pipeline_changes_nothing(rt: HostRuntime) {
+    let mut pipeline = pipeline(rt.alloc(), &[&["A"], &["HSET", "h"]]).expect(&rt, "memory");
+    let refused = pipeline.push_arg(refused_map(&rt));
+    answers(&rt, refused, WIDE);
+    packs(
+        &rt,
+        &pipeline,
+        "*1\r\n$1\r\nA\r\n*2\r\n$4\r\nHSET\r\n$1\r\nh\r\n",
+    );
+}
+
+#[test]
+fn an_argument_refused_midway_leaves_a_pipeline(rt: HostRuntime) {
+    let mut pipeline = pipe(rt.alloc());
+    answers(&rt, pipeline.push_cmd("A"), "()");
+    let _ = pipeline.ignore();
+    answers(&rt, pipeline.push_cmd("HSET"), "()");
+    answers(&rt, pipeline.push_arg("h"), "()");
+    let refused = pipeline.arg(wide_pairs(&rt)).err();
+    answers::<()>(&rt, Err(refused.expect(&rt, "a refusal")), WIDE);
+    let _ = pipeline.cmd("B").expect(&rt, "memory").atomic();
+    let wanted = "*1\r\n$5\r\nMULTI\r\n*1\r\n$1\r\nA\r\n*2\r\n$4\r\nHSET\r\n$1\r\nh\r\n\
+        *1\r\n$1\r\nB\r\n*1\r\n$4\r\nEXEC\r\n";
+    packs(&rt, &pipeline, wanted);
+}
+
+#[test]
+fn a_connection_without_pipelining(rt: HostRuntime) {
+    let mut con = OneAtATime { requests: 0 };
+    let two = pipeline(rt.alloc(), &[&["FOO"], &["BAR"]]).expect(&rt, "memory");
+    let refused = "This connection does not support pipelining. - Client";
+    answers(&rt, two.query::<Value>(&mut con), refused);
+    answers(&rt, two.exec(&mut con), refused);
+    assert_eq!(rt; con.requests, 0);
+}

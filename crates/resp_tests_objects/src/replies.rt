@@ -1,0 +1,115 @@
+//! Types of replies: comparisons, calls of their own, and conversions that no row can ask for.
+
+ghost use Rattle.std.specs.Prelude.{◌≡◌, IfOk};
+
+use crate::checks::{answers, both, debugs, equals, is, string};
+use resp_core::laws::{SingleValued, law_of_one_value};
+use resp_core::{
+    FromRedisValue, IncrexResult, InfoDict, IntegerReplyOrNoOp, RedisResult, Value, ValueType,
+    parse_redis_value,
+};
+use resp_testing::debug_text;
+use std::alloc::Global;
+use std::collections::{HashMap, HashSet};
+
+#[test]
+fn integers_are_compared_exactly(rt: HostRuntime) {
+    let longest = IntegerReplyOrNoOp::IntegerReply(9223372036854775808);
+    assert!(rt; longest.raw().is_none());
+    let long = IntegerReplyOrNoOp::IntegerReply(4294967297);
+    assert_eq!(rt; long.raw(), Some(4294967297));
+    assert!(rt; !long.eq_i32(1) && !long.eq_u32(1));
+    assert!(rt; long.eq_usize(4294967297) && long.eq_isize(4294967297));
+    let gone = IntegerReplyOrNoOp::NotExists;
+    assert!(rt; gone.eq_isize(-2) && gone.eq_i32(-2) && !gone.eq_i32(-1));
+    assert!(rt; !gone.eq_usize(0) && !gone.eq_usize(18446744073709551614));
+    assert!(rt; !gone.eq_u32(4294967294));
+    assert_eq!(rt; IntegerReplyOrNoOp::ExistsButNotRelevant.raw(), Some(-1));
+}
+
+#[test]
+fn increments(rt: HostRuntime) {
+    let (both_integers, same): (IncrexResult, _) = both(&rt, b"*2\r\n:5\r\n:2\r\n");
+    assert!(rt; both_integers == same);
+    assert_eq!(rt;
+        both_integers.as_i64(rt.alloc()).expect(&rt, "integers"),
+        (5, 2)
+    );
+    let (texts, _): (IncrexResult, _) = both(&rt, b"*2\r\n:300\r\n+7\r\n");
+    assert!(rt; texts.value_as::<u8>(rt.alloc()).is_err());
+    let grown = texts.actual_increment_as::<u8>(rt.alloc());
+    assert_eq!(rt; grown.expect(&rt, "a number"), 7);
+    equals(&rt, texts.try_clone(rt.alloc()), &texts);
+}
+
+#[test]
+fn a_type_without_a_variant(rt: HostRuntime) {
+    let unknown = ValueType::read(rt.alloc(), "xyz").expect(&rt, "memory");
+    equals(&rt, unknown.try_clone(rt.alloc()), &unknown);
+    assert_eq!(rt; unknown.name(), "xyz");
+}
+
+#[test]
+fn entries_of_info(rt: HostRuntime) {
+    let (info, _): (InfoDict, _) = both(&rt, b"|0\r\n|0\r\n=22\r\ntxt:a:b\nclients:7\nc:x\n\r\n");
+    let copy = info.try_clone(rt.alloc()).expect(&rt, "memory");
+    assert!(rt; copy.len() == 3 && !copy.is_empty() && copy.as_map().len() == 3);
+    assert!(rt; copy.contains_key(&"c") && !copy.contains_key(&"b"));
+    debugs(&rt, &copy.find(&"a"), "Some(simple-string(\"b\"))");
+    for (key, wanted) in [("clients", Some(7u64)), ("c", None), ("gone", None)] {
+        let found = info.get(rt.alloc(), key).expect(&rt, "memory");
+        assert_eq!(rt; found, wanted, "{key}");
+    }
+}
+
+#[test]
+fn hashed_containers_of_several(rt: HostRuntime) {
+    let (map, _): (HashMap<i64, i64>, _) = both(&rt, b"%2\r\n:1\r\n:5\r\n:2\r\n:6\r\n");
+    assert!(rt; map.len() == 2 && map.get(&1) == Some(&5) && map.get(&2) == Some(&6));
+    let (set, _): (HashSet<i64>, _) = both(&rt, b"~3\r\n:2\r\n:1\r\n:2\r\n");
+    assert!(rt; set.len() == 2 && set.contains(&1) && set.contains(&2));
+}
+
+#[test]
+fn a_borrowed_list_of_replies(rt: HostRuntime) {
+    let values = [Value::Int(1), Value::Int(2)];
+    let numbers = i64::from_redis_value_refs(rt.alloc(), values.as_slice());
+    assert_eq!(rt;
+        numbers.expect(&rt, "numbers").as_slice(),
+        [1, 2].as_slice()
+    );
+}
+
+#[test]
+fn a_refusal_of_nothing_is_the_servers_error(rt: HostRuntime) {
+    let error = parse_redis_value(rt.alloc(), b"-ERR x\r\n").expect(&rt, "a reply");
+    let refused = <()>::from_redis_value(rt.alloc(), error).expect_err(&rt, "a refusal");
+    assert_eq!(rt; refused.description(), "ResponseError: x");
+    let by_name: RedisResult<()> = Err(refused.into());
+    answers(&rt, by_name, "Incompatible type - ResponseError: x");
+}
+
+/// What a reply converts to when it is borrowed, and when it is moved: they look the same.
+fn borrowed_and_moved<T: SingleValued>(alloc: Global, reply: &[u8]) -> RedisResult<(T, T)>
+    ensures alike { IfOk result (λ both. T.seen both.0 ≡ T.seen both.1) }
+{
+    law_of_one_value::<T>();
+    let reply = parse_redis_value(alloc, reply)?;
+    let borrowed = T::from_redis_value_ref(alloc, &reply)?;
+    let moved = T::from_redis_value(alloc, reply)?;
+    Ok((borrowed, moved))
+}
+
+#[test]
+fn a_reply_is_one_value_of_a_type(rt: HostRuntime) {
+    let reply = b"*2\r\n*1\r\n*2\r\n:1\r\n+a\r\n#t\r\n";
+    let both = borrowed_and_moved::<(Vec<(i64, String)>, Option<bool>)>(rt.alloc(), reply);
+    let (borrowed, moved) = both.expect(&rt, "no refusal");
+    assert!(rt; borrowed == moved);
+    is(
+        &rt,
+        debug_text(rt.alloc(), &moved),
+        "([(1, \"a\")], Some(true))",
+    );
+    assert_eq!(rt; string(&rt, "a").as_str(), moved.0[0].1.as_str());
+}
