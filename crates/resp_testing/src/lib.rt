@@ -1,23 +1,17 @@
-//! What the crates of tests share: commands of words, links over memory, devices that fail at a
+//! What the crates of tests share: commands of words, links over memory, a device that fails at a
 //! chosen call, and what answers show.
 //!
 //! A text is empty where memory runs out for it, so that a test that wants one fails.
 #![tactic(auto)]
 
-mod connections;
+mod device;
 mod memory;
-mod readers;
-mod sinks;
-mod sources;
 mod texts;
 
-pub use connections::OneAtATime;
+pub use device::Device;
 pub use memory::{
     MemoryLink, command, command_text, link_over, pipeline, pipeline_text, sent_text,
 };
-pub use readers::{ScriptedReader, ScriptedWriter, Step};
-pub use sinks::Slow;
-pub use sources::{Again, Drip};
 pub use texts::{
     answer_text, args_text, bytes_text, debug_text, display_text, next_text, refusal_text,
 };

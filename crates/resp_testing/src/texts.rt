@@ -1,6 +1,6 @@
 //! What answers show.
 
-use resp_core::{FrameFault, Parser, RedisError, RedisResult, Text, ToRedisArgs};
+use resp_core::{Parser, RedisError, RedisResult, Text, ToRedisArgs};
 use std::alloc::{AllocError, Global};
 use std::fmt::{Debug, Display};
 
@@ -25,13 +25,9 @@ pub fn bytes_text(alloc: Global, bytes: &[u8]) -> String {
 /// The fault of the refused bytes, or else what the error shows.
 pub fn refusal_text(alloc: Global, error: &RedisError) -> String {
     match error.frame_fault() {
-        Some(fault) => fault_text(alloc, fault),
+        Some(fault) => debug_text(alloc, &fault),
         None => display_text(alloc, error),
     }
-}
-
-fn fault_text(alloc: Global, fault: FrameFault) -> String {
-    debug_text(alloc, &fault)
 }
 
 /// The Debug form of an answer, or what its refusal shows.
@@ -52,7 +48,7 @@ pub fn next_text(alloc: Global, parser: &mut Parser) -> String {
 }
 
 /// The arguments that a value gives, each with its length before it, and for how many it counts, as
-/// `2:EX 2:10 counts 1`; or why it is refused.
+/// `2:EX 2:10 (1)`; or why it is refused.
 pub fn args_text<T: ToRedisArgs>(alloc: Global, value: &T) -> String {
     match value.to_redis_args(alloc) {
         Ok(args) => {
@@ -69,6 +65,6 @@ fn listed(alloc: Global, args: &[Vec<u8>], count: usize) -> Result<String, Alloc
         text.push_str(bytes_text(alloc, arg.as_slice()).as_str())?;
         text.push(' ')?;
     }
-    write!(text, "counts {count}")?;
+    write!(text, "({count})")?;
     Ok(text)
 }

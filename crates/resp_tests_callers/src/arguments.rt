@@ -19,15 +19,15 @@ fn string(rt: &(impl Abort + AllocGlobal), text: &str) -> String {
 #[test]
 fn fields_one_after_another(rt: HostRuntime) {
     let points = [Point { x: 1, y: 2 }, Point { x: 3, y: 4 }];
-    gives(&rt, &Point { x: 1, y: -2 }, "1:1 2:-2 counts 1");
-    gives(&rt, &points.as_slice(), "1:1 1:2 1:3 1:4 counts 2");
-    gives(&rt, &Range { first: 0, last: -1 }, "1:0 2:-1 counts 2");
+    gives(&rt, &Point { x: 1, y: -2 }, "1:1 2:-2 (1)");
+    gives(&rt, &points.as_slice(), "1:1 1:2 1:3 1:4 (2)");
+    gives(&rt, &Range { first: 0, last: -1 }, "1:0 2:-1 (2)");
     let name = string(&rt, "a b");
-    gives(&rt, &Member { score: 7, name }, "1:7 3:a b counts 2");
+    gives(&rt, &Member { score: 7, name }, "1:7 3:a b (2)");
     let name = string(&rt, "my_key");
-    gives(&rt, &Key { name }, "6:my_key counts 1");
+    gives(&rt, &Key { name }, "6:my_key (1)");
     let points = points.to_vec(rt.alloc()).expect(&rt, "memory");
-    gives(&rt, &Path { points }, "1:1 1:2 1:3 1:4 counts 2");
+    gives(&rt, &Path { points }, "1:1 1:2 1:3 1:4 (2)");
 }
 
 /// Two pairs, of which the second has two values.
@@ -44,7 +44,7 @@ fn a_wide_pair_isnt_written(rt: HostRuntime) {
     let written = answer_text(rt.alloc(), wide_map(&rt).write_redis_args(&mut args));
     let wanted = "map key or value is more than one argument - Client";
     assert_eq!(rt; written.as_str(), wanted);
-    gives(&rt, &args, "1:x 1:1 1:5 counts 3");
+    gives(&rt, &args, "1:x 1:1 1:5 (3)");
 }
 
 /// The command is packed as these bytes.

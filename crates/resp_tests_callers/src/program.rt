@@ -1,7 +1,7 @@
 //! The program `resp` where its streams fail, where its words can't be had, and over many replies.
 
 use resp_program::{pack, print_no_words, query, read};
-use resp_testing::{ScriptedReader, ScriptedWriter, Step, bytes_text, link_over};
+use resp_testing::{Device, bytes_text, link_over};
 use std::io;
 use std::process::Abort;
 
@@ -15,9 +15,9 @@ fn words(rt: &(impl Abort + AllocGlobal)) -> Vec<String> {
     words
 }
 
-/// A stream that takes nothing.
-fn closed() -> ScriptedWriter {
-    ScriptedWriter::new(&[Step::Fails(io::ErrorKind::BrokenPipe); 2], &[])
+/// A stream that fails at its first call.
+fn closed(rt: &impl AllocGlobal) -> Device {
+    Device::failing(rt.alloc(), b"", 9, 1, Some(io::ErrorKind::BrokenPipe))
 }
 
 /// The bytes are this text.
@@ -42,11 +42,8 @@ fn words_that_cannot_be_had(rt: HostRuntime) {
 fn a_reader_that_fails(rt: HostRuntime) {
     let mut out: Vec<u8> = Vec::new(rt.alloc());
     let mut err: Vec<u8> = Vec::new(rt.alloc());
-    let script = &[
-        Step::Moves(b":1\r\n"),
-        Step::Fails(io::ErrorKind::ConnectionReset),
-    ];
-    let mut reader = ScriptedReader::new(script);
+    let fault = Some(io::ErrorKind::ConnectionReset);
+    let mut reader = Device::failing(rt.alloc(), b":1\r\n", 9, 2, fault);
     assert_eq!(rt; read(rt.alloc(), &mut reader, &mut out, &mut err), 2);
     is(&rt, out, "int(1)\n");
     is(&rt, err, "refused: I/O error\n");
@@ -57,19 +54,27 @@ fn streams_that_fail(rt: HostRuntime) {
     let words = words(&rt);
     let mut err: Vec<u8> = Vec::new(rt.alloc());
     assert_eq!(rt;
-        pack(rt.alloc(), words.as_slice(), &mut closed(), &mut err),
+        pack(rt.alloc(), words.as_slice(), &mut closed(&rt), &mut err),
         2
     );
     is(&rt, err, "refused: I/O error\n");
     assert_eq!(rt;
-        pack(rt.alloc(), words.as_slice(), &mut closed(), &mut closed()),
+        pack(
+            rt.alloc(),
+            words.as_slice(),
+            &mut closed(&rt),
+            &mut closed(&rt)
+        ),
         2
     );
     // The status of wrong words stays, and an answer that can't be printed is a refusal.
-    assert_eq!(rt; pack(rt.alloc(), &[], &mut closed(), &mut closed()), 1);
+    assert_eq!(rt;
+        pack(rt.alloc(), &[], &mut closed(&rt), &mut closed(&rt)),
+        1
+    );
     let mut link = link_over(rt.alloc(), b":1\r\n").expect(&rt, "memory");
     assert_eq!(rt;
-        query(rt.alloc(), words.as_slice(), &mut link, &mut closed()),
+        query(rt.alloc(), words.as_slice(), &mut link, &mut closed(&rt)),
         2
     );
 }

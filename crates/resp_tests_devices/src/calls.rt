@@ -1,66 +1,47 @@
 //! What readers and writers are asked for, and how often.
 
-use crate::checks::{answers, answers_at, gives};
+use crate::checks::{Test, answers, gives};
 use resp_core::{ByteLink, CommandSink, IoKind, Parser, Reading, ReplySource, Writing};
-use resp_testing::{Drip, ScriptedReader, ScriptedWriter, Slow, Step};
+use resp_testing::Device;
 use std::io::ErrorKind;
-use std::process::Abort;
 
-/// The parser answers this over a reader with this script.
-fn reads_as(
-    rt: &(impl Abort + AllocGlobal),
-    parser: &mut Parser,
-    script: &'static [Step],
-    wanted: &str,
-) {
-    answers(rt, parser.parse_value(ScriptedReader::new(script)), wanted);
-}
-
-/// A link that reads as the script says, and whose writer takes all.
-fn link_over(
-    rt: &(impl Abort + AllocGlobal),
-    script: &'static [Step],
-) -> ByteLink<Reading<ScriptedReader>, Writing<ScriptedWriter>> {
-    let reader = ScriptedReader::new(script);
-    ByteLink::new(rt.alloc(), reader, ScriptedWriter::new(&[], &[]))
+/// A device that gives a text as a whole and fails at this call.
+fn failing(rt: &impl Test, text: &'static [u8], at: usize, fault: Option<ErrorKind>) -> Device {
+    Device::failing(rt.alloc(), text, usize::MAX, at, fault)
 }
 
 #[test]
 fn a_readers_fault_is_its_own(rt: HostRuntime) {
-    for (script, wanted) in [
-        (&[Step::Fails(ErrorKind::TimedOut)][..], "TimedOut"),
-        (&[Step::Fails(ErrorKind::BrokenPipe)][..], "BrokenPipe"),
-        (&[Step::Fails(ErrorKind::Interrupted)][..], "Interrupted"),
+    for (kind, wanted) in [
+        (ErrorKind::TimedOut, "TimedOut"),
+        (ErrorKind::BrokenPipe, "BrokenPipe"),
+        (ErrorKind::Interrupted, "Interrupted"),
     ] {
         let mut parser = Parser::new(rt.alloc());
-        reads_as(&rt, &mut parser, script, wanted);
+        let reader = failing(&rt, b"", 1, Some(kind));
+        answers(&rt, parser.parse_value(reader), wanted);
         assert!(rt; !parser.is_failed());
-        reads_as(&rt, &mut parser, &[Step::Moves(b":7\r\n")], "int(7)");
+        answers(&rt, parser.parse_value(b":7\r\n".as_slice()), "int(7)");
     }
 }
 
 #[test]
 fn a_buffered_value_asks_for_nothing(rt: HostRuntime) {
-    let script = &[Step::Fails(ErrorKind::TimedOut)];
-    let mut source = Reading::new(ScriptedReader::new(script));
+    let mut source = Reading::new(failing(&rt, b"", 1, Some(ErrorKind::TimedOut)));
     let mut parser = Parser::new(rt.alloc());
-    answers(&rt, parser.feed(b":1\r\n:2\r\n:3\r\n:"), "()");
-    answers(&rt, parser.parse_from(&mut source), "int(1)");
-    reads_as(&rt, &mut parser, script, "int(2)");
-    // A reader that has ended ends no value that is there.
-    reads_as(&rt, &mut parser, &[], "int(3)");
-    answers(&rt, parser.parse_from(&mut source), "TimedOut");
+    each! { answers, rt;
+        parser.feed(b":1\r\n:2\r\n:3\r\n:") => "()",
+        parser.parse_from(&mut source) => "int(1)",
+        parser.parse_value(failing(&rt, b"", 1, Some(ErrorKind::TimedOut))) => "int(2)",
+        parser.parse_value(b"".as_slice()) => "int(3)",
+        parser.parse_from(&mut source) => "TimedOut",
+    }
     assert_eq!(rt; source.into_inner().calls, 1);
 }
 
 #[test]
 fn parse_value_reads_no_further(rt: HostRuntime) {
-    let script = &[
-        Step::Moves(b":1\r"),
-        Step::Moves(b"\n:2"),
-        Step::Moves(b"\r\n"),
-    ];
-    let mut reader = ScriptedReader::new(script);
+    let mut reader = Device::new(rt.alloc(), b":1\r\n:2\r\n", 3);
     let mut parser = Parser::new(rt.alloc());
     for (wanted, calls) in [("int(1)", 2), ("int(2)", 3)] {
         answers(&rt, parser.parse_value(&mut reader), wanted);
@@ -70,165 +51,181 @@ fn parse_value_reads_no_further(rt: HostRuntime) {
 
 #[test]
 fn one_read_a_fill(rt: HostRuntime) {
-    let script = &[Step::Fails(ErrorKind::Interrupted), Step::Moves(b":7\r\n")];
-    let mut source = Reading::new(ScriptedReader::new(script));
+    let mut source = Reading::new(failing(&rt, b":7\r\n", 1, Some(ErrorKind::Interrupted)));
     let mut buf = [0; 16];
     assert_eq!(rt; source.fill(&mut buf[..]), Err(IoKind::Interrupted));
     assert_eq!(rt; source.into_inner().calls, 1);
 }
 
 #[test]
-fn nothing_is_asked_after_a_refusal(rt: HostRuntime) {
-    for (script, wanted, calls) in [
-        (
-            &[Step::Moves(b":x\r\n"), Step::Moves(b":1\r\n")][..],
-            "NotInteger",
-            1,
-        ),
-        (
-            &[Step::Moves(b":1"), Step::Moves(b""), Step::Moves(b"\r\n")][..],
-            "UnexpectedEof",
-            2,
-        ),
-        (
-            &[Step::Fails(ErrorKind::Interrupted), Step::Moves(b":7\r\n")][..],
-            "Interrupted",
-            1,
-        ),
-    ] {
-        let mut link = link_over(&rt, script);
-        gives(&rt, &mut link, wanted);
-        assert!(rt; link.is_broken(), "{wanted}");
-        let (source, _sink) = link.into_ends();
-        assert_eq!(rt; source.into_inner().calls, calls, "{wanted}");
-    }
-}
-
-#[test]
-fn a_query_flushes_its_writer(rt: HostRuntime) {
-    let mut link = link_over(&rt, &[Step::Moves(b":7\r\n:8\r\n"), Step::Moves(b":9\r\n")]);
-    gives(&rt, &mut link, "7");
-    // The reply to the next one is there already.
-    gives(&rt, &mut link, "8");
-    let (source, sink) = link.into_ends();
-    let writer = sink.into_inner();
-    assert_eq!(rt; (writer.writes, writer.flushes), (2, 2));
-    assert_eq!(rt; source.into_inner().calls, 1);
-}
-
-#[test]
 fn one_write_a_send(rt: HostRuntime) {
-    let script = &[Step::Fails(ErrorKind::Interrupted), Step::Moves(b"x")];
-    let mut sink = Writing::new(ScriptedWriter::new(script, &[]));
+    let mut sink = Writing::new(failing(&rt, b"", 1, Some(ErrorKind::Interrupted)));
     assert_eq!(rt; sink.send(b"x"), Err(IoKind::Interrupted));
     let writer = sink.into_inner();
-    assert_eq!(rt; (writer.writes, writer.flushes), (1, 0));
-}
-
-#[test]
-fn one_flush_a_flush(rt: HostRuntime) {
-    let script = &[Step::Fails(ErrorKind::Interrupted)];
-    let mut sink = Writing::new(ScriptedWriter::new(&[], script));
-    assert_eq!(rt; sink.flush(), Err(IoKind::Interrupted));
-    let writer = sink.into_inner();
-    assert_eq!(rt; (writer.writes, writer.flushes), (0, 1));
+    assert_eq!(rt; (writer.calls, writer.flushes), (1, 0));
 }
 
 #[test]
 fn a_write_of_nothing(rt: HostRuntime) {
-    let mut sink = Writing::new(ScriptedWriter::new(&[Step::Moves(b"")], &[]));
+    let mut sink = Writing::new(failing(&rt, b"", 1, None));
     assert_eq!(rt; sink.send(b"x"), Err(IoKind::WriteZero));
     assert_eq!(rt; sink.send(b"x"), Ok(1));
-    let deaf = ScriptedWriter::new(&[Step::Moves(b"")], &[]);
-    let mut link = ByteLink::over(rt.alloc(), Drip::new(b":1\r\n", 0, 0), Writing::new(deaf));
-    gives(&rt, &mut link, "WriteZero");
-    assert!(rt; link.is_broken());
-    let (source, _sink) = link.into_ends();
-    assert_eq!(rt; source.calls, 0);
 }
 
 #[test]
-fn devices_of_single_bytes(rt: HostRuntime) {
-    let source = Drip::new(b"$2\r\n42\r\n", 0, 0);
-    let mut link = ByteLink::over(rt.alloc(), source, Slow::new(rt.alloc(), 0, false));
-    gives(&rt, &mut link, "42");
-    let (source, sink) = link.into_ends();
-    assert_eq!(rt; (source.calls, sink.calls, sink.flushes), (8, 14, 1));
+fn one_flush_a_flush(rt: HostRuntime) {
+    let mut writer = Device::new(rt.alloc(), b"", 1);
+    writer.flush_fault = Some(ErrorKind::Interrupted);
+    let mut sink = Writing::new(writer);
+    assert_eq!(rt; sink.flush(), Err(IoKind::Interrupted));
+    let writer = sink.into_inner();
+    assert_eq!(rt; (writer.calls, writer.flushes), (0, 1));
 }
 
-/// More bytes than one read may be asked for, of a body that doesn't end.
-const LONG_BODY: &[Step] = &[
-    Step::Moves(b"$9000\r\n"),
-    Step::Fills(5000),
-    Step::Fills(5000),
-    Step::Moves(b"x"),
-];
-
-#[test]
-fn at_most_4096_bytes_a_read(rt: HostRuntime) {
-    let mut parser = Parser::new(rt.alloc());
-    reads_as(&rt, &mut parser, LONG_BODY, "UnexpectedEof");
-    let mut source = Reading::new(ScriptedReader::new(LONG_BODY));
-    let mut parser = Parser::new(rt.alloc());
-    answers(&rt, parser.parse_from(&mut source), "UnexpectedEof");
-    let reader = source.into_inner();
-    assert_eq!(rt; (reader.calls, reader.most), (5, 4096));
-}
-
-#[test]
-fn a_link_asks_for_at_most_4096_bytes(rt: HostRuntime) {
-    let sink = Slow::new(rt.alloc(), 0, false);
-    let mut link = ByteLink::over(rt.alloc(), Drip::new(b"", 0, 0), sink);
-    gives(&rt, &mut link, "UnexpectedEof");
-    let (source, _sink) = link.into_ends();
-    assert_eq!(rt; (source.calls, source.most), (1, 4096));
-}
-
-/// A call of the reader or the writer that fails breaks the link; the kind is the device's.
-fn breaks(
-    rt: &(impl Abort + AllocGlobal),
-    reads: &'static [Step],
-    writes: &'static [Step],
-    wanted: &str,
+/// `PING` over these devices is answered this, which breaks the link or not, after so many reads,
+/// writes and flushes.
+fn asks(
+    rt: &impl Test,
+    (reader, writer): (Device, Device),
+    (wanted, breaks): (&str, bool),
+    calls: (usize, usize, usize),
 ) {
-    let writer = ScriptedWriter::new(writes, &[]);
-    let mut link = ByteLink::new(rt.alloc(), ScriptedReader::new(reads), writer);
+    let mut link = ByteLink::new(rt.alloc(), reader, writer);
     gives(rt, &mut link, wanted);
-    assert!(rt; link.is_broken(), "{wanted}");
+    assert_eq!(rt; link.is_broken(), breaks, "{wanted}");
+    let (source, sink) = link.into_ends();
+    let (reader, writer) = (source.into_inner(), sink.into_inner());
+    assert_eq!(rt;
+        (reader.calls, writer.calls, writer.flushes),
+        calls,
+        "{wanted}"
+    );
 }
 
 #[test]
-fn a_reader_that_fails_breaks_it(rt: HostRuntime) {
-    let reads = &[Step::Moves(b"$1\r\n"), Step::Fails(ErrorKind::TimedOut)];
-    breaks(&rt, reads, &[], "TimedOut");
+fn a_query_flushes_its_writer(rt: HostRuntime) {
+    let reader = Device::new(rt.alloc(), b":7\r\n:8\r\n", 4);
+    let writer = Device::new(rt.alloc(), b"", usize::MAX);
+    asks(&rt, (reader, writer), ("7", false), (1, 1, 1));
+    // Devices of single bytes.
+    let reader = Device::new(rt.alloc(), b"$2\r\n42\r\n", 1);
+    let writer = Device::new(rt.alloc(), b"", 1);
+    asks(&rt, (reader, writer), ("42", false), (8, 14, 1));
+}
+
+#[test]
+fn nothing_is_asked_after_a_refusal(rt: HostRuntime) {
+    for (text, each, at, fault, wanted, calls) in [
+        (b":x\r\n:1\r\n".as_slice(), 4, 0, None, "NotInteger", 1),
+        (b":1\r\n", 2, 2, None, "UnexpectedEof", 2),
+        (
+            b":1\r\n",
+            4,
+            1,
+            Some(ErrorKind::Interrupted),
+            "Interrupted",
+            1,
+        ),
+        (
+            b"$1\r\n1\r\n",
+            4,
+            2,
+            Some(ErrorKind::TimedOut),
+            "TimedOut",
+            2,
+        ),
+    ] {
+        let reader = Device::failing(rt.alloc(), text, each, at, fault);
+        let writer = Device::new(rt.alloc(), b"", usize::MAX);
+        asks(&rt, (reader, writer), (wanted, true), (calls, 1, 1));
+    }
 }
 
 #[test]
 fn a_full_writer_breaks_it(rt: HostRuntime) {
-    let writes = &[
-        Step::Fills(1),
-        Step::Fills(2),
-        Step::Fails(ErrorKind::BrokenPipe),
-    ];
-    breaks(&rt, &[Step::Moves(b":7\r\n")], writes, "BrokenPipe");
+    for (each, at, fault, wanted) in [
+        (1, 4, Some(ErrorKind::BrokenPipe), "BrokenPipe"),
+        (14, 1, None, "WriteZero"),
+    ] {
+        let reader = Device::new(rt.alloc(), b":7\r\n", 4);
+        let writer = Device::failing(rt.alloc(), b"", each, at, fault);
+        asks(&rt, (reader, writer), (wanted, true), (0, at, 0));
+    }
+}
+
+/// More bytes than one read may be asked for.
+const LONG: [u8; 10_000] = [b'x'; 10_000];
+
+#[test]
+fn at_most_4096_bytes_a_read(rt: HostRuntime) {
+    let mut parser = Parser::new(rt.alloc());
+    let mut reader = Device::new(rt.alloc(), &LONG, 5000);
+    each! { answers, rt;
+        parser.feed(b"$9000\r\n") => "()",
+        parser.parse_value(&mut reader) => "BodyEnd",
+    }
+    assert_eq!(rt; (reader.calls, reader.most), (3, 4096));
+    let mut parser = Parser::new(rt.alloc());
+    let mut source = Reading::new(Device::new(rt.alloc(), b"$9000\r\n", 5000));
+    answers(&rt, parser.parse_from(&mut source), "UnexpectedEof");
+    let reader = source.into_inner();
+    assert_eq!(rt; (reader.calls, reader.most), (2, 4096));
+}
+
+#[test]
+fn asks_for_at_most_4096(rt: HostRuntime) {
+    let reader = Device::new(rt.alloc(), b"", 1);
+    let writer = Device::new(rt.alloc(), b"", usize::MAX);
+    let mut link = ByteLink::new(rt.alloc(), reader, writer);
+    gives(&rt, &mut link, "UnexpectedEof");
+    let (source, _sink) = link.into_ends();
+    assert_eq!(rt; source.into_inner().most, 4096);
 }
 
 #[test]
 fn a_parser_goes_on_after_a_failure(rt: HostRuntime) {
     for at in 1..=12 {
-        let mut source = Drip::new(b"*2\r\n:1\r\n:2\r\n", at, 0);
+        let kind = Some(ErrorKind::TimedOut);
+        let reader = Device::failing(rt.alloc(), b"*2\r\n:1\r\n:2\r\n", 1, at, kind);
+        let mut source = Reading::new(reader);
         let mut parser = Parser::new(rt.alloc());
-        answers_at(&rt, at, parser.parse_from(&mut source), "TimedOut");
+        answers(&rt, parser.parse_from(&mut source), "TimedOut");
         assert!(rt;
             !parser.is_failed() && parser.in_progress() == (at > 1),
             "call {at}"
         );
-        answers_at(
+        answers(
             &rt,
-            at,
             parser.parse_from(&mut source),
             "array([int(1), int(2)])",
         );
-        assert!(rt; !parser.in_progress() && source.failures == 1, "call {at}");
+        assert!(rt; !parser.in_progress(), "call {at}");
+        assert_eq!(rt; source.into_inner().calls, 13, "call {at}");
+    }
+}
+
+#[test]
+fn a_source_that_ends_within_a_value(rt: HostRuntime) {
+    for text in [
+        b"".as_slice(),
+        b"$2\r\nab",
+        b"$2\r\nab\r",
+        b"*9223372036854775807\r\n:1\r\n",
+        b"$9223372036854775807\r\n",
+        b"*9223372036854775807\r\n",
+        b"~9223372036854775807\r\n",
+        b"!9223372036854775807\r\n",
+        b"=9223372036854775807\r\n",
+        b"%9223372036854775807\r\n",
+        b"|9223372036854775807\r\n",
+        b">9223372036854775807\r\n",
+    ] {
+        let mut parser = Parser::new(rt.alloc());
+        let mut source = Reading::new(Device::new(rt.alloc(), text, 2));
+        answers(&rt, parser.parse_from(&mut source), "UnexpectedEof");
+        assert!(rt;
+            parser.is_failed() && parser.fault_offset().is_none(),
+            "{text:?}"
+        );
     }
 }

@@ -1,10 +1,13 @@
-//! A transaction over a source and a sink of single bytes, of which one fails at each call, or the
-//! source ends after each byte.
+//! A transaction over devices that move one byte a call, of which one fails at each call, or the
+//! reader ends after each byte.
 
-use crate::checks::{answers, answers_at, asked, ping};
-use resp_core::{ByteLink, Cmd, ConnectionLike, Pipeline, RedisResult, RetryMethod, Value};
-use resp_testing::{Drip, Slow, bytes_text, pipeline, pipeline_text};
-use std::process::Abort;
+use crate::checks::{Test, answers, asked, is, ping};
+use resp_core::{
+    ByteLink, Cmd, ConnectionLike, IoKind, Pipeline, Reading, RedisResult, ReplySource,
+    RetryMethod, Value, Writing,
+};
+use resp_testing::{Device, answer_text, bytes_text, pipeline};
+use std::io::ErrorKind;
 
 const REQUEST: &str = "*1\r\n$5\r\nMULTI\r\n*3\r\n$3\r\nSET\r\n$1\r\nk\r\n$1\r\n1\r\n\
     *2\r\n$3\r\nGET\r\n$1\r\nk\r\n*1\r\n$4\r\nEXEC\r\n";
@@ -12,7 +15,7 @@ const REQUEST: &str = "*1\r\n$5\r\nMULTI\r\n*3\r\n$3\r\nSET\r\n$1\r\nk\r\n$1\r\n
 const REPLIES: &[u8] = b"+OK\r\n+QUEUED\r\n+QUEUED\r\n*2\r\n+OK\r\n$1\r\n1\r\n";
 
 /// `SET k 1`, ignored, and `GET k` as a transaction.
-fn transaction(rt: &(impl Abort + AllocGlobal)) -> Pipeline {
+fn transaction(rt: &impl Test) -> Pipeline {
     let mut transaction = pipeline(rt.alloc(), &[&["SET", "k", "1"]]).expect(rt, "memory");
     let _ = transaction.ignore().atomic();
     transaction.push_cmd("GET").expect(rt, "memory");
@@ -20,91 +23,103 @@ fn transaction(rt: &(impl Abort + AllocGlobal)) -> Pipeline {
     transaction
 }
 
-type Link<'a> = ByteLink<Drip<'a>, Slow>;
+type Link = ByteLink<Reading<Device>, Writing<Device>>;
 
-/// A link over devices that fail at these calls, 0 being none.
-fn link<'a>(
-    rt: &(impl Abort + AllocGlobal),
-    incoming: &'a [u8],
-    fill: usize,
-    send: usize,
-) -> Link<'a> {
-    let sink = Slow::new(rt.alloc(), send, false);
-    ByteLink::over(rt.alloc(), Drip::new(incoming, fill, 0), sink)
+/// A link whose reader and writer fail at these calls, 0 being none.
+fn link(rt: &impl Test, incoming: &'static [u8], read: usize, write: usize) -> Link {
+    let kind = Some(ErrorKind::TimedOut);
+    let reader = Device::failing(rt.alloc(), incoming, 1, read, kind);
+    let kind = Some(ErrorKind::BrokenPipe);
+    ByteLink::new(
+        rt.alloc(),
+        reader,
+        Device::failing(rt.alloc(), b"", 1, write, kind),
+    )
 }
 
-/// What the transaction answers over the link.
-fn asked_over(rt: &(impl Abort + AllocGlobal), link: &mut Link<'_>) -> RedisResult<(i64,)> {
-    transaction(rt).query(link)
+/// What the transaction answers over the link, and whether that breaks it.
+fn shown(rt: &impl Test, link: &mut Link) -> (String, bool) {
+    let answer: RedisResult<(i64,)> = transaction(rt).query(link);
+    (answer_text(rt.alloc(), answer), link.is_broken())
 }
 
-/// The link has sent so many of the request's bytes, in one call each and one more where that
-/// failed; it has flushed, and has asked its source, so often.
-fn has_done(
-    rt: &(impl Abort + AllocGlobal),
-    link: Link<'_>,
-    sent: usize,
-    flushes: usize,
-    fills: usize,
+/// The transaction answers this over the link, which breaks unless it is `(1,)`; then so many bytes
+/// of the request were written, with so many flushes and so many reads.
+fn answers_over(
+    rt: &impl Test,
+    mut link: Link,
+    wanted: &str,
+    (written, flushes, reads): (usize, usize, usize),
 ) {
-    let (source, sink) = link.into_ends();
-    let bytes = bytes_text(rt.alloc(), sink.bytes.as_slice());
-    assert_eq!(rt; bytes.as_str(), REQUEST.get(..sent).unwrap_or(""));
-    assert_eq!(rt; (sink.flushes, source.calls), (flushes, fills));
-}
-
-#[test]
-fn a_sink_that_fails_at_each_send(rt: HostRuntime) {
-    assert_eq!(rt; (REQUEST.len(), REPLIES.len()), (76, 39));
+    let (text, is_broken) = shown(rt, &mut link);
     assert_eq!(rt;
-        pipeline_text(rt.alloc(), &transaction(&rt)).as_str(),
-        REQUEST
+        (text.as_str(), is_broken),
+        (wanted, wanted != "(1,)"),
+        "{written} {reads}"
     );
+    let (source, sink) = link.into_ends();
+    let writer = sink.into_inner();
+    let bytes = bytes_text(rt.alloc(), writer.taken.as_slice());
+    assert_eq!(rt; bytes.as_str(), REQUEST.get(..written).unwrap_or(""));
+    let calls = (writer.flushes, source.into_inner().calls);
+    assert_eq!(rt; calls, (flushes, reads), "{written} {reads}");
+}
+
+#[test]
+fn a_writer_that_fails_at_each_call(rt: HostRuntime) {
+    assert_eq!(rt; (REQUEST.len(), REPLIES.len()), (76, 39));
     for k in 1..=76 {
-        let mut link = link(&rt, REPLIES, 0, k);
-        answers_at(&rt, k, asked_over(&rt, &mut link), "BrokenPipe");
-        assert!(rt; link.is_broken(), "send {k}");
-        has_done(&rt, link, k - 1, 0, 0);
+        answers_over(&rt, link(&rt, REPLIES, 0, k), "BrokenPipe", (k - 1, 0, 0));
     }
+    let mut writer = Device::new(rt.alloc(), b"", 1);
+    writer.flush_fault = Some(ErrorKind::BrokenPipe);
+    let unflushed = ByteLink::new(rt.alloc(), Device::new(rt.alloc(), REPLIES, 1), writer);
+    answers_over(&rt, unflushed, "BrokenPipe", (76, 1, 0));
 }
 
 #[test]
-fn a_sink_that_fails_to_flush(rt: HostRuntime) {
-    let sink = Slow::new(rt.alloc(), 0, true);
-    let mut link = ByteLink::over(rt.alloc(), Drip::new(REPLIES, 0, 0), sink);
-    answers(&rt, asked_over(&rt, &mut link), "BrokenPipe");
-    assert!(rt; link.is_broken());
-    has_done(&rt, link, 76, 1, 0);
-}
-
-#[test]
-fn a_source_that_fails_at_each_fill(rt: HostRuntime) {
+fn a_reader_that_fails_at_each_call(rt: HostRuntime) {
     for k in 1..=39 {
-        let mut link = link(&rt, REPLIES, k, 0);
-        answers_at(&rt, k, asked_over(&rt, &mut link), "TimedOut");
-        assert!(rt; link.is_broken(), "fill {k}");
-        has_done(&rt, link, 76, 1, k);
+        answers_over(&rt, link(&rt, REPLIES, k, 0), "TimedOut", (76, 1, k));
     }
 }
 
 #[test]
-fn a_source_that_ends_after_each_byte(rt: HostRuntime) {
+fn a_reader_that_ends_after_each_byte(rt: HostRuntime) {
     for n in 0..39 {
-        let mut link = link(&rt, &REPLIES[..n], 0, 0);
-        answers_at(&rt, n, asked_over(&rt, &mut link), "UnexpectedEof");
-        assert!(rt; link.is_broken(), "{n} bytes");
-        has_done(&rt, link, 76, 1, n + 1);
+        let early = link(&rt, &REPLIES[..n], 0, 0);
+        answers_over(&rt, early, "UnexpectedEof", (76, 1, n + 1));
     }
-    let mut link = link(&rt, REPLIES, 0, 0);
-    answers(&rt, asked_over(&rt, &mut link), "(1,)");
-    assert!(rt; !link.is_broken());
-    has_done(&rt, link, 76, 1, 39);
+    answers_over(&rt, link(&rt, REPLIES, 0, 0), "(1,)", (76, 1, 39));
+}
+
+/// A source that fails, and whose count of failures is full.
+#[derive(Drop)]
+struct WornOut {
+    failures: u64,
+    calls: usize,
+}
+
+impl ReplySource for WornOut {
+    ghost use Rattle.std.specs.Prelude.{false, []};
+
+    ghost source = { λ s. record { observable = false; bytes = []; failures = s.failures } };
+
+    fn fill(&mut self, _buf: &mut [u8]) -> Result<usize, IoKind> {
+        self.calls = self.calls.saturating_add(1);
+        self.failures = self.failures.saturating_add(1);
+        Err(IoKind::TimedOut)
+    }
 }
 
 #[test]
 fn a_source_whose_count_of_failures_is_full(rt: HostRuntime) {
-    let source = Drip::new(b":1\r\n", 1, u64::MAX);
-    let mut link = ByteLink::over(rt.alloc(), source, Slow::new(rt.alloc(), 0, false));
+    let source = WornOut {
+        failures: u64::MAX,
+        calls: 0,
+    };
+    let sink = Writing::new(Device::new(rt.alloc(), b"", 1));
+    let mut link = ByteLink::over(rt.alloc(), source, sink);
     answers(&rt, asked::<i64>(&rt, &mut link), "TimedOut");
     assert!(rt; link.is_broken());
     let (source, _sink) = link.into_ends();
@@ -112,14 +127,14 @@ fn a_source_whose_count_of_failures_is_full(rt: HostRuntime) {
 }
 
 /// The answer is the refusal of a link that was broken before.
-fn was_broken<T: Drop>(rt: &(impl Abort + AllocGlobal), answer: RedisResult<T>) {
+fn was_broken<T: Drop>(rt: &impl Test, answer: RedisResult<T>) {
     let error = answer.err().expect(rt, "a refusal");
     assert!(rt; error.retry_method() == RetryMethod::Reconnect);
     answers::<()>(rt, Err(error), "link is broken - Io");
 }
 
-/// Each call of a broken link is refused, and asks nothing of its devices.
-fn refuses_all(rt: &(impl Abort + AllocGlobal), link: &mut Link<'_>) {
+/// Each call of a broken link is refused.
+fn refuses_all(rt: &impl Test, link: &mut Link) {
     was_broken(rt, link.req_command(&ping(rt)));
     was_broken(rt, link.req_command(&Cmd::new(rt.alloc())));
     was_broken(rt, link.req_packed_command(b"x"));
@@ -127,26 +142,27 @@ fn refuses_all(rt: &(impl Abort + AllocGlobal), link: &mut Link<'_>) {
     was_broken(rt, link.req_packed_commands(b"x", 0, 1));
     was_broken(rt, link.req_packed_commands(b"", 0, 0));
     was_broken(rt, asked::<i64>(rt, link));
-    was_broken(rt, asked_over(rt, link));
+    is(rt, shown(rt, link).0, "link is broken - Io");
 }
 
 #[test]
-fn a_broken_link(rt: HostRuntime) {
+fn a_broken_link_asks_nothing(rt: HostRuntime) {
     let pushed = b">2\r\n+message\r\n:1\r\n".as_slice();
     let faulty = b">2\r\n+message\r\n:1\r\n:x\r\n:2\r\n:3\r\n".as_slice();
-    // Bytes that are no reply, an early end, a source that fails, and a sink that fails.
-    for (incoming, fill, send, pushes, fills, sends) in [
+    // Bytes that are no reply, an early end, a reader that fails, and a writer that fails.
+    for (incoming, read, write, pushes, reads, writes) in [
         (faulty, 0, 0, 1, 22, 14),
         (pushed, 0, 0, 1, 19, 14),
         (faulty, 20, 0, 1, 20, 14),
         (faulty, 0, 3, 0, 0, 3),
     ] {
-        let mut link = link(&rt, incoming, fill, send);
+        let mut link = link(&rt, incoming, read, write);
         assert!(rt; asked::<Value>(&rt, &mut link).is_err() && link.is_broken());
         refuses_all(&rt, &mut link);
-        assert_eq!(rt; link.take_pushes().len(), pushes, "{fill} {send}");
+        assert_eq!(rt; link.take_pushes().len(), pushes, "{read} {write}");
         assert!(rt; link.pushes().is_empty());
         let (source, sink) = link.into_ends();
-        assert_eq!(rt; (source.calls, sink.calls), (fills, sends), "{fill} {send}");
+        let calls = (source.into_inner().calls, sink.into_inner().calls);
+        assert_eq!(rt; calls, (reads, writes), "{read} {write}");
     }
 }

@@ -8,38 +8,39 @@ use resp_testing::{answer_text, args_text, command_text, debug_text, display_tex
 use std::fmt::{Debug, Display};
 use std::process::Abort;
 
+/// A test's runtime.
+pub trait Test: Abort + AllocGlobal {}
+
+impl<R: Abort + AllocGlobal> Test for R {}
+
 /// The text is this.
-pub fn is(rt: &impl Abort, text: String, wanted: &str) {
+pub fn is(rt: &impl Test, text: String, wanted: &str) {
     assert_eq!(rt; text.as_str(), wanted);
 }
 
 /// `{:?}` prints this.
-pub fn debugs<T: Debug>(rt: &(impl Abort + AllocGlobal), value: &T, wanted: &str) {
+pub fn debugs<T: Debug>(rt: &impl Test, value: &T, wanted: &str) {
     is(rt, debug_text(rt.alloc(), value), wanted);
 }
 
 /// `{}` prints this.
-pub fn shows<T: Display>(rt: &(impl Abort + AllocGlobal), value: &T, wanted: &str) {
+pub fn shows<T: Display>(rt: &impl Test, value: &T, wanted: &str) {
     is(rt, display_text(rt.alloc(), value), wanted);
 }
 
 /// The answer shows this: its Debug form, or its refusal.
-pub fn answers<T: Debug + Drop>(
-    rt: &(impl Abort + AllocGlobal),
-    answer: RedisResult<T>,
-    wanted: &str,
-) {
+pub fn answers<T: Debug + Drop>(rt: &impl Test, answer: RedisResult<T>, wanted: &str) {
     is(rt, answer_text(rt.alloc(), answer), wanted);
 }
 
-/// The value gives these arguments and counts for so many, as `2:EX 2:10 counts 1`.
-pub fn gives<T: ToRedisArgs>(rt: &(impl Abort + AllocGlobal), value: &T, wanted: &str) {
+/// The value gives these arguments and counts for so many, as `2:EX 2:10 (1)`.
+pub fn gives<T: ToRedisArgs>(rt: &impl Test, value: &T, wanted: &str) {
     is(rt, args_text(rt.alloc(), value), wanted);
 }
 
 /// The value that was made gives these arguments.
 pub fn made_gives<T: ToRedisArgs + Drop, E: Debug>(
-    rt: &(impl Abort + AllocGlobal),
+    rt: &impl Test,
     made: Result<T, E>,
     wanted: &str,
 ) {
@@ -47,27 +48,27 @@ pub fn made_gives<T: ToRedisArgs + Drop, E: Debug>(
 }
 
 /// The command is packed as these bytes.
-pub fn packs(rt: &(impl Abort + AllocGlobal), command: &Cmd, wanted: &str) {
+pub fn packs(rt: &impl Test, command: &Cmd, wanted: &str) {
     is(rt, command_text(rt.alloc(), command), wanted);
 }
 
 /// What was made, such as a copy, equals the value.
-pub fn equals<T: PartialEq + Drop, E: Debug>(rt: &impl Abort, made: Result<T, E>, value: &T) {
+pub fn equals<T: PartialEq + Drop, E: Debug>(rt: &impl Test, made: Result<T, E>, value: &T) {
     assert!(rt; made.expect(rt, "no refusal") == *value);
 }
 
 /// A string of this text.
-pub fn string(rt: &(impl Abort + AllocGlobal), text: &str) -> String {
+pub fn string(rt: &impl Test, text: &str) -> String {
     String::from_str(rt.alloc(), text).expect(rt, "memory")
 }
 
 /// The value of a reply's bytes.
-pub fn reply(rt: &(impl Abort + AllocGlobal), bytes: &[u8]) -> Value {
+pub fn reply(rt: &impl Test, bytes: &[u8]) -> Value {
     parse_redis_value(rt.alloc(), bytes).expect(rt, "a reply")
 }
 
 /// What the reply converts to, by move and borrowed.
-pub fn both<T: FromRedisValue>(rt: &(impl Abort + AllocGlobal), bytes: &[u8]) -> (T, T) {
+pub fn both<T: FromRedisValue>(rt: &impl Test, bytes: &[u8]) -> (T, T) {
     let value = reply(rt, bytes);
     let borrowed: T = from_redis_value_ref(rt.alloc(), &value).expect(rt, "no refusal");
     let moved: T = from_redis_value(rt.alloc(), value).expect(rt, "no refusal");

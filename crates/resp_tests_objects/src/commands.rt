@@ -1,11 +1,10 @@
 //! Commands and their cursor arguments, between calls.
 
-use crate::checks::{answers, packs};
+use crate::checks::{Test, answers, is, packs};
 use crate::writing::{WIDE, wide_pairs};
 use resp_core::{Arg, Cmd, RedisWrite, cmd, pack_command};
 use resp_testing::{bytes_text, command};
 use std::collections::BTreeMap;
-use std::process::Abort;
 use std::test::Fail;
 
 #[test]
@@ -27,40 +26,36 @@ fn empty_commands(rt: HostRuntime) {
     packs(&rt, &command, "");
     let mut buffer = Vec::from_slice(rt.alloc(), b"X").expect(&rt, "memory");
     answers(&rt, command.write_packed_command(&mut buffer), "()");
-    assert_eq!(rt;
-        bytes_text(rt.alloc(), buffer.as_slice()).as_str(),
-        "X*0\r\n"
-    );
+    is(&rt, bytes_text(rt.alloc(), buffer.as_slice()), "X*0\r\n");
     let packed = pack_command(rt.alloc(), &[]).expect(&rt, "memory");
-    assert_eq!(rt;
-        bytes_text(rt.alloc(), packed.as_slice()).as_str(),
-        "*0\r\n"
-    );
+    is(&rt, bytes_text(rt.alloc(), packed.as_slice()), "*0\r\n");
 }
 
 /// A map that no command takes: its key is two arguments.
-pub fn refused_map(rt: &(impl Abort + AllocGlobal)) -> BTreeMap<(i64, i64), i64> {
+pub fn refused_map(rt: &impl Test) -> BTreeMap<(i64, i64), i64> {
     BTreeMap::from_array(rt.alloc(), [((1, 2), 3)]).expect(rt, "memory")
-}
-
-/// A call by its answer, which is no value: that it is one, or why it is refused.
-fn is_refused(rt: &(impl Abort + AllocGlobal), command: &mut Cmd) {
-    let refused = command.arg(refused_map(rt)).err().expect(rt, "a refusal");
-    answers::<()>(rt, Err(refused), WIDE);
 }
 
 #[test]
 fn refused_argument_changes_nothing(rt: HostRuntime) {
-    let words = ["HSET", "key", "7", "x"];
-    let mut command = command(rt.alloc(), &words).expect(&rt, "memory");
-    is_refused(&rt, &mut command);
-    answers(&rt, command.push_arg(&wide_pairs(&rt)), WIDE);
-    answers(&rt, command.push_arg(refused_map(&rt)), WIDE);
-    let wanted = "*4\r\n$4\r\nHSET\r\n$3\r\nkey\r\n$1\r\n7\r\n$1\r\nx\r\n";
-    packs(&rt, &command, wanted);
+    let mut command = command(rt.alloc(), &["HSET", "key", "7", "x"]).expect(&rt, "memory");
+    let refused = command.arg(refused_map(&rt)).err().expect(&rt, "a refusal");
+    each! { answers, rt;
+        Err::<(), _>(refused) => WIDE,
+        command.push_arg(refused_map(&rt)) => WIDE,
+        command.push_arg(&wide_pairs(&rt)) => WIDE,
+    }
+    packs(
+        &rt,
+        &command,
+        "*4\r\n$4\r\nHSET\r\n$3\r\nkey\r\n$1\r\n7\r\n$1\r\nx\r\n",
+    );
+}
+
+#[test]
+fn a_map_is_packed_as_its_pairs(rt: HostRuntime) {
     let pairs = BTreeMap::from_array(rt.alloc(), [("a", 1i64), ("b", 2)]).expect(&rt, "memory");
-    let mut set = cmd(rt.alloc(), "HSET").expect(&rt, "memory");
-    answers(&rt, set.push_arg("h"), "()");
+    let mut set = command(rt.alloc(), &["HSET", "h"]).expect(&rt, "memory");
     answers(&rt, set.push_arg(pairs), "()");
     let wanted = "*6\r\n$4\r\nHSET\r\n$1\r\nh\r\n$1\r\na\r\n$1\r\n1\r\n$1\r\nb\r\n$1\r\n2\r\n";
     packs(&rt, &set, wanted);
@@ -80,14 +75,12 @@ fn a_cleared_command_is_new(rt: HostRuntime) {
     }
     taken.clear();
     assert!(rt; taken.is_empty() && !taken.is_no_response());
-    let mut roomy = Cmd::with_capacity(rt.alloc(), 2, 7).expect(&rt, "memory");
+    let roomy = Cmd::with_capacity(rt.alloc(), 2, 7).expect(&rt, "memory");
     assert!(rt; roomy.is_empty() && !roomy.in_scan_mode() && !roomy.is_no_response());
-    answers(&rt, roomy.push_arg("PING"), "()");
-    packs(&rt, &roomy, "*1\r\n$4\r\nPING\r\n");
 }
 
 /// The arguments of the command are these.
-fn lists(rt: &impl Abort, command: &Cmd, wanted: &[Arg<&[u8]>]) {
+fn lists(rt: &impl Test, command: &Cmd, wanted: &[Arg<&[u8]>]) {
     let mut shown = command.args_iter();
     for (passed, arg) in wanted.iter().enumerate() {
         assert_eq!(rt; shown.len(), wanted.len() - passed);
@@ -98,7 +91,7 @@ fn lists(rt: &impl Abort, command: &Cmd, wanted: &[Arg<&[u8]>]) {
 }
 
 /// A command of these words, and then a cursor argument.
-fn with_cursor(rt: &(impl Abort + AllocGlobal), words: &[&str], cursor: u64) -> Cmd {
+fn with_cursor(rt: &impl Test, words: &[&str], cursor: u64) -> Cmd {
     let mut command = command(rt.alloc(), words).expect(rt, "memory");
     let _ = command.cursor_arg(cursor).expect(rt, "memory");
     command
@@ -112,16 +105,13 @@ fn simple(text: &str) -> Arg<&[u8]> {
 #[test]
 fn cursor_arguments_are_listed(rt: HostRuntime) {
     let words = ["key", "value", "42", "phone", "barz"];
+    let [key, value, number, phone, barz] = words.map(simple);
     let command = with_cursor(&rt, &words, 512);
-    let wanted = [
-        simple("key"),
-        simple("value"),
-        simple("42"),
-        simple("phone"),
-        simple("barz"),
-        Arg::Cursor,
-    ];
-    lists(&rt, &command, wanted.as_slice());
+    lists(
+        &rt,
+        &command,
+        &[key, value, number, phone, barz, Arg::Cursor],
+    );
     assert!(rt; command.in_scan_mode());
     let mut shown = command.args_iter();
     assert!(rt; shown.next() == Some(simple("key")));
@@ -135,8 +125,11 @@ fn the_latest_cursor_is_sent(rt: HostRuntime) {
     let mut command = with_cursor(&rt, &["A"], 0);
     answers(&rt, command.push_arg("b"), "()");
     answers(&rt, command.push_cursor_arg(u64::MAX), "()");
-    let wanted = [simple("A"), Arg::Cursor, simple("b"), Arg::Cursor];
-    lists(&rt, &command, wanted.as_slice());
+    lists(
+        &rt,
+        &command,
+        &[simple("A"), Arg::Cursor, simple("b"), Arg::Cursor],
+    );
     assert_eq!(rt; command.framed(), b"$1\r\nA\r\n$1\r\nb\r\n".as_slice());
     command.set_cursor(7);
     packs(
@@ -159,10 +152,9 @@ fn copies_keep_their_cursor(rt: HostRuntime) {
     assert!(rt; !command.in_scan_mode());
     copy.set_cursor(4);
     packs(&rt, &copy, "*2\r\n$1\r\nA\r\n$1\r\n4\r\n");
-    packs(&rt, &taken, "*2\r\n$1\r\nA\r\n$1\r\n3\r\n");
     // An extended cursor is an ordinary argument.
     answers(&rt, taken.extend_arg(b"x"), "()");
     taken.set_cursor(5);
     packs(&rt, &taken, "*2\r\n$1\r\nA\r\n$2\r\n3x\r\n");
-    lists(&rt, &taken, [simple("A"), simple("3x")].as_slice());
+    lists(&rt, &taken, &[simple("A"), simple("3x")]);
 }

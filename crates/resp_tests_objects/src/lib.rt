@@ -2,6 +2,14 @@
 //! parsers, values and errors, over the public names of `resp_core`.
 #![tactic(auto)]
 
+/// Calls a check of a runtime with each value and what is wanted of it.
+#[cfg(test)]
+macro_rules! each {
+    ($check:path, $rt:expr; $($value:expr => $wanted:expr),+ $(,)?) => {
+        $($check(&$rt, $value, $wanted);)+
+    };
+}
+
 #[cfg(test)]
 mod arguments;
 #[cfg(test)]
@@ -9,11 +17,7 @@ mod checks;
 #[cfg(test)]
 mod commands;
 #[cfg(test)]
-mod containers;
-#[cfg(test)]
 mod errors;
-#[cfg(test)]
-mod laws;
 #[cfg(test)]
 mod own_types;
 #[cfg(test)]

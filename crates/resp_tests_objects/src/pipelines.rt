@@ -1,26 +1,15 @@
-//! Pipelines between calls, and the two connections that they meet.
+//! Pipelines between calls.
 
-use crate::checks::{answers, is};
+use crate::checks::{Test, answers, is};
 use crate::commands::refused_map;
 use crate::writing::{WIDE, wide_pairs};
-use resp_core::{Cmd, Pipeline, Value, pipe};
-use resp_testing::{OneAtATime, bytes_text, pipeline, pipeline_text};
-use std::process::Abort;
+use resp_core::{Cmd, Pipeline, pipe};
+use resp_testing::{bytes_text, pipeline, pipeline_text};
 use std::test::Fail;
 
 /// The pipeline is packed as these bytes.
-fn packs(rt: &(impl Abort + AllocGlobal), pipeline: &Pipeline, wanted: &str) {
+fn packs(rt: &impl Test, pipeline: &Pipeline, wanted: &str) {
     is(rt, pipeline_text(rt.alloc(), pipeline), wanted);
-}
-
-#[test]
-fn a_pipeline_without_commands(rt: HostRuntime) {
-    let mut pipeline = pipe(rt.alloc());
-    assert!(rt; pipeline.is_empty() && !pipeline.is_transaction());
-    packs(&rt, &pipeline, "");
-    let _ = pipeline.ignore().atomic();
-    assert!(rt; pipeline.is_empty() && pipeline.is_transaction());
-    packs(&rt, &pipeline, "*1\r\n$5\r\nMULTI\r\n*1\r\n$4\r\nEXEC\r\n");
 }
 
 #[test]
@@ -37,8 +26,10 @@ fn a_transaction_in_a_chain(rt: HostRuntime) -> Result<(), Fail> {
 
 #[test]
 fn a_cleared_transaction_stays_one(rt: HostRuntime) {
-    let mut pipeline = pipeline(rt.alloc(), &[&["PING"]]).expect(&rt, "memory");
-    let _ = pipeline.atomic().ignore_errors();
+    let mut pipeline = pipe(rt.alloc());
+    assert!(rt; pipeline.is_empty() && !pipeline.is_transaction());
+    let _ = pipeline.ignore().atomic().ignore_errors();
+    answers(&rt, pipeline.push_cmd("PING"), "()");
     pipeline.clear();
     assert!(rt; pipeline.is_empty() && pipeline.is_transaction());
     let _ = pipeline
@@ -66,8 +57,7 @@ fn the_commands_in_order(rt: HostRuntime) {
 #[test]
 fn refused_argument_of_a_pipeline_changes_nothing(rt: HostRuntime) {
     let mut pipeline = pipeline(rt.alloc(), &[&["A"], &["HSET", "h"]]).expect(&rt, "memory");
-    let refused = pipeline.push_arg(refused_map(&rt));
-    answers(&rt, refused, WIDE);
+    answers(&rt, pipeline.push_arg(refused_map(&rt)), WIDE);
     packs(
         &rt,
         &pipeline,
@@ -77,25 +67,11 @@ fn refused_argument_of_a_pipeline_changes_nothing(rt: HostRuntime) {
 
 #[test]
 fn an_argument_refused_midway_leaves_a_pipeline(rt: HostRuntime) {
-    let mut pipeline = pipe(rt.alloc());
-    answers(&rt, pipeline.push_cmd("A"), "()");
-    let _ = pipeline.ignore();
-    answers(&rt, pipeline.push_cmd("HSET"), "()");
-    answers(&rt, pipeline.push_arg("h"), "()");
-    let refused = pipeline.arg(wide_pairs(&rt)).err();
-    answers::<()>(&rt, Err(refused.expect(&rt, "a refusal")), WIDE);
+    let mut pipeline = pipeline(rt.alloc(), &[&["A"], &["HSET", "h"]]).expect(&rt, "memory");
+    let refused = pipeline.arg(wide_pairs(&rt)).err().expect(&rt, "a refusal");
+    answers::<()>(&rt, Err(refused), WIDE);
     let _ = pipeline.cmd("B").expect(&rt, "memory").atomic();
     let wanted = "*1\r\n$5\r\nMULTI\r\n*1\r\n$1\r\nA\r\n*2\r\n$4\r\nHSET\r\n$1\r\nh\r\n\
         *1\r\n$1\r\nB\r\n*1\r\n$4\r\nEXEC\r\n";
     packs(&rt, &pipeline, wanted);
-}
-
-#[test]
-fn a_connection_without_pipelining(rt: HostRuntime) {
-    let mut con = OneAtATime { requests: 0 };
-    let two = pipeline(rt.alloc(), &[&["FOO"], &["BAR"]]).expect(&rt, "memory");
-    let refused = "This connection does not support pipelining. - Client";
-    answers(&rt, two.query::<Value>(&mut con), refused);
-    answers(&rt, two.exec(&mut con), refused);
-    assert_eq!(rt; con.requests, 0);
 }

@@ -1,23 +1,26 @@
-//! Types of replies: comparisons, calls of their own, and conversions that no row can ask for.
+//! Types of replies: comparisons, calls of their own, and conversions that no row asks for; laws.
 
 ghost use Rattle.std.specs.Prelude.{◌≡◌, IfOk};
 
-use crate::checks::{answers, both, debugs, equals, is, string};
-use resp_core::laws::{SingleValued, law_of_one_value};
+use crate::checks::{both, debugs, equals, is, reply};
+use resp_core::laws::{
+    SingleValued, law_of_completion, law_of_equal_errors, law_of_error_texts, law_of_levels,
+    law_of_limits, law_of_one_value, law_of_packing, law_of_pipelines, law_of_prefixes,
+    law_of_requests, law_of_scans, law_of_sizes, law_of_taking,
+};
 use resp_core::{
     FromRedisValue, IncrexResult, InfoDict, IntegerReplyOrNoOp, RedisResult, Value, ValueType,
     parse_redis_value,
 };
-use resp_testing::debug_text;
+use resp_testing::answer_text;
 use std::alloc::Global;
 use std::collections::{HashMap, HashSet};
 
 #[test]
 fn integers_are_compared_exactly(rt: HostRuntime) {
     let longest = IntegerReplyOrNoOp::IntegerReply(9223372036854775808);
-    assert!(rt; longest.raw().is_none());
     let long = IntegerReplyOrNoOp::IntegerReply(4294967297);
-    assert_eq!(rt; long.raw(), Some(4294967297));
+    assert!(rt; longest.raw().is_none() && long.raw() == Some(4294967297));
     assert!(rt; !long.eq_i32(1) && !long.eq_u32(1));
     assert!(rt; long.eq_usize(4294967297) && long.eq_isize(4294967297));
     let gone = IntegerReplyOrNoOp::NotExists;
@@ -28,22 +31,15 @@ fn integers_are_compared_exactly(rt: HostRuntime) {
 }
 
 #[test]
-fn increments(rt: HostRuntime) {
-    let (both_integers, same): (IncrexResult, _) = both(&rt, b"*2\r\n:5\r\n:2\r\n");
-    assert!(rt; both_integers == same);
-    assert_eq!(rt;
-        both_integers.as_i64(rt.alloc()).expect(&rt, "integers"),
-        (5, 2)
-    );
+fn increments_and_types(rt: HostRuntime) {
+    let (integers, same): (IncrexResult, _) = both(&rt, b"*2\r\n:5\r\n:2\r\n");
+    assert!(rt; integers == same);
+    assert_eq!(rt; integers.as_i64(rt.alloc()).expect(&rt, "integers"), (5, 2));
     let (texts, _): (IncrexResult, _) = both(&rt, b"*2\r\n:300\r\n+7\r\n");
     assert!(rt; texts.value_as::<u8>(rt.alloc()).is_err());
     let grown = texts.actual_increment_as::<u8>(rt.alloc());
     assert_eq!(rt; grown.expect(&rt, "a number"), 7);
     equals(&rt, texts.try_clone(rt.alloc()), &texts);
-}
-
-#[test]
-fn a_type_without_a_variant(rt: HostRuntime) {
     let unknown = ValueType::read(rt.alloc(), "xyz").expect(&rt, "memory");
     equals(&rt, unknown.try_clone(rt.alloc()), &unknown);
     assert_eq!(rt; unknown.name(), "xyz");
@@ -71,22 +67,18 @@ fn hashed_containers_of_several(rt: HostRuntime) {
 }
 
 #[test]
-fn a_borrowed_list_of_replies(rt: HostRuntime) {
+fn lists_and_refusals_of_replies(rt: HostRuntime) {
     let values = [Value::Int(1), Value::Int(2)];
     let numbers = i64::from_redis_value_refs(rt.alloc(), values.as_slice());
     assert_eq!(rt;
         numbers.expect(&rt, "numbers").as_slice(),
         [1, 2].as_slice()
     );
-}
-
-#[test]
-fn a_refusal_of_nothing_is_the_servers_error(rt: HostRuntime) {
-    let error = parse_redis_value(rt.alloc(), b"-ERR x\r\n").expect(&rt, "a reply");
-    let refused = <()>::from_redis_value(rt.alloc(), error).expect_err(&rt, "a refusal");
-    assert_eq!(rt; refused.description(), "ResponseError: x");
-    let by_name: RedisResult<()> = Err(refused.into());
-    answers(&rt, by_name, "Incompatible type - ResponseError: x");
+    let refused = <()>::from_redis_value(rt.alloc(), reply(&rt, b"-ERR x\r\n")).err();
+    assert_eq!(rt;
+        refused.expect(&rt, "a refusal").description(),
+        "ResponseError: x"
+    );
 }
 
 /// What a reply converts to when it is borrowed, and when it is moved: they look the same.
@@ -104,12 +96,22 @@ fn borrowed_and_moved<T: SingleValued>(alloc: Global, reply: &[u8]) -> RedisResu
 fn a_reply_is_one_value_of_a_type(rt: HostRuntime) {
     let reply = b"*2\r\n*1\r\n*2\r\n:1\r\n+a\r\n#t\r\n";
     let both = borrowed_and_moved::<(Vec<(i64, String)>, Option<bool>)>(rt.alloc(), reply);
-    let (borrowed, moved) = both.expect(&rt, "no refusal");
-    assert!(rt; borrowed == moved);
-    is(
-        &rt,
-        debug_text(rt.alloc(), &moved),
-        "([(1, \"a\")], Some(true))",
-    );
-    assert_eq!(rt; string(&rt, "a").as_str(), moved.0[0].1.as_str());
+    let wanted = "(([(1, \"a\")], Some(true)), ([(1, \"a\")], Some(true)))";
+    is(&rt, answer_text(rt.alloc(), both), wanted);
+}
+
+#[test]
+fn laws_can_be_called() {
+    law_of_completion();
+    law_of_equal_errors();
+    law_of_error_texts();
+    law_of_levels();
+    law_of_limits();
+    law_of_packing();
+    law_of_pipelines();
+    law_of_prefixes();
+    law_of_requests();
+    law_of_scans::<i64>();
+    law_of_sizes();
+    law_of_taking();
 }

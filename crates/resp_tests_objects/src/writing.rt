@@ -1,28 +1,10 @@
-//! Arguments that are written one by one.
+//! Arguments that are written one by one, and those that are refused.
 
-use crate::checks::{answers, is, packs};
+use crate::checks::{Test, answers, gives, packs};
 use resp_core::{ArgList, Cmd, RedisWrite, ToRedisArgs, write_each_arg};
-use resp_testing::{args_text, command};
+use resp_testing::command;
 use std::collections::BTreeMap;
 use std::fmt;
-use std::process::Abort;
-
-/// A command of the one word `key`.
-fn key(rt: &(impl Abort + AllocGlobal)) -> Cmd {
-    command(rt.alloc(), &["key"]).expect(rt, "memory")
-}
-
-const KEY: &str = "*1\r\n$3\r\nkey\r\n";
-
-#[test]
-fn what_values_show_is_an_argument(rt: HostRuntime) {
-    let mut command = key(&rt);
-    answers(&rt, command.write_arg_fmt(rt.alloc(), "value"), "()");
-    answers(&rt, command.write_arg_fmt(rt.alloc(), 42), "()");
-    answers(&rt, command.push_arg(["phone", "barz"].as_slice()), "()");
-    let wanted = "*5\r\n$3\r\nkey\r\n$5\r\nvalue\r\n$2\r\n42\r\n$5\r\nphone\r\n$4\r\nbarz\r\n";
-    packs(&rt, &command, wanted);
-}
 
 /// A value that shows a part of itself, and then fails.
 #[derive(Drop)]
@@ -36,27 +18,34 @@ impl fmt::Display for Torn {
 }
 
 #[test]
-fn a_value_that_fails_to_show_is_refused(rt: HostRuntime) {
-    let mut command = key(&rt);
-    let written = command.write_arg_fmt(rt.alloc(), Torn);
-    answers(&rt, written, "formatting failed - Client");
-    packs(&rt, &command, KEY);
+fn what_values_show_is_an_argument(rt: HostRuntime) {
+    let mut command = command(rt.alloc(), &["key"]).expect(&rt, "memory");
+    each! { answers, rt;
+        command.write_arg_fmt(rt.alloc(), "value") => "()",
+        command.write_arg_fmt(rt.alloc(), 42) => "()",
+        command.push_arg(["phone", "barz"].as_slice()) => "()",
+    }
+    let wanted = "*5\r\n$3\r\nkey\r\n$5\r\nvalue\r\n$2\r\n42\r\n$5\r\nphone\r\n$4\r\nbarz\r\n";
+    packs(&rt, &command, wanted);
 }
 
 #[test]
-fn too_much_room_is_refused(rt: HostRuntime) {
-    let mut command = key(&rt);
-    let refused = command.reserve_space_for_args([usize::MAX, 1]);
-    answers(&rt, refused, "out of memory");
-    answers(&rt, command.reserve_space_for_args([3usize, 4]), "()");
-    packs(&rt, &command, KEY);
+fn refused_writing_changes_nothing(rt: HostRuntime) {
+    let mut command = command(rt.alloc(), &["key"]).expect(&rt, "memory");
+    each! { answers, rt;
+        command.write_arg_fmt(rt.alloc(), Torn) => "formatting failed - Client",
+        command.reserve_space_for_args([usize::MAX, 1]) => "out of memory",
+        command.reserve_space_for_args([3usize, 4]) => "()",
+    }
+    packs(&rt, &command, "*1\r\n$3\r\nkey\r\n");
 }
 
 /// Adds an argument that is written in two pieces.
-fn write_in_two(rt: &impl Abort, command: &mut Cmd, first: &[u8], second: &[u8]) {
+fn write_in_two(rt: &impl Test, command: &mut Cmd, first: &[u8], second: &[u8]) {
     let mut writer = command.writer_for_next_arg().expect(rt, "memory");
     writer.write_all(first).expect(rt, "memory");
     writer.write_all(second).expect(rt, "memory");
+    writer.flush().expect(rt, "flushed");
 }
 
 #[test]
@@ -65,10 +54,7 @@ fn an_argument_is_written_in_pieces(rt: HostRuntime) {
     write_in_two(&rt, &mut command, b"foo", b"bar");
     packs(&rt, &command, "*1\r\n$6\r\nfoobar\r\n");
     write_in_two(&rt, &mut command, b"baz", b"qux");
-    packs(&rt, &command, "*2\r\n$6\r\nfoobar\r\n$6\r\nbazqux\r\n");
-    let mut writer = command.writer_for_next_arg().expect(&rt, "memory");
-    writer.flush().expect(&rt, "flushed");
-    drop(writer);
+    write_in_two(&rt, &mut command, b"", b"");
     packs(
         &rt,
         &command,
@@ -83,13 +69,12 @@ fn a_length_gains_digits(rt: HostRuntime) {
     packs(&rt, &command, "*1\r\n$10\r\n1234567890\r\n");
     write_in_two(&rt, &mut command, &[b'x'; 99], b"y");
     let packed = command.get_packed_command().expect(&rt, "memory");
-    assert_eq!(rt; packed.len(), 129);
-    assert!(rt; packed.starts_with(b"*2\r\n$10\r\n1234567890\r\n$100\r\nxx"));
-    assert!(rt; packed.ends_with(b"xxy\r\n"));
+    let begins = packed.starts_with(b"*2\r\n$10\r\n1234567890\r\n$100\r\nxx");
+    assert!(rt; packed.len() == 129 && begins && packed.ends_with(b"xxy\r\n"));
 }
 
 /// Two pairs, of which the second has two values.
-pub fn wide_pairs(rt: &(impl Abort + AllocGlobal)) -> BTreeMap<i64, Vec<i64>> {
+pub fn wide_pairs(rt: &impl Test) -> BTreeMap<i64, Vec<i64>> {
     let one = Vec::from_slice(rt.alloc(), &[5]).expect(rt, "memory");
     let two = Vec::from_slice(rt.alloc(), &[6, 7]).expect(rt, "memory");
     BTreeMap::from_array(rt.alloc(), [(1, one), (2, two)]).expect(rt, "memory")
@@ -103,28 +88,22 @@ fn a_refused_pair_isnt_written(rt: HostRuntime) {
     let mut list: Vec<Vec<u8>> = Vec::new(rt.alloc());
     list.write_arg(b"x").expect(&rt, "memory");
     answers(&rt, wide_pairs(&rt).write_redis_args(&mut list), WIDE);
-    is(&rt, args_text(rt.alloc(), &list), "1:x 1:1 1:5 counts 3");
+    gives(&rt, &list, "1:x 1:1 1:5 (3)");
 }
 
 #[test]
-fn a_list_of_arguments_grows(rt: HostRuntime) {
+fn a_list_of_arguments(rt: HostRuntime) {
     let mut list = ArgList::new(rt.alloc());
-    assert!(rt; list.is_empty());
-    answers(&rt, list.write_arg(b"SET"), "()");
-    answers(&rt, list.open_arg(), "()");
-    answers(&rt, list.extend_arg(b"key"), "()");
-    answers(&rt, write_each_arg(&[1u64, 2], &mut list), "()");
     let values = [Some(1i64), None, Some(3)];
-    let written = <Option<i64>>::make_arg_iter_ref(values.iter(), &mut list);
-    answers(&rt, written, "()");
+    each! { answers, rt;
+        list.write_arg(b"SET") => "()",
+        list.open_arg() => "()",
+        list.extend_arg(b"key") => "()",
+        write_each_arg(&[1u64, 2], &mut list) => "()",
+        <Option<i64>>::make_arg_iter_ref(values.iter(), &mut list) => "()",
+    }
     assert!(rt; list.len() == 6 && list.get(6).is_none());
     assert!(rt; list.get(1) == Some(b"key".as_slice()) && list.get(5) == Some(b"3".as_slice()));
-}
-
-#[test]
-fn a_list_of_arguments_shrinks(rt: HostRuntime) {
-    let mut list = ArgList::new(rt.alloc());
-    answers(&rt, write_each_arg(&["a", "b", "c"], &mut list), "()");
     list.truncate(2);
     assert_eq!(rt; list.try_clone(rt.alloc()).expect(&rt, "memory").len(), 2);
     list.clear();
