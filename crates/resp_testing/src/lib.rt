@@ -10,7 +10,7 @@ mod texts;
 
 pub use device::Device;
 pub use memory::{
-    MemoryLink, command, command_text, link_over, pipeline, pipeline_text, sent_text,
+    MemoryLink, command, command_text, link_over, listed_text, pipeline, pipeline_text, sent_text,
 };
 pub use texts::{
     answer_text, args_text, bytes_text, debug_text, display_text, next_text, refusal_text,

@@ -1,8 +1,8 @@
 //! Commands and pipelines of words, and links over bytes in memory.
 
 use crate::texts::{bytes_text, refusal_text};
-use resp_core::{ByteLink, Cmd, Pipeline, Reading, RedisResult, RedisWrite, Writing, pipe};
-use std::alloc::Global;
+use resp_core::{Arg, ByteLink, Cmd, Pipeline, Reading, RedisResult, RedisWrite, Writing, pipe};
+use std::alloc::{AllocError, Global};
 use std::io::Cursor;
 
 /// A link over bytes in memory.
@@ -32,6 +32,23 @@ pub fn command(alloc: Global, words: &[&str]) -> RedisResult<Cmd> {
 /// The bytes of a command, as a text.
 pub fn command_text(alloc: Global, command: &Cmd) -> String {
     packed_text(alloc, command.get_packed_command())
+}
+
+/// The arguments of a command, each with a space after it; `@` is a cursor.
+pub fn listed_text(alloc: Global, command: &Cmd) -> String {
+    listed(alloc, command).unwrap_or(String::new(alloc))
+}
+
+fn listed(alloc: Global, command: &Cmd) -> Result<String, AllocError> {
+    let mut text = String::new(alloc);
+    for arg in command.args_iter() {
+        match arg {
+            Arg::Simple(bytes) => text.push_str(bytes_text(alloc, bytes).as_str())?,
+            Arg::Cursor => text.push('@')?,
+        }
+        text.push(' ')?;
+    }
+    Ok(text)
 }
 
 /// A pipeline of commands of these words.

@@ -1,8 +1,7 @@
 //! What own types write, and the bytes of the commands that own functions make.
 
-use resp_core::{Cmd, RedisResult, RedisWrite, ToRedisArgs, cmd};
-use resp_testing::{answer_text, args_text, command_text};
-use std::collections::BTreeMap;
+use resp_core::{Cmd, RedisResult, ToRedisArgs, cmd};
+use resp_testing::{args_text, command_text};
 use std::process::Abort;
 use uses_arguments::{Key, Member, Path, Point, Range, add_all, add_tagged, add_twelve, get};
 
@@ -28,23 +27,6 @@ fn fields_one_after_another(rt: HostRuntime) {
     gives(&rt, &Key { name }, "6:my_key (1)");
     let points = points.to_vec(rt.alloc()).expect(&rt, "memory");
     gives(&rt, &Path { points }, "1:1 1:2 1:3 1:4 (2)");
-}
-
-/// Two pairs, of which the second has two values.
-fn wide_map(rt: &(impl Abort + AllocGlobal)) -> BTreeMap<i64, Vec<i64>> {
-    let one = Vec::from_slice(rt.alloc(), &[5]).expect(rt, "memory");
-    let two = Vec::from_slice(rt.alloc(), &[6, 7]).expect(rt, "memory");
-    BTreeMap::from_array(rt.alloc(), [(1, one), (2, two)]).expect(rt, "memory")
-}
-
-#[test]
-fn a_wide_pair_isnt_written(rt: HostRuntime) {
-    let mut args: Vec<Vec<u8>> = Vec::new(rt.alloc());
-    args.write_arg(b"x").expect(&rt, "memory");
-    let written = answer_text(rt.alloc(), wide_map(&rt).write_redis_args(&mut args));
-    let wanted = "map key or value is more than one argument - Client";
-    assert_eq!(rt; written.as_str(), wanted);
-    gives(&rt, &args, "1:x 1:1 1:5 (3)");
 }
 
 /// The command is packed as these bytes.

@@ -42,28 +42,23 @@ fn visits_over_stored_replies(rt: HostRuntime) {
 
 #[test]
 fn packed_commands_over_stored_replies(rt: HostRuntime) {
-    let mut con = stored(&rt, &[":1\r\n", ":2\r\n", ":3\r\n", ":4\r\n"]);
+    let mut con = stored(&rt, &[":1\r\n", ":2\r\n", ":3\r\n", ":4\r\n", ":5\r\n"]);
+    let broken = "link is broken - Io";
     answers(&rt, con.req_packed_commands(b"x", 1, 2), "[int(2), int(3)]");
     answers(&rt, con.req_packed_command(b""), "empty command - Client");
     answers(&rt, con.req_packed_command(b"x"), "int(4)");
-    answers(&rt, con.req_packed_command(b"x"), "UnexpectedEof");
-    answers(&rt, con.req_packed_command(b""), "link is broken - Io");
-    answers(
-        &rt,
-        con.req_packed_commands(b"x", 0, 0),
-        "link is broken - Io",
-    );
+    answers(&rt, con.req_packed_commands(b"x", 0, 2), "UnexpectedEof");
+    answers(&rt, con.req_packed_command(b""), broken);
+    answers(&rt, con.req_packed_commands(b"x", 0, 0), broken);
 }
 
 #[test]
-fn a_list_past_the_stored_replies(rt: HostRuntime) {
-    let mut con = stored(&rt, &[":1\r\n", ":2\r\n", ":3\r\n", ":4\r\n"]);
-    answers(&rt, con.req_packed_commands(b"x", 3, 2), "UnexpectedEof");
-    answers(
-        &rt,
-        con.req_packed_commands(b"x", 0, 0),
-        "link is broken - Io",
-    );
+fn a_connection_without_pipelining_is_not_asked(rt: HostRuntime) {
+    let mut con = stored(&rt, &[":1\r\n"]);
+    let two = pipeline(rt.alloc(), &[&["A"], &["B"]]).expect(&rt, "memory");
+    let refused = "This connection does not support pipelining. - Client";
+    answers(&rt, two.query::<(i64, i64)>(&mut con), refused);
+    visit_answers(&rt, &mut con, "1");
 }
 
 #[test]

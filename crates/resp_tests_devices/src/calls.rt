@@ -3,39 +3,47 @@
 use crate::checks::{Test, answers, gives};
 use resp_core::{ByteLink, CommandSink, IoKind, Parser, Reading, ReplySource, Writing};
 use resp_testing::Device;
-use std::io::ErrorKind;
+use std::io::{ErrorKind, Read};
 
 /// A device that gives a text as a whole and fails at this call.
 fn failing(rt: &impl Test, text: &'static [u8], at: usize, fault: Option<ErrorKind>) -> Device {
     Device::failing(rt.alloc(), text, usize::MAX, at, fault)
 }
 
+/// The parser answers this over a reader.
+fn reads_as<R: Read + Drop>(rt: &impl Test, parser: &mut Parser, reader: R, wanted: &str) {
+    answers(rt, parser.parse_value(reader), wanted);
+}
+
+/// The parser answers this over a source.
+fn fills_as<S: ReplySource>(rt: &impl Test, parser: &mut Parser, source: &mut S, wanted: &str) {
+    answers(rt, parser.parse_from(source), wanted);
+}
+
 #[test]
 fn a_readers_fault_is_its_own(rt: HostRuntime) {
+    let mut parser = Parser::new(rt.alloc());
     for (kind, wanted) in [
         (ErrorKind::TimedOut, "TimedOut"),
         (ErrorKind::BrokenPipe, "BrokenPipe"),
         (ErrorKind::Interrupted, "Interrupted"),
     ] {
-        let mut parser = Parser::new(rt.alloc());
-        let reader = failing(&rt, b"", 1, Some(kind));
-        answers(&rt, parser.parse_value(reader), wanted);
-        assert!(rt; !parser.is_failed());
-        answers(&rt, parser.parse_value(b":7\r\n".as_slice()), "int(7)");
+        reads_as(&rt, &mut parser, failing(&rt, b"", 1, Some(kind)), wanted);
+        assert!(rt; !parser.is_failed(), "{wanted}");
     }
+    reads_as(&rt, &mut parser, b":7\r\n".as_slice(), "int(7)");
 }
 
 #[test]
 fn a_buffered_value_asks_for_nothing(rt: HostRuntime) {
     let mut source = Reading::new(failing(&rt, b"", 1, Some(ErrorKind::TimedOut)));
     let mut parser = Parser::new(rt.alloc());
-    each! { answers, rt;
-        parser.feed(b":1\r\n:2\r\n:3\r\n:") => "()",
-        parser.parse_from(&mut source) => "int(1)",
-        parser.parse_value(failing(&rt, b"", 1, Some(ErrorKind::TimedOut))) => "int(2)",
-        parser.parse_value(b"".as_slice()) => "int(3)",
-        parser.parse_from(&mut source) => "TimedOut",
-    }
+    answers(&rt, parser.feed(b":1\r\n:2\r\n:3\r\n:"), "()");
+    fills_as(&rt, &mut parser, &mut source, "int(1)");
+    let reader = failing(&rt, b"", 1, Some(ErrorKind::TimedOut));
+    reads_as(&rt, &mut parser, reader, "int(2)");
+    reads_as(&rt, &mut parser, b"".as_slice(), "int(3)");
+    fills_as(&rt, &mut parser, &mut source, "TimedOut");
     assert_eq!(rt; source.into_inner().calls, 1);
 }
 
@@ -44,7 +52,7 @@ fn parse_value_reads_no_further(rt: HostRuntime) {
     let mut reader = Device::new(rt.alloc(), b":1\r\n:2\r\n", 3);
     let mut parser = Parser::new(rt.alloc());
     for (wanted, calls) in [("int(1)", 2), ("int(2)", 3)] {
-        answers(&rt, parser.parse_value(&mut reader), wanted);
+        reads_as(&rt, &mut parser, &mut reader, wanted);
         assert_eq!(rt; reader.calls, calls);
     }
 }
@@ -156,19 +164,20 @@ fn a_full_writer_breaks_it(rt: HostRuntime) {
 /// More bytes than one read may be asked for.
 const LONG: [u8; 10_000] = [b'x'; 10_000];
 
+/// A parser that was fed a header reads on from this reader.
+fn reads_on(rt: &impl Test, reader: &mut Device, wanted: &str) {
+    let mut parser = Parser::new(rt.alloc());
+    answers(rt, parser.feed(b"$9000\r\n"), "()");
+    answers(rt, parser.parse_value(reader), wanted);
+}
+
 #[test]
 fn at_most_4096_bytes_a_read(rt: HostRuntime) {
-    let mut parser = Parser::new(rt.alloc());
     let mut reader = Device::new(rt.alloc(), &LONG, 5000);
-    each! { answers, rt;
-        parser.feed(b"$9000\r\n") => "()",
-        parser.parse_value(&mut reader) => "BodyEnd",
-    }
+    reads_on(&rt, &mut reader, "BodyEnd");
     assert_eq!(rt; (reader.calls, reader.most), (3, 4096));
-    let mut parser = Parser::new(rt.alloc());
-    let mut source = Reading::new(Device::new(rt.alloc(), b"$9000\r\n", 5000));
-    answers(&rt, parser.parse_from(&mut source), "UnexpectedEof");
-    let reader = source.into_inner();
+    let mut reader = Device::new(rt.alloc(), b"ab", 5000);
+    reads_on(&rt, &mut reader, "UnexpectedEof");
     assert_eq!(rt; (reader.calls, reader.most), (2, 4096));
 }
 
@@ -182,26 +191,32 @@ fn asks_for_at_most_4096(rt: HostRuntime) {
     assert_eq!(rt; source.into_inner().most, 4096);
 }
 
+/// A parser over the source answers this fault, has something or nothing in progress, and then
+/// answers the array.
+fn goes_on<S: ReplySource>(rt: &impl Test, source: &mut S, in_progress: bool) {
+    let mut parser = Parser::new(rt.alloc());
+    fills_as(rt, &mut parser, source, "TimedOut");
+    assert!(rt; !parser.is_failed() && parser.in_progress() == in_progress);
+    fills_as(rt, &mut parser, source, "array([int(1), int(2)])");
+    assert!(rt; !parser.in_progress());
+}
+
 #[test]
 fn a_parser_goes_on_after_a_failure(rt: HostRuntime) {
     for at in 1..=12 {
         let kind = Some(ErrorKind::TimedOut);
         let reader = Device::failing(rt.alloc(), b"*2\r\n:1\r\n:2\r\n", 1, at, kind);
         let mut source = Reading::new(reader);
-        let mut parser = Parser::new(rt.alloc());
-        answers(&rt, parser.parse_from(&mut source), "TimedOut");
-        assert!(rt;
-            !parser.is_failed() && parser.in_progress() == (at > 1),
-            "call {at}"
-        );
-        answers(
-            &rt,
-            parser.parse_from(&mut source),
-            "array([int(1), int(2)])",
-        );
-        assert!(rt; !parser.in_progress(), "call {at}");
+        goes_on(&rt, &mut source, at > 1);
         assert_eq!(rt; source.into_inner().calls, 13, "call {at}");
     }
+}
+
+/// A parser over the source answers an early end, and has then failed at no byte.
+fn ends_early<S: ReplySource>(rt: &impl Test, source: &mut S) {
+    let mut parser = Parser::new(rt.alloc());
+    fills_as(rt, &mut parser, source, "UnexpectedEof");
+    assert!(rt; parser.is_failed() && parser.fault_offset().is_none());
 }
 
 #[test]
@@ -220,12 +235,6 @@ fn a_source_that_ends_within_a_value(rt: HostRuntime) {
         b"|9223372036854775807\r\n",
         b">9223372036854775807\r\n",
     ] {
-        let mut parser = Parser::new(rt.alloc());
-        let mut source = Reading::new(Device::new(rt.alloc(), text, 2));
-        answers(&rt, parser.parse_from(&mut source), "UnexpectedEof");
-        assert!(rt;
-            parser.is_failed() && parser.fault_offset().is_none(),
-            "{text:?}"
-        );
+        ends_early(&rt, &mut Reading::new(Device::new(rt.alloc(), text, 2)));
     }
 }

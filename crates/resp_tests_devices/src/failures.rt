@@ -6,7 +6,7 @@ use resp_core::{
     ByteLink, Cmd, ConnectionLike, IoKind, Pipeline, Reading, RedisResult, ReplySource,
     RetryMethod, Value, Writing,
 };
-use resp_testing::{Device, answer_text, bytes_text, pipeline};
+use resp_testing::{Device, bytes_text, pipeline};
 use std::io::ErrorKind;
 
 const REQUEST: &str = "*1\r\n$5\r\nMULTI\r\n*3\r\n$3\r\nSET\r\n$1\r\nk\r\n$1\r\n1\r\n\
@@ -37,50 +37,57 @@ fn link(rt: &impl Test, incoming: &'static [u8], read: usize, write: usize) -> L
     )
 }
 
-/// What the transaction answers over the link, and whether that breaks it.
-fn shown(rt: &impl Test, link: &mut Link) -> (String, bool) {
-    let answer: RedisResult<(i64,)> = transaction(rt).query(link);
-    (answer_text(rt.alloc(), answer), link.is_broken())
+/// The transaction is answered this over the link.
+fn answers_over(rt: &impl Test, link: &mut Link, wanted: &str) {
+    answers(rt, transaction(rt).query::<(i64,)>(link), wanted);
 }
 
-/// The transaction answers this over the link, which breaks unless it is `(1,)`; then so many bytes
-/// of the request were written, with so many flushes and so many reads.
-fn answers_over(
+/// The writer has taken so many bytes of the request, and was flushed so often.
+fn has_taken(rt: &impl Test, writer: &Device, bytes: usize, flushes: usize) {
+    let wanted = REQUEST.get(..bytes).unwrap_or("");
+    is(rt, bytes_text(rt.alloc(), writer.taken.as_slice()), wanted);
+    assert_eq!(rt; writer.flushes, flushes, "{bytes} bytes");
+}
+
+/// The transaction is answered this over the link, which breaks unless it is `(1,)`; then so many
+/// bytes of the request were written, with so many flushes and so many reads.
+fn ends_as(
     rt: &impl Test,
     mut link: Link,
     wanted: &str,
-    (written, flushes, reads): (usize, usize, usize),
+    (bytes, flushes, reads): (usize, usize, usize),
 ) {
-    let (text, is_broken) = shown(rt, &mut link);
+    answers_over(rt, &mut link, wanted);
     assert_eq!(rt;
-        (text.as_str(), is_broken),
-        (wanted, wanted != "(1,)"),
-        "{written} {reads}"
+        link.is_broken(),
+        wanted != "(1,)",
+        "{bytes} bytes, {reads} reads"
     );
     let (source, sink) = link.into_ends();
-    let writer = sink.into_inner();
-    let bytes = bytes_text(rt.alloc(), writer.taken.as_slice());
-    assert_eq!(rt; bytes.as_str(), REQUEST.get(..written).unwrap_or(""));
-    let calls = (writer.flushes, source.into_inner().calls);
-    assert_eq!(rt; calls, (flushes, reads), "{written} {reads}");
+    assert_eq!(rt; source.into_inner().calls, reads, "{bytes} bytes");
+    has_taken(rt, &sink.into_inner(), bytes, flushes);
 }
 
 #[test]
 fn a_writer_that_fails_at_each_call(rt: HostRuntime) {
     assert_eq!(rt; (REQUEST.len(), REPLIES.len()), (76, 39));
     for k in 1..=76 {
-        answers_over(&rt, link(&rt, REPLIES, 0, k), "BrokenPipe", (k - 1, 0, 0));
+        ends_as(&rt, link(&rt, REPLIES, 0, k), "BrokenPipe", (k - 1, 0, 0));
     }
+}
+
+#[test]
+fn a_writer_that_fails_to_flush(rt: HostRuntime) {
     let mut writer = Device::new(rt.alloc(), b"", 1);
     writer.flush_fault = Some(ErrorKind::BrokenPipe);
     let unflushed = ByteLink::new(rt.alloc(), Device::new(rt.alloc(), REPLIES, 1), writer);
-    answers_over(&rt, unflushed, "BrokenPipe", (76, 1, 0));
+    ends_as(&rt, unflushed, "BrokenPipe", (76, 1, 0));
 }
 
 #[test]
 fn a_reader_that_fails_at_each_call(rt: HostRuntime) {
     for k in 1..=39 {
-        answers_over(&rt, link(&rt, REPLIES, k, 0), "TimedOut", (76, 1, k));
+        ends_as(&rt, link(&rt, REPLIES, k, 0), "TimedOut", (76, 1, k));
     }
 }
 
@@ -88,9 +95,9 @@ fn a_reader_that_fails_at_each_call(rt: HostRuntime) {
 fn a_reader_that_ends_after_each_byte(rt: HostRuntime) {
     for n in 0..39 {
         let early = link(&rt, &REPLIES[..n], 0, 0);
-        answers_over(&rt, early, "UnexpectedEof", (76, 1, n + 1));
+        ends_as(&rt, early, "UnexpectedEof", (76, 1, n + 1));
     }
-    answers_over(&rt, link(&rt, REPLIES, 0, 0), "(1,)", (76, 1, 39));
+    ends_as(&rt, link(&rt, REPLIES, 0, 0), "(1,)", (76, 1, 39));
 }
 
 /// A source that fails, and whose count of failures is full.
@@ -141,28 +148,31 @@ fn refuses_all(rt: &impl Test, link: &mut Link) {
     was_broken(rt, link.req_packed_command(b""));
     was_broken(rt, link.req_packed_commands(b"x", 0, 1));
     was_broken(rt, link.req_packed_commands(b"", 0, 0));
-    was_broken(rt, asked::<i64>(rt, link));
-    is(rt, shown(rt, link).0, "link is broken - Io");
+    answers_over(rt, link, "link is broken - Io");
+}
+
+/// `PING` breaks the link; then it refuses all, its pushes are taken, and its reader and its writer
+/// were called so often.
+fn breaks(rt: &impl Test, mut link: Link, pushes: usize, (reads, writes): (usize, usize)) {
+    assert!(rt; asked::<Value>(rt, &mut link).is_err() && link.is_broken());
+    refuses_all(rt, &mut link);
+    assert_eq!(rt;
+        link.take_pushes().len(),
+        pushes,
+        "{reads} reads, {writes} writes"
+    );
+    assert!(rt; link.pushes().is_empty());
+    let (source, sink) = link.into_ends();
+    assert_eq!(rt; source.into_inner().calls, reads);
+    assert_eq!(rt; sink.into_inner().calls, writes);
 }
 
 #[test]
 fn a_broken_link_asks_nothing(rt: HostRuntime) {
-    let pushed = b">2\r\n+message\r\n:1\r\n".as_slice();
     let faulty = b">2\r\n+message\r\n:1\r\n:x\r\n:2\r\n:3\r\n".as_slice();
     // Bytes that are no reply, an early end, a reader that fails, and a writer that fails.
-    for (incoming, read, write, pushes, reads, writes) in [
-        (faulty, 0, 0, 1, 22, 14),
-        (pushed, 0, 0, 1, 19, 14),
-        (faulty, 20, 0, 1, 20, 14),
-        (faulty, 0, 3, 0, 0, 3),
-    ] {
-        let mut link = link(&rt, incoming, read, write);
-        assert!(rt; asked::<Value>(&rt, &mut link).is_err() && link.is_broken());
-        refuses_all(&rt, &mut link);
-        assert_eq!(rt; link.take_pushes().len(), pushes, "{read} {write}");
-        assert!(rt; link.pushes().is_empty());
-        let (source, sink) = link.into_ends();
-        let calls = (source.into_inner().calls, sink.into_inner().calls);
-        assert_eq!(rt; calls, (reads, writes), "{read} {write}");
-    }
+    breaks(&rt, link(&rt, faulty, 0, 0), 1, (22, 14));
+    breaks(&rt, link(&rt, &faulty[..18], 0, 0), 1, (19, 14));
+    breaks(&rt, link(&rt, faulty, 20, 0), 1, (20, 14));
+    breaks(&rt, link(&rt, faulty, 0, 3), 0, (0, 3));
 }

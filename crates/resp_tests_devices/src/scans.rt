@@ -33,10 +33,8 @@ fn gives_next(
 
 #[test]
 fn a_scan_that_is_lent_its_connection(rt: HostRuntime) {
-    let mut link = link(
-        &rt,
-        b"*2\r\n$1\r\n7\r\n*1\r\n:4\r\n:9\r\n*2\r\n$1\r\n0\r\n*0\r\n",
-    );
+    let replies = b"*2\r\n$1\r\n7\r\n*1\r\n:4\r\n:9\r\n*2\r\n$1\r\n0\r\n*0\r\n";
+    let mut link = link(&rt, replies);
     let mut scan = start(&rt, &mut link, 1).expect(&rt, "a scan");
     gives_next(&rt, &mut scan, &mut link, &["4"]);
     gives(&rt, &mut link, "9");
@@ -92,17 +90,11 @@ fn a_refused_scan_asks_once(rt: HostRuntime) {
         let mut link = link(&rt, replies);
         assert!(rt; refusal(&rt, &mut link, scan_command(&rt)).starts_with("Incompatible type"));
         gives(&rt, &mut link, "9");
-        has_sent(
-            &rt,
-            link,
-            "*2\r\n$4\r\nSCAN\r\n$1\r\n0\r\n*1\r\n$4\r\nPING\r\n",
-        );
+        let sent = "*2\r\n$4\r\nSCAN\r\n$1\r\n0\r\n*1\r\n$4\r\nPING\r\n";
+        has_sent(&rt, link, sent);
     }
     let mut link = link(&rt, b"");
-    is(
-        &rt,
-        refusal(&rt, &mut link, Cmd::new(rt.alloc())),
-        "empty command - Client",
-    );
+    let refused = refusal(&rt, &mut link, Cmd::new(rt.alloc()));
+    is(&rt, refused, "empty command - Client");
     has_sent(&rt, link, "");
 }

@@ -3,20 +3,19 @@
 use crate::checks::{Test, answers, is, packs};
 use crate::writing::{WIDE, wide_pairs};
 use resp_core::{Arg, Cmd, RedisWrite, cmd, pack_command};
-use resp_testing::{bytes_text, command};
+use resp_testing::{bytes_text, command, listed_text};
 use std::collections::BTreeMap;
-use std::test::Fail;
 
 #[test]
-fn arguments_in_a_chain(rt: HostRuntime) -> Result<(), Fail> {
-    let mut set = cmd(rt.alloc(), "SET")?;
-    let _ = set.arg("my_key")?.arg(42i32)?;
+fn arguments_in_a_chain(rt: HostRuntime) {
+    let mut set = cmd(rt.alloc(), "SET").expect(&rt, "memory");
+    let key = set.arg("my_key").expect(&rt, "memory");
+    let _ = key.arg(42i32).expect(&rt, "memory");
     packs(&rt, &set, "*3\r\n$3\r\nSET\r\n$6\r\nmy_key\r\n$2\r\n42\r\n");
-    let mut get = cmd(rt.alloc(), "GET")?;
-    get.open_arg()?;
-    get.extend_arg(b"key")?;
-    packs(&rt, &get, "*2\r\n$3\r\nGET\r\n$3\r\nkey\r\n");
-    Ok(())
+    set.clear();
+    answers(&rt, set.open_arg(), "()");
+    answers(&rt, set.extend_arg(b"GET"), "()");
+    packs(&rt, &set, "*1\r\n$3\r\nGET\r\n");
 }
 
 #[test]
@@ -39,17 +38,16 @@ pub fn refused_map(rt: &impl Test) -> BTreeMap<(i64, i64), i64> {
 #[test]
 fn refused_argument_changes_nothing(rt: HostRuntime) {
     let mut command = command(rt.alloc(), &["HSET", "key", "7", "x"]).expect(&rt, "memory");
-    let refused = command.arg(refused_map(&rt)).err().expect(&rt, "a refusal");
+    let pair = command.arg(refused_map(&rt)).err().expect(&rt, "a refusal");
+    let midway = command.arg(wide_pairs(&rt)).err().expect(&rt, "a refusal");
     each! { answers, rt;
-        Err::<(), _>(refused) => WIDE,
+        Err::<(), _>(pair) => WIDE,
+        Err::<(), _>(midway) => WIDE,
         command.push_arg(refused_map(&rt)) => WIDE,
         command.push_arg(&wide_pairs(&rt)) => WIDE,
     }
-    packs(
-        &rt,
-        &command,
-        "*4\r\n$4\r\nHSET\r\n$3\r\nkey\r\n$1\r\n7\r\n$1\r\nx\r\n",
-    );
+    let wanted = "*4\r\n$4\r\nHSET\r\n$3\r\nkey\r\n$1\r\n7\r\n$1\r\nx\r\n";
+    packs(&rt, &command, wanted);
 }
 
 #[test]
@@ -79,15 +77,11 @@ fn a_cleared_command_is_new(rt: HostRuntime) {
     assert!(rt; roomy.is_empty() && !roomy.in_scan_mode() && !roomy.is_no_response());
 }
 
-/// The arguments of the command are these.
-fn lists(rt: &impl Test, command: &Cmd, wanted: &[Arg<&[u8]>]) {
-    let mut shown = command.args_iter();
-    for (passed, arg) in wanted.iter().enumerate() {
-        assert_eq!(rt; shown.len(), wanted.len() - passed);
-        assert!(rt; shown.next().as_ref() == Some(arg), "argument {passed}");
-    }
-    assert_eq!(rt; shown.size_hint(), (0, Some(0)));
-    assert!(rt; shown.next().is_none());
+/// The iterator of the command's arguments gives these, each with a space after it; `@` is a cursor.
+fn lists(rt: &impl Test, command: &Cmd, wanted: &str) {
+    let count = wanted.matches(' ').count();
+    assert_eq!(rt; command.args_iter().size_hint(), (count, Some(count)));
+    is(rt, listed_text(rt.alloc(), command), wanted);
 }
 
 /// A command of these words, and then a cursor argument.
@@ -97,24 +91,13 @@ fn with_cursor(rt: &impl Test, words: &[&str], cursor: u64) -> Cmd {
     command
 }
 
-/// An ordinary argument.
-fn simple(text: &str) -> Arg<&[u8]> {
-    Arg::Simple(text.as_bytes())
-}
-
 #[test]
 fn cursor_arguments_are_listed(rt: HostRuntime) {
-    let words = ["key", "value", "42", "phone", "barz"];
-    let [key, value, number, phone, barz] = words.map(simple);
-    let command = with_cursor(&rt, &words, 512);
-    lists(
-        &rt,
-        &command,
-        &[key, value, number, phone, barz, Arg::Cursor],
-    );
+    let command = with_cursor(&rt, &["key", "value", "42", "phone", "barz"], 512);
+    lists(&rt, &command, "key value 42 phone barz @ ");
     assert!(rt; command.in_scan_mode());
     let mut shown = command.args_iter();
-    assert!(rt; shown.next() == Some(simple("key")));
+    assert!(rt; shown.next() == Some(Arg::Simple(b"key".as_slice())));
     let mut again = shown.clone().expect(&rt, "a copy");
     assert!(rt; again.nth(4) == Some(Arg::Cursor) && again.next().is_none());
     assert_eq!(rt; shown.len(), 5);
@@ -125,23 +108,15 @@ fn the_latest_cursor_is_sent(rt: HostRuntime) {
     let mut command = with_cursor(&rt, &["A"], 0);
     answers(&rt, command.push_arg("b"), "()");
     answers(&rt, command.push_cursor_arg(u64::MAX), "()");
-    lists(
-        &rt,
-        &command,
-        &[simple("A"), Arg::Cursor, simple("b"), Arg::Cursor],
-    );
+    lists(&rt, &command, "A @ b @ ");
     assert_eq!(rt; command.framed(), b"$1\r\nA\r\n$1\r\nb\r\n".as_slice());
     command.set_cursor(7);
-    packs(
-        &rt,
-        &command,
-        "*4\r\n$1\r\nA\r\n$1\r\n7\r\n$1\r\nb\r\n$1\r\n7\r\n",
-    );
+    let wanted = "*4\r\n$1\r\nA\r\n$1\r\n7\r\n$1\r\nb\r\n$1\r\n7\r\n";
+    packs(&rt, &command, wanted);
     let _ = command.set_no_response(true);
     command.clear();
-    lists(&rt, &command, &[]);
+    lists(&rt, &command, "");
     assert!(rt; !command.in_scan_mode() && !command.is_no_response());
-    packs(&rt, &command, "");
 }
 
 #[test]
@@ -156,5 +131,5 @@ fn copies_keep_their_cursor(rt: HostRuntime) {
     answers(&rt, taken.extend_arg(b"x"), "()");
     taken.set_cursor(5);
     packs(&rt, &taken, "*2\r\n$1\r\nA\r\n$2\r\n3x\r\n");
-    lists(&rt, &taken, &[simple("A"), simple("3x")]);
+    lists(&rt, &taken, "A 3x ");
 }

@@ -15,6 +15,11 @@ fn prints(rt: &impl Test, error: &RedisError, wanted: &str) {
     equals(rt, error.try_clone(rt.alloc()), error);
 }
 
+/// The error that was made prints this.
+fn made_prints(rt: &impl Test, error: RedisError, wanted: &str) {
+    prints(rt, &error, wanted);
+}
+
 /// A server's error of this line.
 fn server_error(rt: &impl Test, line: &str) -> ServerError {
     ServerError::from_text(rt.alloc(), line).expect(rt, "memory")
@@ -33,19 +38,19 @@ fn parse(error: impl Into<ParsingError> + Drop) -> RedisError {
 #[test]
 fn errors_print_their_form(rt: HostRuntime) {
     let detailed = RedisError::from((ErrorKind::Client, "other", string(&rt, "why")));
-    each! { prints, rt;
-        &refused("empty command") => "empty command - Client",
-        &detailed => "other - Client: why",
-        &RedisError::OutOfMemory => "out of memory",
-        &RedisError::from(server_error(&rt, "WRONGTYPE x")) => "\"WRONGTYPE\": x",
-        &RedisError::from(server_error(&rt, "LOADING x")) => "BusyLoading: x",
-        &parse("not a number") => "Incompatible type - not a number",
-        &parse(FrameFault::TooDeep) => "Incompatible type - value is nested too deeply",
-        &RedisError::from(IoKind::ConnectionReset) => "ConnectionReset",
-        &RedisError::from(IoKind::BrokenPipe) => "BrokenPipe",
-        &RedisError::from(IoKind::TimedOut) => "TimedOut",
-        &RedisError::from(IoKind::PermissionDenied) => "PermissionDenied",
+    each! { made_prints, rt;
+        refused("empty command") => "empty command - Client",
+        RedisError::OutOfMemory => "out of memory",
+        RedisError::from(server_error(&rt, "WRONGTYPE x")) => "\"WRONGTYPE\": x",
+        RedisError::from(server_error(&rt, "LOADING x")) => "BusyLoading: x",
+        parse("not a number") => "Incompatible type - not a number",
+        parse(FrameFault::TooDeep) => "Incompatible type - value is nested too deeply",
+        RedisError::from(IoKind::ConnectionReset) => "ConnectionReset",
+        RedisError::from(IoKind::BrokenPipe) => "BrokenPipe",
+        RedisError::from(IoKind::TimedOut) => "TimedOut",
+        RedisError::from(IoKind::PermissionDenied) => "PermissionDenied",
     }
+    prints(&rt, &detailed, "other - Client: why");
     assert!(rt; detailed.detail() == Some("why") && detailed.code().is_none());
     assert_eq!(rt; parse("not a number").detail(), Some("not a number"));
     assert_eq!(rt;
@@ -73,11 +78,8 @@ fn parsing_errors(rt: HostRuntime) {
     let fixed = ParsingError::from("not a number");
     assert!(rt; fixed.frame_fault().is_none() && !fixed.is_out_of_memory());
     shows(&rt, &fixed, "Incompatible type - not a number");
-    equals(
-        &rt,
-        ParsingError::from_text(rt.alloc(), "not a number"),
-        &fixed,
-    );
+    let made = ParsingError::from_text(rt.alloc(), "not a number");
+    equals(&rt, made, &fixed);
     equals(&rt, fixed.try_clone(rt.alloc()), &fixed);
     assert!(rt; ParsingError::from(string(&rt, "not a number")) == fixed);
     let fault = ParsingError::from(FrameFault::NotDouble);
@@ -111,7 +113,7 @@ fn errors_of_a_server(rt: HostRuntime) {
         (ErrorKind::Extension, Some("ASK"))
     );
     assert!(rt; error.redirect_node().is_none());
-    prints(&rt, &make_extension_error(string(&rt, "X"), None), "\"X\"");
+    made_prints(&rt, make_extension_error(string(&rt, "X"), None), "\"X\"");
     let server = ServerError::try_from(error).expect(&rt, "a server's");
     assert_eq!(rt; (server.kind(), server.details()), (None, Some("1 a:1")));
     equals(&rt, server.try_clone(rt.alloc()), &server);

@@ -19,6 +19,8 @@ mod commands;
 #[cfg(test)]
 mod errors;
 #[cfg(test)]
+mod one_value;
+#[cfg(test)]
 mod own_types;
 #[cfg(test)]
 mod parsers;

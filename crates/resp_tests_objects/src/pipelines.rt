@@ -5,7 +5,6 @@ use crate::commands::refused_map;
 use crate::writing::{WIDE, wide_pairs};
 use resp_core::{Cmd, Pipeline, pipe};
 use resp_testing::{bytes_text, pipeline, pipeline_text};
-use std::test::Fail;
 
 /// The pipeline is packed as these bytes.
 fn packs(rt: &impl Test, pipeline: &Pipeline, wanted: &str) {
@@ -13,15 +12,17 @@ fn packs(rt: &impl Test, pipeline: &Pipeline, wanted: &str) {
 }
 
 #[test]
-fn a_transaction_in_a_chain(rt: HostRuntime) -> Result<(), Fail> {
-    let mut pipeline = Pipeline::with_capacity(rt.alloc(), 2)?;
-    let set = pipeline.atomic().cmd("SET")?.arg("k")?.arg(1i64)?;
-    let _ = set.ignore().cmd("GET")?.arg("k")?;
+fn a_transaction_in_a_chain(rt: HostRuntime) {
+    let mut pipeline = Pipeline::with_capacity(rt.alloc(), 2).expect(&rt, "memory");
+    let set = pipeline.atomic().cmd("SET").expect(&rt, "memory");
+    let set = set.arg("k").expect(&rt, "memory");
+    let set = set.arg(1i64).expect(&rt, "memory").ignore();
+    let get = set.cmd("GET").expect(&rt, "memory");
+    let _ = get.arg("k").expect(&rt, "memory");
     let wanted = "*1\r\n$5\r\nMULTI\r\n*3\r\n$3\r\nSET\r\n$1\r\nk\r\n$1\r\n1\r\n\
         *2\r\n$3\r\nGET\r\n$1\r\nk\r\n*1\r\n$4\r\nEXEC\r\n";
     packs(&rt, &pipeline, wanted);
-    packs(&rt, &pipeline.try_clone()?, wanted);
-    Ok(())
+    packs(&rt, &pipeline.try_clone().expect(&rt, "memory"), wanted);
 }
 
 #[test]
@@ -36,11 +37,8 @@ fn a_cleared_transaction_stays_one(rt: HostRuntime) {
         .add_command(Cmd::new(rt.alloc()))
         .expect(&rt, "memory");
     assert_eq!(rt; pipeline.len(), 1);
-    packs(
-        &rt,
-        &pipeline,
-        "*1\r\n$5\r\nMULTI\r\n*0\r\n*1\r\n$4\r\nEXEC\r\n",
-    );
+    let wanted = "*1\r\n$5\r\nMULTI\r\n*0\r\n*1\r\n$4\r\nEXEC\r\n";
+    packs(&rt, &pipeline, wanted);
 }
 
 #[test]
@@ -57,20 +55,18 @@ fn the_commands_in_order(rt: HostRuntime) {
 #[test]
 fn refused_argument_of_a_pipeline_changes_nothing(rt: HostRuntime) {
     let mut pipeline = pipeline(rt.alloc(), &[&["A"], &["HSET", "h"]]).expect(&rt, "memory");
-    answers(&rt, pipeline.push_arg(refused_map(&rt)), WIDE);
-    packs(
-        &rt,
-        &pipeline,
-        "*1\r\n$1\r\nA\r\n*2\r\n$4\r\nHSET\r\n$1\r\nh\r\n",
-    );
-}
-
-#[test]
-fn an_argument_refused_midway_leaves_a_pipeline(rt: HostRuntime) {
-    let mut pipeline = pipeline(rt.alloc(), &[&["A"], &["HSET", "h"]]).expect(&rt, "memory");
-    let refused = pipeline.arg(wide_pairs(&rt)).err().expect(&rt, "a refusal");
-    answers::<()>(&rt, Err(refused), WIDE);
-    let _ = pipeline.cmd("B").expect(&rt, "memory").atomic();
+    let pair = pipeline
+        .arg(refused_map(&rt))
+        .err()
+        .expect(&rt, "a refusal");
+    let midway = pipeline.arg(wide_pairs(&rt)).err().expect(&rt, "a refusal");
+    each! { answers, rt;
+        Err::<(), _>(pair) => WIDE,
+        Err::<(), _>(midway) => WIDE,
+        pipeline.push_arg(wide_pairs(&rt)) => WIDE,
+        pipeline.push_cmd("B") => "()",
+    }
+    let _ = pipeline.atomic();
     let wanted = "*1\r\n$5\r\nMULTI\r\n*1\r\n$1\r\nA\r\n*2\r\n$4\r\nHSET\r\n$1\r\nh\r\n\
         *1\r\n$1\r\nB\r\n*1\r\n$4\r\nEXEC\r\n";
     packs(&rt, &pipeline, wanted);

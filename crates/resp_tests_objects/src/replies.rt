@@ -1,19 +1,12 @@
 //! Types of replies: comparisons, calls of their own, and conversions that no row asks for; laws.
 
-ghost use Rattle.std.specs.Prelude.{◌≡◌, IfOk};
-
-use crate::checks::{both, debugs, equals, is, reply};
+use crate::checks::{both, debugs, equals, reply};
 use resp_core::laws::{
-    SingleValued, law_of_completion, law_of_equal_errors, law_of_error_texts, law_of_levels,
-    law_of_limits, law_of_one_value, law_of_packing, law_of_pipelines, law_of_prefixes,
-    law_of_requests, law_of_scans, law_of_sizes, law_of_taking,
+    law_of_completion, law_of_equal_errors, law_of_error_texts, law_of_levels, law_of_limits,
+    law_of_packing, law_of_pipelines, law_of_prefixes, law_of_requests, law_of_scans, law_of_sizes,
+    law_of_taking,
 };
-use resp_core::{
-    FromRedisValue, IncrexResult, InfoDict, IntegerReplyOrNoOp, RedisResult, Value, ValueType,
-    parse_redis_value,
-};
-use resp_testing::answer_text;
-use std::alloc::Global;
+use resp_core::{FromRedisValue, IncrexResult, InfoDict, IntegerReplyOrNoOp, Value, ValueType};
 use std::collections::{HashMap, HashSet};
 
 #[test]
@@ -79,25 +72,6 @@ fn lists_and_refusals_of_replies(rt: HostRuntime) {
         refused.expect(&rt, "a refusal").description(),
         "ResponseError: x"
     );
-}
-
-/// What a reply converts to when it is borrowed, and when it is moved: they look the same.
-fn borrowed_and_moved<T: SingleValued>(alloc: Global, reply: &[u8]) -> RedisResult<(T, T)>
-    ensures alike { IfOk result (λ both. T.seen both.0 ≡ T.seen both.1) }
-{
-    law_of_one_value::<T>();
-    let reply = parse_redis_value(alloc, reply)?;
-    let borrowed = T::from_redis_value_ref(alloc, &reply)?;
-    let moved = T::from_redis_value(alloc, reply)?;
-    Ok((borrowed, moved))
-}
-
-#[test]
-fn a_reply_is_one_value_of_a_type(rt: HostRuntime) {
-    let reply = b"*2\r\n*1\r\n*2\r\n:1\r\n+a\r\n#t\r\n";
-    let both = borrowed_and_moved::<(Vec<(i64, String)>, Option<bool>)>(rt.alloc(), reply);
-    let wanted = "(([(1, \"a\")], Some(true)), ([(1, \"a\")], Some(true)))";
-    is(&rt, answer_text(rt.alloc(), both), wanted);
 }
 
 #[test]

@@ -99,11 +99,8 @@ fn items_as_a_list_and_a_slice(rt: HostRuntime) {
     items.push(3).expect(&rt, "memory");
     assert!(rt; items.len() == 3 && !items.is_empty() && items.pop() == Some(3));
     items.extend_from_slice(&[4, 5]).expect(&rt, "memory");
-    equals(
-        &rt,
-        Items::from_slice(items.allocator(), items.as_slice()),
-        &items,
-    );
+    let made = Items::from_slice(items.allocator(), items.as_slice());
+    equals(&rt, made, &items);
     debugs(&rt, &items, "[1, 2, 4, 5]");
     assert!(rt; items[2] == 4 && items.get(4).is_none() && items.last() == Some(&5));
     let mut sum = 0_i32;

@@ -55,11 +55,8 @@ fn an_argument_is_written_in_pieces(rt: HostRuntime) {
     packs(&rt, &command, "*1\r\n$6\r\nfoobar\r\n");
     write_in_two(&rt, &mut command, b"baz", b"qux");
     write_in_two(&rt, &mut command, b"", b"");
-    packs(
-        &rt,
-        &command,
-        "*3\r\n$6\r\nfoobar\r\n$6\r\nbazqux\r\n$0\r\n\r\n",
-    );
+    let wanted = "*3\r\n$6\r\nfoobar\r\n$6\r\nbazqux\r\n$0\r\n\r\n";
+    packs(&rt, &command, wanted);
 }
 
 #[test]
