@@ -1,0 +1,235 @@
+//! Replies that a parser takes from bytes, however they come in.
+
+use crate::rows::{Row, malformed, number_of};
+use crate::texts::{add_part, refusal_text};
+use resp_core::{Limits, Parser, Reading, RedisError, RedisResult};
+use std::alloc::Global;
+use std::io;
+use std::io::Read;
+
+/// The most bytes that are cut at each place.
+const CUT: usize = 200;
+
+/// Gives three bytes a read, or what is left.
+#[derive(Drop)]
+struct InThrees<'a> {
+    rest: &'a [u8],
+}
+
+impl<'a> Read for InThrees<'a> {
+    fn read(&mut self, buf: &mut [u8]) -> io::Result<usize> {
+        let n = self.rest.len().min(buf.len()).min(3);
+        let (first, rest) = self.rest.split_at(n);
+        buf[..n].copy_from_slice(first);
+        self.rest = rest;
+        Ok(n)
+    }
+}
+
+/// `read BYTES`
+pub fn read(alloc: Global, row: &Row) -> RedisResult<String> {
+    match row.words() {
+        [bytes] => shown_however(alloc, Limits::default(), bytes.as_slice()),
+        _ => Err(malformed()),
+    }
+}
+
+/// `cut BYTES`
+pub fn cut(alloc: Global, row: &Row) -> RedisResult<String> {
+    let wanted = read(alloc, row)?;
+    match row.words() {
+        [bytes] => same_at_each_two_places(alloc, bytes.as_slice(), wanted),
+        _ => Err(malformed()),
+    }
+}
+
+/// `limits DEPTH SIZE BYTES`
+pub fn limits(alloc: Global, row: &Row) -> RedisResult<String> {
+    match row.words() {
+        [depth, size, bytes] => {
+            let limits = Limits {
+                depth: number_of(depth.as_slice())? as usize,
+                bytes: number_of(size.as_slice())? as usize,
+            };
+            match Parser::with_limits(alloc, limits) {
+                Ok(_) => shown_however(alloc, limits, bytes.as_slice()),
+                Err(error) => refusal_text(alloc, error),
+            }
+        }
+        _ => Err(malformed()),
+    }
+}
+
+/// What the bytes show, if they show it however they come in.
+fn shown_however(alloc: Global, limits: Limits, bytes: &[u8]) -> RedisResult<String> {
+    let wanted = shown_in_pieces(alloc, limits, &[bytes])?;
+    let singly = shown_singly(alloc, limits, bytes)?;
+    let wanted = agreed(alloc, wanted, singly, "in single bytes")?;
+    let from_source = shown_from_source(alloc, limits, bytes)?;
+    let wanted = agreed(alloc, wanted, from_source, "from a source")?;
+    if bytes.len() > CUT {
+        return Ok(wanted);
+    }
+    same_at_each_place(alloc, limits, bytes, wanted)
+}
+
+/// The text, or where the other one differs, both.
+pub fn agreed(alloc: Global, text: String, other: String, how: &str) -> RedisResult<String> {
+    if text.as_str() == other.as_str() {
+        return Ok(text);
+    }
+    Ok(format!(in alloc; "{text}; {how}: {other}")?)
+}
+
+fn same_at_each_place(
+    alloc: Global,
+    limits: Limits,
+    bytes: &[u8],
+    wanted: String,
+) -> RedisResult<String> {
+    for place in 0..=bytes.len() {
+        let (first, rest) = bytes.split_at(place);
+        let text = shown_in_pieces(alloc, limits, &[first, rest])?;
+        if text.as_str() != wanted.as_str() {
+            return Ok(format!(in alloc; "{wanted}; cut at {place}: {text}")?);
+        }
+    }
+    Ok(wanted)
+}
+
+fn same_at_each_two_places(alloc: Global, bytes: &[u8], wanted: String) -> RedisResult<String> {
+    for place in 0..=bytes.len() {
+        let (front, last) = bytes.split_at(place);
+        if let Some(other) = other_cut_before(alloc, front, last, wanted.as_str())? {
+            return Ok(other);
+        }
+    }
+    Ok(wanted)
+}
+
+/// What the bytes show where it isn't what is wanted, with the first of two parts cut at a place.
+fn other_cut_before(
+    alloc: Global,
+    front: &[u8],
+    last: &[u8],
+    wanted: &str,
+) -> RedisResult<Option<String>> {
+    for place in 0..=front.len() {
+        let (first, middle) = front.split_at(place);
+        let text = shown_in_pieces(alloc, Limits::default(), &[first, middle, last])?;
+        if text.as_str() != wanted {
+            let end = front.len();
+            return Ok(Some(format!(in alloc; "{wanted}; cut at {place} and {end}: {text}")?));
+        }
+    }
+    Ok(None)
+}
+
+/// What a parser takes from the bytes, and the text that it shows.
+#[derive(Drop)]
+struct Taken {
+    parser: Parser,
+    text: String,
+}
+
+impl Taken {
+    fn new(alloc: Global, limits: Limits) -> RedisResult<Taken> {
+        Ok(Taken {
+            parser: Parser::with_limits(alloc, limits)?,
+            text: String::new(alloc),
+        })
+    }
+
+    /// Feeds a piece, if the parser hasn't failed, and adds the values that are whole then.
+    fn feed(&mut self, alloc: Global, piece: &[u8]) -> RedisResult<()> {
+        if self.parser.is_failed() {
+            return Ok(());
+        }
+        self.parser.feed(piece)?;
+        for _ in 0..u64::MAX {
+            if !self.take(alloc)? {
+                break;
+            }
+        }
+        Ok(())
+    }
+
+    /// Adds the next value, if it is whole, or the fault. Whether there was a value.
+    fn take(&mut self, alloc: Global) -> RedisResult<bool> {
+        match self.parser.take_value() {
+            Ok(Some(value)) => {
+                add_part(&mut self.text, format!(in alloc; "{value:?}")?.as_str())?;
+                Ok(true)
+            }
+            Ok(None) => Ok(false),
+            Err(error) => {
+                self.refuse(alloc, error)?;
+                Ok(false)
+            }
+        }
+    }
+
+    /// Adds a fault and its offset, or another refusal. Fails where memory ran out.
+    fn refuse(&mut self, alloc: Global, error: RedisError) -> RedisResult<()> {
+        let shown = match (error.frame_fault(), self.parser.fault_offset()) {
+            (Some(fault), Some(offset)) => format!(in alloc; "{fault:?}@{offset}")?,
+            _ => refusal_text(alloc, error)?,
+        };
+        add_part(&mut self.text, shown.as_str())
+    }
+
+    /// The text, with `..` where a value is in progress.
+    fn end(mut self) -> RedisResult<String> {
+        if !self.parser.is_failed() && self.parser.in_progress() {
+            add_part(&mut self.text, "..")?;
+        }
+        Ok(self.text)
+    }
+}
+
+/// What the pieces show.
+fn shown_in_pieces(alloc: Global, limits: Limits, pieces: &[&[u8]]) -> RedisResult<String> {
+    let mut taken = Taken::new(alloc, limits)?;
+    for piece in pieces {
+        taken.feed(alloc, piece)?;
+    }
+    taken.end()
+}
+
+/// What the bytes show, one at a time.
+fn shown_singly(alloc: Global, limits: Limits, bytes: &[u8]) -> RedisResult<String> {
+    let mut taken = Taken::new(alloc, limits)?;
+    for single in bytes.chunks(1) {
+        taken.feed(alloc, single)?;
+    }
+    taken.end()
+}
+
+/// What the bytes show, from a source that gives three at a time.
+fn shown_from_source(alloc: Global, limits: Limits, bytes: &[u8]) -> RedisResult<String> {
+    let mut taken = Taken::new(alloc, limits)?;
+    let mut source = Reading::new(InThrees { rest: bytes });
+    for _ in 0..u64::MAX {
+        match taken.parser.parse_from(&mut source) {
+            Ok(value) => add_part(&mut taken.text, format!(in alloc; "{value:?}")?.as_str())?,
+            Err(error) => {
+                taken.end_source(alloc, error)?;
+                break;
+            }
+        }
+    }
+    Ok(taken.text)
+}
+
+impl Taken {
+    /// Adds what a source's end or a fault shows.
+    fn end_source(&mut self, alloc: Global, error: RedisError) -> RedisResult<()> {
+        if error.io_kind().is_none() {
+            return self.refuse(alloc, error);
+        }
+        if self.parser.in_progress() {
+            add_part(&mut self.text, "..")?;
+        }
+        Ok(())
+    }
+}

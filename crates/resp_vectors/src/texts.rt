@@ -1,0 +1,114 @@
+//! Answers as texts.
+
+use resp_core::{RedisError, RedisResult, ServerError};
+use std::alloc::Global;
+use std::fmt::Debug;
+
+/// What `{:?}` prints.
+pub fn debug_text<T: Debug>(alloc: Global, value: &T) -> RedisResult<String> {
+    Ok(format!(in alloc; "{value:?}")?)
+}
+
+/// Appends a part of an answer, with a space between two.
+pub fn add_part(text: &mut String, part: &str) -> RedisResult<()> {
+    if !text.is_empty() {
+        text.push(' ')?;
+    }
+    Ok(text.push_str(part)?)
+}
+
+/// A text with its control characters as escapes.
+pub fn escaped(alloc: Global, text: &str) -> RedisResult<String> {
+    let mut shown = String::new(alloc);
+    for letter in text.chars() {
+        if letter.is_ascii_control() {
+            add_byte(&mut shown, letter as u32)?;
+        } else {
+            shown.push(letter)?;
+        }
+    }
+    Ok(shown)
+}
+
+/// Appends the escape of a byte.
+fn add_byte(shown: &mut String, byte: u32) -> RedisResult<()> {
+    match byte {
+        13 => shown.push_str("\\r")?,
+        10 => shown.push_str("\\n")?,
+        9 => shown.push_str("\\t")?,
+        _ => write!(shown, "\\x{byte:02X}")?,
+    }
+    Ok(())
+}
+
+/// Bytes in quotes.
+pub fn quoted(alloc: Global, bytes: &[u8]) -> RedisResult<String> {
+    let mut shown = String::from_str(alloc, "\"")?;
+    for byte in bytes {
+        add_quoted(&mut shown, *byte)?;
+    }
+    shown.push('"')?;
+    Ok(shown)
+}
+
+/// Appends a byte as it stands in quotes.
+fn add_quoted(shown: &mut String, byte: u8) -> RedisResult<()> {
+    match byte {
+        b'"' => shown.push_str("\\\"")?,
+        b'\\' => shown.push_str("\\\\")?,
+        32..=126 => shown.push(char::from(byte))?,
+        _ => add_byte(shown, byte as u32)?,
+    }
+    Ok(())
+}
+
+/// The Debug text of an answer, or what its refusal shows. Fails where memory ran out.
+pub fn answer_text<T: Debug + Drop>(alloc: Global, answer: RedisResult<T>) -> RedisResult<String> {
+    match answer {
+        Ok(value) => debug_text(alloc, &value),
+        Err(error) => refusal_text(alloc, error),
+    }
+}
+
+/// The category of a refusal, each server error that it stands for, and what is known of its cause.
+pub fn refusal_text(alloc: Global, error: RedisError) -> RedisResult<String> {
+    if matches!(&error, RedisError::OutOfMemory) {
+        return Err(error);
+    }
+    let mut text = format!(in alloc; "refused: {}", error.category())?;
+    let cause = cause_of(alloc, &error)?;
+    if let Some(errors) = error.into_server_errors(alloc)? {
+        add_places(&mut text, errors.as_slice())?;
+    }
+    if let Some(cause) = cause {
+        write!(text, " ({cause})")?;
+    }
+    Ok(text)
+}
+
+/// Appends the position and the code of each error.
+fn add_places(text: &mut String, errors: &[(usize, ServerError)]) -> RedisResult<()> {
+    for (position, error) in errors {
+        let code = error.code();
+        write!(text, " {position}:{code}")?;
+    }
+    Ok(())
+}
+
+/// The fault of the bytes or of the device, or what a refusal of the library's own shows, or a
+/// detail.
+fn cause_of(alloc: Global, error: &RedisError) -> RedisResult<Option<String>> {
+    if let Some(fault) = error.frame_fault() {
+        return Ok(Some(debug_text(alloc, &fault)?));
+    }
+    if let Some(kind) = error.io_kind() {
+        return Ok(Some(debug_text(alloc, &kind)?));
+    }
+    if matches!(error, RedisError::General { .. }) {
+        return Ok(Some(format!(in alloc; "{error}")?));
+    }
+    match error.detail() {
+        Some(detail) => Ok(Some(debug_text(alloc, &detail)?)),
+        None => Ok(None),
+    }
+}
