@@ -1,0 +1,76 @@
+//! Code over stored replies, and over a link that is counted.
+
+use resp_core::{ConnectionLike, RedisResult, parse_redis_value};
+use resp_testing::{answer_text, bytes_text, pipeline};
+use std::collections::VecDeque;
+use std::fmt::Debug;
+use std::process::Abort;
+use uses_replies::{Counted, Stored, visits};
+
+/// The answer shows this: its Debug form, or its refusal.
+fn answers<T: Debug + Drop>(rt: &(impl Abort + AllocGlobal), answer: RedisResult<T>, wanted: &str) {
+    assert_eq!(rt; answer_text(rt.alloc(), answer).as_str(), wanted);
+}
+
+/// A connection that will answer these replies.
+fn stored(rt: &(impl Abort + AllocGlobal), replies: &[&str]) -> Stored {
+    let mut values = VecDeque::new(rt.alloc());
+    for reply in replies {
+        let value = parse_redis_value(rt.alloc(), reply.as_bytes()).expect(rt, "a reply");
+        values.push_back(value).expect(rt, "memory");
+    }
+    Stored::new(values)
+}
+
+/// A visit is answered this.
+fn visit_answers(rt: &(impl Abort + AllocGlobal), con: &mut dyn ConnectionLike, wanted: &str) {
+    answers(rt, visits(rt.alloc(), con, "home"), wanted);
+}
+
+#[test]
+fn visits_over_stored_replies(rt: HostRuntime) {
+    let mut con = stored(&rt, &[":7\r\n", "-WRONGTYPE x\r\n"]);
+    for wanted in [
+        "7",
+        "\"WRONGTYPE\": x",
+        "UnexpectedEof",
+        "link is broken - Io",
+    ] {
+        visit_answers(&rt, &mut con, wanted);
+    }
+}
+
+#[test]
+fn packed_commands_over_stored_replies(rt: HostRuntime) {
+    let mut con = stored(&rt, &[":1\r\n", ":2\r\n", ":3\r\n", ":4\r\n", ":5\r\n"]);
+    let broken = "link is broken - Io";
+    answers(&rt, con.req_packed_commands(b"x", 1, 2), "[int(2), int(3)]");
+    answers(&rt, con.req_packed_command(b""), "empty command - Client");
+    answers(&rt, con.req_packed_command(b"x"), "int(4)");
+    answers(&rt, con.req_packed_commands(b"x", 0, 2), "UnexpectedEof");
+    answers(&rt, con.req_packed_command(b""), broken);
+    answers(&rt, con.req_packed_commands(b"x", 0, 0), broken);
+}
+
+#[test]
+fn a_connection_without_pipelining_is_not_asked(rt: HostRuntime) {
+    let mut con = stored(&rt, &[":1\r\n"]);
+    let two = pipeline(rt.alloc(), &[&["A"], &["B"]]).expect(&rt, "memory");
+    let refused = "This connection does not support pipelining. - Client";
+    answers(&rt, two.query::<(i64, i64)>(&mut con), refused);
+    visit_answers(&rt, &mut con, "1");
+}
+
+#[test]
+fn requests_are_counted(rt: HostRuntime) {
+    let incoming = Vec::from_slice(rt.alloc(), b":7\r\n:1\r\n:2\r\n").expect(&rt, "memory");
+    let mut con = Counted::new(rt.alloc(), incoming);
+    visit_answers(&rt, &mut con, "7");
+    let two = pipeline(rt.alloc(), &[&["A"], &["B"]]).expect(&rt, "memory");
+    answers(&rt, two.query::<(i64, i64)>(&mut con), "(1, 2)");
+    assert_eq!(rt; con.requests(), 2);
+    let wanted = "*4\r\n$7\r\nHINCRBY\r\n$4\r\nhome\r\n$6\r\nvisits\r\n$1\r\n1\r\n\
+        *1\r\n$1\r\nA\r\n*1\r\n$1\r\nB\r\n";
+    let sent = con.into_sent();
+    assert_eq!(rt; bytes_text(rt.alloc(), sent.as_slice()).as_str(), wanted);
+}

@@ -1,0 +1,14 @@
+//! Tests of the callers `uses_arguments`, `uses_proxy`, `uses_redirect` and `uses_replies`, and of
+//! what the program `resp` does where its streams fail, over links in memory.
+#![tactic(auto)]
+
+#[cfg(test)]
+mod arguments;
+#[cfg(test)]
+mod connections;
+#[cfg(test)]
+mod program;
+#[cfg(test)]
+mod queries;
+#[cfg(test)]
+mod replies;

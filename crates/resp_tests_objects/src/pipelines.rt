@@ -1,0 +1,73 @@
+//! Pipelines between calls.
+
+use crate::checks::{Test, answers, is};
+use crate::commands::refused_map;
+use crate::writing::{WIDE, wide_pairs};
+use resp_core::{Cmd, Pipeline, pipe};
+use resp_testing::{bytes_text, pipeline, pipeline_text};
+
+/// The pipeline is packed as these bytes.
+fn packs(rt: &impl Test, pipeline: &Pipeline, wanted: &str) {
+    is(rt, pipeline_text(rt.alloc(), pipeline), wanted);
+}
+
+#[test]
+fn a_transaction_in_a_chain(rt: HostRuntime) {
+    let mut pipeline = Pipeline::with_capacity(rt.alloc(), 2).expect(&rt, "memory");
+    let set = pipeline.atomic().cmd("SET").expect(&rt, "memory");
+    let set = set.arg("k").expect(&rt, "memory");
+    let set = set.arg(1i64).expect(&rt, "memory").ignore();
+    let get = set.cmd("GET").expect(&rt, "memory");
+    let _ = get.arg("k").expect(&rt, "memory");
+    let wanted = "*1\r\n$5\r\nMULTI\r\n*3\r\n$3\r\nSET\r\n$1\r\nk\r\n$1\r\n1\r\n\
+        *2\r\n$3\r\nGET\r\n$1\r\nk\r\n*1\r\n$4\r\nEXEC\r\n";
+    packs(&rt, &pipeline, wanted);
+    packs(&rt, &pipeline.try_clone().expect(&rt, "memory"), wanted);
+}
+
+#[test]
+fn a_cleared_transaction_stays_one(rt: HostRuntime) {
+    let mut pipeline = pipe(rt.alloc());
+    assert!(rt; pipeline.is_empty() && !pipeline.is_transaction());
+    let _ = pipeline.ignore().atomic().ignore_errors();
+    answers(&rt, pipeline.push_cmd("PING"), "()");
+    pipeline.clear();
+    assert!(rt; pipeline.is_empty() && pipeline.is_transaction());
+    let _ = pipeline
+        .add_command(Cmd::new(rt.alloc()))
+        .expect(&rt, "memory");
+    assert_eq!(rt; pipeline.len(), 1);
+    let wanted = "*1\r\n$5\r\nMULTI\r\n*0\r\n*1\r\n$4\r\nEXEC\r\n";
+    packs(&rt, &pipeline, wanted);
+}
+
+#[test]
+fn the_commands_in_order(rt: HostRuntime) {
+    let pipeline = pipeline(rt.alloc(), &[&["A"], &["B", "c"]]).expect(&rt, "memory");
+    let mut packed = Vec::new(rt.alloc());
+    for command in pipeline.cmd_iter() {
+        answers(&rt, command.write_packed_command(&mut packed), "()");
+    }
+    let wanted = "*1\r\n$1\r\nA\r\n*2\r\n$1\r\nB\r\n$1\r\nc\r\n";
+    is(&rt, bytes_text(rt.alloc(), packed.as_slice()), wanted);
+}
+
+#[test]
+fn refused_argument_of_a_pipeline_changes_nothing(rt: HostRuntime) {
+    let mut pipeline = pipeline(rt.alloc(), &[&["A"], &["HSET", "h"]]).expect(&rt, "memory");
+    let pair = pipeline
+        .arg(refused_map(&rt))
+        .err()
+        .expect(&rt, "a refusal");
+    let midway = pipeline.arg(wide_pairs(&rt)).err().expect(&rt, "a refusal");
+    each! { answers, rt;
+        Err::<(), _>(pair) => WIDE,
+        Err::<(), _>(midway) => WIDE,
+        pipeline.push_arg(wide_pairs(&rt)) => WIDE,
+        pipeline.push_cmd("B") => "()",
+    }
+    let _ = pipeline.atomic();
+    let wanted = "*1\r\n$5\r\nMULTI\r\n*1\r\n$1\r\nA\r\n*2\r\n$4\r\nHSET\r\n$1\r\nh\r\n\
+        *1\r\n$1\r\nB\r\n*1\r\n$4\r\nEXEC\r\n";
+    packs(&rt, &pipeline, wanted);
+}

@@ -1,0 +1,139 @@
+//! Values by hand: copies, attributes, pairs and pushes; lists, texts and boxes.
+
+use crate::checks::{debugs, equals, is, reply, shows, string};
+use resp_core::{Boxed, Description, Items, PushInfo, PushKind, Text, Value};
+use resp_testing::{answer_text, debug_text};
+
+/// A value of each type.
+const VALUES: &[&[u8]] = &[
+    b":-9223372036854775808\r\n",
+    b"_\r\n",
+    b"+OK\r\n",
+    b"+a\r\r\n",
+    b"#t\r\n",
+    b",-nan\r\n",
+    b"(349\r\n",
+    b"- x\r\n",
+    b"-LOADING x\r\n",
+    b"$2\r\n\xFF\0\r\n",
+    b"=4\r\nmkd:\r\n",
+    b"=7\r\nabc:d:e\r\n",
+    b"*3\r\n+OK\r\n-LOADING x\r\n:1\r\n",
+    b"~5\r\n+orange\r\n+apple\r\n#t\r\n:100\r\n:999\r\n",
+    b"%2\r\n+first\r\n:1\r\n+second\r\n:2\r\n",
+    b"|1\r\n+k\r\n:1\r\n:2\r\n",
+    b">2\r\n$7\r\nmessage\r\n:1\r\n",
+    b">0\r\n",
+];
+
+#[test]
+fn values_equal_their_copies(rt: HostRuntime) {
+    for bytes in VALUES {
+        let value = reply(&rt, bytes);
+        equals(&rt, value.try_clone(rt.alloc()), &value);
+        let is_nil = value == Value::default();
+        assert_eq!(rt; is_nil, bytes.starts_with(b"_"), "{bytes:?}");
+    }
+}
+
+#[test]
+fn an_attribute_keeps_its_pairs(rt: HostRuntime) {
+    for (bytes, wanted) in [
+        (
+            "|1\r\n+k\r\n:1\r\n:2\r\n",
+            "[(simple-string(\"k\"), int(1))]",
+        ),
+        ("|0\r\n_\r\n", "[]"),
+        ("|0\r\n>2\r\n+message\r\n:1\r\n", "[]"),
+    ] {
+        match &reply(&rt, bytes.as_bytes()) {
+            Value::Attribute { attributes, .. } => debugs(&rt, attributes, wanted),
+            _ => assert!(rt; false, "{wanted}"),
+        }
+    }
+}
+
+#[test]
+fn pairs_of_maps_and_arrays(rt: HostRuntime) {
+    let map = reply(&rt, b"%2\r\n+first\r\n:1\r\n+second\r\n:2\r\n");
+    let mut pairs = map.as_map_iter().expect(&rt, "pairs");
+    assert_eq!(rt; pairs.size_hint(), (2, Some(2)));
+    let first = "Some((simple-string(\"first\"), int(1)))";
+    for wanted in [first, "Some((simple-string(\"second\"), int(2)))", "None"] {
+        is(&rt, debug_text(rt.alloc(), &pairs.next()), wanted);
+    }
+    let four = reply(&rt, b"*4\r\n:1\r\n:2\r\n:3\r\n:4\r\n");
+    assert_eq!(rt;
+        four.as_map_iter().map(|pairs| pairs.size_hint()),
+        Some((2, Some(2)))
+    );
+    let mut pairs = four.into_map_iter().ok().expect(&rt, "pairs");
+    assert_eq!(rt; pairs.size_hint(), (2, Some(2)));
+    for wanted in ["Some((int(1), int(2)))", "Some((int(3), int(4)))", "None"] {
+        is(&rt, debug_text(rt.alloc(), &pairs.next()), wanted);
+    }
+}
+
+#[test]
+fn values_that_come_back(rt: HostRuntime) {
+    let three = reply(&rt, b"*3\r\n:1\r\n:2\r\n:3\r\n");
+    assert!(rt; three.as_map_iter().is_none());
+    let back = three.into_map_iter().err();
+    debugs(&rt, &back, "Some(array([int(1), int(2), int(3)]))");
+    let back = reply(&rt, b"%0\r\n").into_sequence(rt.alloc()).err();
+    debugs(&rt, &back, "Some(map([]))");
+    let good = reply(&rt, b"%1\r\n+a\r\n*1\r\n+OK\r\n");
+    let wanted = "map([(simple-string(\"a\"), array([ok]))])";
+    is(&rt, answer_text(rt.alloc(), good.extract_error()), wanted);
+    let payload = vec![in rt.alloc(); Value::Int(1)].expect(&rt, "memory");
+    let push = PushInfo {
+        kind: PushKind::Message,
+        payload: Items::from(payload),
+    };
+    equals(&rt, push.try_clone(), &push);
+}
+
+#[test]
+fn items_as_a_list_and_a_slice(rt: HostRuntime) {
+    let mut items = Items::from(vec![in rt.alloc(); 1, 2].expect(&rt, "memory"));
+    items.push(3).expect(&rt, "memory");
+    assert!(rt; items.len() == 3 && !items.is_empty() && items.pop() == Some(3));
+    items.extend_from_slice(&[4, 5]).expect(&rt, "memory");
+    let made = Items::from_slice(items.allocator(), items.as_slice());
+    equals(&rt, made, &items);
+    debugs(&rt, &items, "[1, 2, 4, 5]");
+    assert!(rt; items[2] == 4 && items.get(4).is_none() && items.last() == Some(&5));
+    let mut sum = 0_i32;
+    for item in &items {
+        sum = sum.saturating_add(*item);
+    }
+    assert!(rt; sum == 12 && items.into_vec().len() == 4);
+}
+
+#[test]
+fn texts_and_boxes(rt: HostRuntime) {
+    let text = Text::from_str(rt.alloc(), "a\"").expect(&rt, "memory");
+    assert!(rt; text.len() == 2 && text.starts_with('a') && !text.is_empty());
+    assert!(rt; text.eq_str("a\"") && !text.eq_str("A\""));
+    equals(&rt, text.try_clone(rt.alloc()), &text);
+    shows(&rt, &text, "a\"");
+    debugs(&rt, &text, "\"a\\\"\"");
+    is(&rt, text.into_string(), "a\"");
+    let boxed = Boxed::new(rt.alloc(), 7).expect(&rt, "memory");
+    debugs(&rt, &boxed, "7");
+    assert!(rt; *boxed.get() == 7 && boxed.into_inner() == 7);
+}
+
+#[test]
+fn fixed_texts_keep_64_bytes(rt: HostRuntime) {
+    let full = "0123456789012345678901234567890123456789012345678901234567890123";
+    let long = "01234567890123456789012345678901234567890123456789012345678901234";
+    let kept = "0123456789012345678901234567890123456789012345678901234567890...";
+    let wide = "012345678901234567890123456789012345678901234567890123456789\u{E9}\u{E9}\u{E9}";
+    let cut = "012345678901234567890123456789012345678901234567890123456789...";
+    for (text, kept) in [("a", "a"), (full, full), (long, kept), (wide, cut)] {
+        assert_eq!(rt; Description::from(text).as_str(), kept, "{text}");
+    }
+    let text = Description::from(string(&rt, "a"));
+    equals(&rt, text.try_clone(rt.alloc()), &Description::from("a"));
+}
