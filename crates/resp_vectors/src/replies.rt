@@ -8,7 +8,7 @@ use std::io;
 use std::io::Read;
 
 /// The most bytes that are cut at each place.
-const CUT: usize = 64;
+const CUT: usize = 200;
 
 /// Gives three bytes a read, or what is left.
 #[derive(Drop)]

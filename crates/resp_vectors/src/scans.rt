@@ -4,7 +4,7 @@ use crate::commands::command_of;
 use crate::queries::{MemoryLink, link_over, with_link};
 use crate::rows::{Row, malformed, number_of, text_of};
 use crate::texts::{add_part, debug_text, refusal_text};
-use crate::types::{AtType, at_answer_type};
+use crate::types::{AtType, at_item_type};
 use resp_core::{FromRedisValue, Iter, RedisError, RedisResult};
 use std::alloc::Global;
 use std::fmt::Debug;
@@ -22,7 +22,7 @@ struct Scanned<'a> {
 pub fn scan(alloc: Global, row: &Row) -> RedisResult<String> {
     let (question, incoming) = row.question()?;
     match question {
-        [name, budget, words @ ..] => at_answer_type(
+        [name, budget, words @ ..] => at_item_type(
             text_of(name.as_slice())?,
             Scanned {
                 alloc,

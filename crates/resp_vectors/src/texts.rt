@@ -95,20 +95,22 @@ fn add_places(text: &mut String, errors: &[(usize, ServerError)]) -> RedisResult
     Ok(())
 }
 
-/// The fault of the bytes or of the device, or what a refusal of the library's own shows, or a
-/// detail.
+/// The fault of the bytes or of the device, what a refusal of the library's own shows, or a
+/// server's detail.
 fn cause_of(alloc: Global, error: &RedisError) -> RedisResult<Option<String>> {
-    if let Some(fault) = error.frame_fault() {
-        return Ok(Some(debug_text(alloc, &fault)?));
+    match error {
+        RedisError::General { .. } => Ok(Some(format!(in alloc; "{error}")?)),
+        RedisError::Io(kind) => Ok(Some(debug_text(alloc, kind)?)),
+        RedisError::Parse(cause) => shown(alloc, &cause.frame_fault()),
+        RedisError::Server(cause) => shown(alloc, &cause.details()),
+        _ => Ok(None),
     }
-    if let Some(kind) = error.io_kind() {
-        return Ok(Some(debug_text(alloc, &kind)?));
-    }
-    if matches!(error, RedisError::General { .. }) {
-        return Ok(Some(format!(in alloc; "{error}")?));
-    }
-    match error.detail() {
-        Some(detail) => Ok(Some(debug_text(alloc, &detail)?)),
+}
+
+/// The Debug text of what is there.
+fn shown<T: Debug>(alloc: Global, part: &Option<T>) -> RedisResult<Option<String>> {
+    match part {
+        Some(part) => Ok(Some(debug_text(alloc, part)?)),
         None => Ok(None),
     }
 }

@@ -15,7 +15,19 @@ pub trait AtType {
     fn at<T: FromRedisValue + Debug>(self) -> RedisResult<String>;
 }
 
-/// Does the work of a query or a scan at the type of this name.
+/// Does the work of lists and scans at the type of this name, which is that of an item.
+pub fn at_item_type<W: AtType + Drop>(name: &str, work: W) -> RedisResult<String> {
+    match name {
+        "i64" => work.at::<i64>(),
+        "u8" => work.at::<u8>(),
+        "String" => work.at::<String>(),
+        "(i64,i64)" => work.at::<(i64, i64)>(),
+        "(String,i64)" => work.at::<(String, i64)>(),
+        _ => Err(malformed()),
+    }
+}
+
+/// Does the work of a query at the type of this name.
 pub fn at_answer_type<W: AtType + Drop>(name: &str, work: W) -> RedisResult<String> {
     match name {
         "Value" => work.at::<Value>(),
@@ -24,7 +36,6 @@ pub fn at_answer_type<W: AtType + Drop>(name: &str, work: W) -> RedisResult<Stri
         "()" => work.at::<()>(),
         "(i64,)" => work.at::<(i64,)>(),
         "(i64,i64)" => work.at::<(i64, i64)>(),
-        "(String,i64)" => work.at::<(String, i64)>(),
         "Option<(i64,)>" => work.at::<Option<(i64,)>>(),
         "Vec<i64>" => work.at::<Vec<i64>>(),
         "Vec<String>" => work.at::<Vec<String>>(),
