@@ -1,10 +1,11 @@
 //! Conversions of replies: each gives the whole value, or memory runs out.
 
-use crate::heap::{refuse, sweep, was_refused};
+use crate::heap::{answers, makes};
 use resp_core::{
-    FromRedisValue, IncrexResult, Items, ParsingError, RedisResult, Role, Text, Value, ValueType,
+    FromRedisValue, IncrexResult, Items, RedisResult, Role, Text, Value, ValueType,
     from_redis_value, from_redis_value_by, from_redis_value_ref, parse_redis_value,
 };
+use std::alloc::Global;
 use std::boxed::BoxedSlice;
 use std::collections::{BTreeMap, BTreeSet, HashMap, HashSet};
 use std::fmt::Debug;
@@ -15,60 +16,22 @@ fn value_of(rt: &(impl Abort + AllocGlobal), reply: &[u8]) -> Value {
     parse_redis_value(rt.alloc(), reply).expect(rt, "no refusal")
 }
 
-/// The value shows like this, or memory ran out where a request was refused.
-fn is_converted<T: Debug>(
-    rt: &(impl Abort + AllocGlobal),
-    answer: &Result<T, ParsingError>,
-    refused: bool,
-    wanted: &str,
-) {
-    match answer {
-        Ok(value) => {
-            let shown = format!(in rt.alloc(); "{value:?}").expect(rt, "no refusal");
-            assert_eq!(rt; shown.as_str(), wanted);
-        }
-        Err(error) => assert!(rt; refused && error.is_out_of_memory()),
-    }
-}
-
-fn owned_at<T: FromRedisValue + Debug>(
-    rt: &(impl Abort + AllocGlobal),
-    step: usize,
-    reply: &[u8],
-    wanted: &str,
-) -> bool {
-    let value = value_of(rt, reply);
-    refuse(rt.alloc(), step);
-    let answer: Result<T, ParsingError> = from_redis_value(rt.alloc(), value);
-    let refused = was_refused(rt.alloc());
-    is_converted(rt, &answer, refused, wanted);
-    refused
-}
-
-/// The borrowed reply is as before.
-fn borrowed_at<T: FromRedisValue + Debug>(
-    rt: &(impl Abort + AllocGlobal),
-    step: usize,
-    reply: &[u8],
-    wanted: &str,
-) -> bool {
-    let value = value_of(rt, reply);
-    refuse(rt.alloc(), step);
-    let answer: Result<T, ParsingError> = from_redis_value_ref(rt.alloc(), &value);
-    let refused = was_refused(rt.alloc());
-    is_converted(rt, &answer, refused, wanted);
-    assert!(rt; value == value_of(rt, reply));
-    refused
-}
-
-/// The reply converts to what shows like this, by value and by reference.
+/// The reply converts to what shows like this, by value and by reference; the borrowed reply is as
+/// before.
 fn converts<T: FromRedisValue + Debug>(
     rt: &(impl Abort + AllocGlobal),
     reply: &[u8],
     wanted: &str,
 ) {
-    sweep(rt, |step| owned_at::<T>(rt, step, reply, wanted));
-    sweep(rt, |step| borrowed_at::<T>(rt, step, reply, wanted));
+    let alloc = rt.alloc();
+    let value = value_of(rt, reply);
+    answers(
+        rt,
+        wanted,
+        || Ok(from_redis_value::<T>(alloc, value.try_clone(alloc)?)?),
+    );
+    answers(rt, wanted, || Ok(from_redis_value_ref::<T>(alloc, &value)?));
+    assert!(rt; value == value_of(rt, reply));
 }
 
 const ABC: &[u8] = b"$3\r\nabc\r\n";
@@ -79,154 +42,97 @@ const NUMBERS: &[u8] = b"*4\r\n:1\r\n:2\r\n:3\r\n:4\r\n";
 
 const PAIRS: &[u8] = b"%2\r\n+a\r\n:1\r\n+b\r\n:2\r\n";
 
-const ONE_PAIR: &[u8] = b"%1\r\n+a\r\n:1\r\n";
-
 #[test]
 fn single_values(rt: HostRuntime) {
-    converts::<String>(&rt, ABC, "\"abc\"");
-    converts::<Text>(&rt, ABC, "\"abc\"");
-    converts::<Option<String>>(&rt, ABC, "Some(\"abc\")");
-    converts::<Value>(&rt, ABC, "bulk-string('\"abc\"')");
-    converts::<Box<i64>>(&rt, b":5\r\n", "5");
-    converts::<Rc<String>>(&rt, ABC, "\"abc\"");
-    converts::<RedisResult<String>>(&rt, ABC, "Ok(\"abc\")");
-    // These make no request, so that none is refused.
-    assert!(rt; !borrowed_at::<i64>(&rt, 0, b"$2\r\n42\r\n", "42"));
-    assert!(rt; !borrowed_at::<bool>(&rt, 0, b"$1\r\n1\r\n", "true"));
+    converts::<String>(&rt, ABC, "Ok(\"abc\")");
+    converts::<Text>(&rt, ABC, "Ok(\"abc\")");
+    converts::<Option<String>>(&rt, ABC, "Ok(Some(\"abc\"))");
+    converts::<Value>(&rt, ABC, "Ok(bulk-string('\"abc\"'))");
+    converts::<Box<i64>>(&rt, b":5\r\n", "Ok(5)");
+    converts::<Rc<String>>(&rt, ABC, "Ok(\"abc\")");
+    converts::<RedisResult<String>>(&rt, ABC, "Ok(Ok(\"abc\"))");
 }
 
 #[test]
 fn lists(rt: HostRuntime) {
-    converts::<Vec<String>>(&rt, TEXTS, "[\"a\", \"12\", \"abc\"]");
-    converts::<Vec<i64>>(&rt, NUMBERS, "[1, 2, 3, 4]");
-    converts::<Vec<u8>>(&rt, ABC, "[97, 98, 99]");
-    converts::<Vec<(i64, i64)>>(&rt, NUMBERS, "[(1, 2), (3, 4)]");
-    converts::<Vec<(String, i64)>>(&rt, PAIRS, "[(\"a\", 1), (\"b\", 2)]");
-    converts::<Items<i64>>(&rt, NUMBERS, "[1, 2, 3, 4]");
-    converts::<BoxedSlice<i64>>(&rt, NUMBERS, "[1, 2, 3, 4]");
-    converts::<[i64; 4]>(&rt, NUMBERS, "[1, 2, 3, 4]");
+    converts::<Vec<String>>(&rt, TEXTS, "Ok([\"a\", \"12\", \"abc\"])");
+    converts::<Vec<i64>>(&rt, NUMBERS, "Ok([1, 2, 3, 4])");
+    converts::<Vec<u8>>(&rt, ABC, "Ok([97, 98, 99])");
+    converts::<Vec<(i64, i64)>>(&rt, NUMBERS, "Ok([(1, 2), (3, 4)])");
+    converts::<Vec<(String, i64)>>(&rt, PAIRS, "Ok([(\"a\", 1), (\"b\", 2)])");
+    converts::<Items<i64>>(&rt, NUMBERS, "Ok([1, 2, 3, 4])");
+    converts::<BoxedSlice<i64>>(&rt, NUMBERS, "Ok([1, 2, 3, 4])");
+    converts::<[i64; 4]>(&rt, NUMBERS, "Ok([1, 2, 3, 4])");
 }
 
 #[test]
-fn tuples(rt: HostRuntime) {
-    converts::<(String, i64, String)>(&rt, TEXTS, "(\"a\", 12, \"abc\")");
-    converts::<(i64, Vec<i64>)>(&rt, b"*2\r\n:1\r\n*2\r\n:2\r\n:3\r\n", "(1, [2, 3])");
-}
-
-#[test]
-fn maps_and_sets(rt: HostRuntime) {
-    converts::<BTreeMap<String, i64>>(&rt, PAIRS, "{\"a\": 1, \"b\": 2}");
-    converts::<BTreeSet<i64>>(&rt, NUMBERS, "{1, 2, 3, 4}");
-    converts::<HashMap<String, i64>>(&rt, ONE_PAIR, "{\"a\": 1}");
-    converts::<HashSet<String>>(&rt, b"~1\r\n+a\r\n", "{\"a\"}");
+fn tuples_maps_and_sets(rt: HostRuntime) {
+    converts::<(String, i64, String)>(&rt, TEXTS, "Ok((\"a\", 12, \"abc\"))");
+    converts::<(i64, Vec<i64>)>(&rt, b"*2\r\n:1\r\n*2\r\n:2\r\n:3\r\n", "Ok((1, [2, 3]))");
+    converts::<BTreeMap<String, i64>>(&rt, PAIRS, "Ok({\"a\": 1, \"b\": 2})");
+    converts::<BTreeSet<i64>>(&rt, NUMBERS, "Ok({1, 2, 3, 4})");
+    converts::<HashMap<String, i64>>(&rt, b"%1\r\n+a\r\n:1\r\n", "Ok({\"a\": 1})");
+    converts::<HashSet<String>>(&rt, b"~1\r\n+a\r\n", "Ok({\"a\"})");
 }
 
 const MASTER: &[u8] = b"*3\r\n$6\r\nmaster\r\n:3129659\r\n\
     *1\r\n*3\r\n$9\r\n127.0.0.1\r\n$4\r\n9001\r\n$7\r\n3129242\r\n";
 
-const IS_MASTER: &str = "Primary { replication_offset: 3129659, replicas: \
-    [ReplicaInfo { ip: \"127.0.0.1\", port: 9001, replication_offset: 3129242 }] }";
+const IS_MASTER: &str = "Ok(Primary { replication_offset: 3129659, replicas: \
+    [ReplicaInfo { ip: \"127.0.0.1\", port: 9001, replication_offset: 3129242 }] })";
+
+const INCREASED: &str = "Ok(IncrexResult { value: int(5), actual_increment: int(2) })";
 
 #[test]
 fn replies_of_single_commands(rt: HostRuntime) {
     converts::<Role>(&rt, MASTER, IS_MASTER);
-    converts::<ValueType>(&rt, b"+zset\r\n", "ZSet");
-    converts::<IncrexResult>(
-        &rt,
-        b"*2\r\n:5\r\n:2\r\n",
-        "IncrexResult { value: int(5), actual_increment: int(2) }",
-    );
+    converts::<ValueType>(&rt, b"+zset\r\n", "Ok(ZSet)");
+    converts::<IncrexResult>(&rt, b"*2\r\n:5\r\n:2\r\n", INCREASED);
 }
 
-/// The list that the type makes of several replies.
-fn values_at(rt: &(impl Abort + AllocGlobal), step: usize) -> bool {
-    let replies = value_of(rt, TEXTS)
-        .into_sequence(rt.alloc())
-        .expect(rt, "a list");
-    refuse(rt.alloc(), step);
-    let answer = String::from_redis_values(rt.alloc(), replies);
-    let refused = was_refused(rt.alloc());
-    is_converted(rt, &answer, refused, "[\"a\", \"12\", \"abc\"]");
-    refused
-}
-
-fn value_refs_at(rt: &(impl Abort + AllocGlobal), step: usize) -> bool {
-    let replies = value_of(rt, TEXTS)
-        .into_sequence(rt.alloc())
-        .expect(rt, "a list");
-    refuse(rt.alloc(), step);
-    let answer = String::from_redis_value_refs(rt.alloc(), replies.as_slice());
-    let refused = was_refused(rt.alloc());
-    is_converted(rt, &answer, refused, "[\"a\", \"12\", \"abc\"]");
-    refused
-}
-
-/// Want of memory is the answer, and none of the results.
-fn each_at(rt: &(impl Abort + AllocGlobal), step: usize) -> bool {
-    let replies = value_of(rt, TEXTS)
-        .into_sequence(rt.alloc())
-        .expect(rt, "a list");
-    refuse(rt.alloc(), step);
-    let answer = String::from_each_redis_values(rt.alloc(), replies);
-    let refused = was_refused(rt.alloc());
-    is_converted(rt, &answer, refused, "[Ok(\"a\"), Ok(\"12\"), Ok(\"abc\")]");
-    refused
-}
-
-/// A value that is made of a converted one.
-fn made_at(rt: &(impl Abort + AllocGlobal), step: usize) -> bool {
-    let reply = value_of(rt, NUMBERS);
-    refuse(rt.alloc(), step);
-    let answer = from_redis_value_by::<Vec<i64>, Items<i64>>(rt.alloc(), reply);
-    let refused = was_refused(rt.alloc());
-    is_converted(rt, &answer, refused, "[1, 2, 3, 4]");
-    refused
-}
-
-#[test]
-fn made_of_another_type(rt: HostRuntime) {
-    sweep(&rt, |step| made_at(&rt, step));
-}
-
+/// Lists that the type makes of several replies, and of bytes.
 #[test]
 fn several_replies(rt: HostRuntime) {
-    sweep(&rt, |step| values_at(&rt, step));
-    sweep(&rt, |step| value_refs_at(&rt, step));
-    sweep(&rt, |step| each_at(&rt, step));
+    let alloc = rt.alloc();
+    let texts = value_of(&rt, TEXTS);
+    let replies = texts.as_sequence().expect(&rt, "a list");
+    makes(&rt, &["a", "12", "abc"], || {
+        Ok(String::from_redis_values(alloc, copied(alloc, replies)?)?)
+    });
+    makes(&rt, &["a", "12", "abc"], || {
+        Ok(String::from_redis_value_refs(alloc, replies)?)
+    });
+    answers(&rt, "Ok([Ok(\"a\"), Ok(\"12\"), Ok(\"abc\")])", || {
+        Ok(String::from_each_redis_values(alloc, copied(alloc, replies)?)?)
+    });
+    let numbers = value_of(&rt, NUMBERS);
+    makes(&rt, &[1, 2, 3, 4], || {
+        let value = numbers.try_clone(alloc)?;
+        Ok(from_redis_value_by::<Vec<i64>, Items<i64>>(alloc, value)?)
+    });
 }
 
-fn byte_vec_at<T: FromRedisValue + Debug>(
-    rt: &(impl Abort + AllocGlobal),
-    step: usize,
-    wanted: &str,
-) -> bool {
-    let bytes = Vec::from_slice(rt.alloc(), b"42").expect(rt, "no refusal");
-    refuse(rt.alloc(), step);
-    let answer = T::from_byte_vec(rt.alloc(), bytes);
-    let refused = was_refused(rt.alloc());
-    is_converted(rt, &answer, refused, wanted);
-    refused
-}
-
-fn byte_slice_at<T: FromRedisValue + Debug>(
-    rt: &(impl Abort + AllocGlobal),
-    step: usize,
-    wanted: &str,
-) -> bool {
-    refuse(rt.alloc(), step);
-    let answer = T::from_byte_slice(rt.alloc(), b"42");
-    let refused = was_refused(rt.alloc());
-    is_converted(rt, &answer, refused, wanted);
-    refused
+fn copied(alloc: Global, values: &[Value]) -> RedisResult<Vec<Value>> {
+    let mut copies = Vec::new(alloc);
+    for value in values {
+        copies.push(value.try_clone(alloc)?)?;
+    }
+    Ok(copies)
 }
 
 #[test]
 fn bytes(rt: HostRuntime) {
-    sweep(&rt, |step| byte_vec_at::<String>(&rt, step, "[\"42\"]"));
-    sweep(&rt, |step| byte_vec_at::<u8>(&rt, step, "[52, 50]"));
-    sweep(
+    let alloc = rt.alloc();
+    makes(&rt, &["42"], || {
+        Ok(String::from_byte_vec(alloc, Vec::from_slice(alloc, b"42")?)?)
+    });
+    makes(&rt, b"42", || {
+        Ok(u8::from_byte_vec(alloc, Vec::from_slice(alloc, b"42")?)?)
+    });
+    makes(
         &rt,
-        |step| byte_slice_at::<String>(&rt, step, "Some([\"42\"])"),
+        &Some(["42"]),
+        || Ok(String::from_byte_slice(alloc, b"42")?),
     );
-    sweep(&rt, |step| byte_slice_at::<u8>(&rt, step, "Some([52, 50])"));
+    makes(&rt, &Some(b"42"), || Ok(u8::from_byte_slice(alloc, b"42")?));
 }

@@ -15,8 +15,8 @@ const TOLD: usize = 0x5afe_0000_0000_0000;
 /// Granted where a request was refused since then; from here none is.
 const ASK: usize = 0x5aff_0000_0000_0000;
 
-/// No call here makes half as many requests.
-const STEPS: usize = 2000;
+/// The steps of a sweep: no call here makes half as many requests.
+pub const STEPS: usize = 2000;
 
 fn is_granted(alloc: Global, size: usize) -> bool {
     let asked: Result<Vec<u8>, AllocError> = Vec::with_capacity(alloc, size);
@@ -28,53 +28,29 @@ pub fn refuse(alloc: Global, step: usize) {
     let _ = is_granted(alloc, TOLD | step);
 }
 
+/// From here each request is refused.
+pub fn refuse_all(alloc: Global) {
+    refuse(alloc, 1);
+}
+
 /// Whether a request was refused. From here none is.
 pub fn was_refused(alloc: Global) -> bool {
     is_granted(alloc, ASK)
 }
 
-/// Makes a call once for each request and each way to refuse it, until none was refused.
-pub fn sweep<F: FnMut(usize) -> bool>(rt: &impl Abort, mut call: F)
-    requires { F.IsAlwaysCallable call }
-{
-    for step in 0..STEPS {
-        if !call(step) {
-            return;
-        }
-    }
-    rt.panic("too many requests")
-}
-
-/// Whether memory ran out, which is the only refusal, and comes only where a request was refused.
+/// Whether memory ran out, which it does only where a request was refused.
 pub fn ran_out<T>(rt: &impl Abort, answer: &RedisResult<T>, refused: bool) -> bool {
-    match answer {
-        Ok(_) => false,
-        Err(error) => {
-            assert!(rt; refused);
-            assert_eq!(rt; error.kind(), ErrorKind::OutOfMemory);
-            true
-        }
-    }
+    let Err(error) = answer else {
+        return false;
+    };
+    let ran_out = error.kind() == ErrorKind::OutOfMemory;
+    assert!(rt; refused || !ran_out);
+    ran_out
 }
 
-/// The call answers what shows like this, or memory runs out.
-pub fn makes<T: Debug + Drop, F: FnMut() -> RedisResult<T>>(
-    rt: &(impl Abort + AllocGlobal),
-    mut make: F,
-    wanted: &str,
-)
-    requires { F.IsAlwaysCallable make }
-{
-    for step in 0..STEPS {
-        refuse(rt.alloc(), step);
-        let answer = make();
-        let refused = was_refused(rt.alloc());
-        shows_as(rt, &answer, refused, wanted);
-        if !refused {
-            return;
-        }
-    }
-    rt.panic("too many requests")
+/// The Debug text of a value.
+pub fn shown<T: Debug>(rt: &(impl Abort + AllocGlobal), value: &T) -> String {
+    format!(in rt.alloc(); "{value:?}").expect(rt, "no refusal")
 }
 
 /// The answer shows like this, or memory ran out.
@@ -84,9 +60,39 @@ pub fn shows_as<T: Debug>(
     refused: bool,
     wanted: &str,
 ) {
-    if ran_out(rt, answer, refused) {
-        return;
+    if !ran_out(rt, answer, refused) {
+        assert_eq!(rt; shown(rt, answer).as_str(), wanted);
     }
-    let shown = format!(in rt.alloc(); "{answer:?}").expect(rt, "no refusal");
-    assert_eq!(rt; shown.as_str(), wanted);
+}
+
+/// The call answers what shows like this, or memory runs out.
+pub fn answers<T: Debug + Drop, F: FnMut() -> RedisResult<T>>(
+    rt: &(impl Abort + AllocGlobal),
+    wanted: &str,
+    mut call: F,
+)
+    requires { F.IsAlwaysCallable call }
+{
+    for step in 0..STEPS {
+        refuse(rt.alloc(), step);
+        let answer = call();
+        let refused = was_refused(rt.alloc());
+        shows_as(rt, &answer, refused, wanted);
+        if !refused {
+            return;
+        }
+    }
+    rt.panic("too many requests")
+}
+
+/// The call makes what shows as this value, or memory runs out.
+pub fn makes<T: Debug + Drop, W: Debug, F: FnMut() -> RedisResult<T>>(
+    rt: &(impl Abort + AllocGlobal),
+    wanted: &W,
+    call: F,
+)
+    requires { F.IsAlwaysCallable call }
+{
+    let text = format!(in rt.alloc(); "Ok({wanted:?})").expect(rt, "no refusal");
+    answers(rt, text.as_str(), call);
 }

@@ -1,8 +1,7 @@
 //! Parsers: after want of memory a parser has failed for good, but for a refused `feed`.
 
-use crate::heap::{ran_out, refuse, sweep, was_refused};
-use crate::links::Given;
-use resp_core::{Parser, RedisError, RedisResult, Value, parse_redis_value};
+use crate::heap::{STEPS, makes, ran_out, refuse, was_refused};
+use resp_core::{Parser, Reading, RedisError, RedisResult, Value, parse_redis_value};
 use std::process::Abort;
 
 /// Whole replies, of each type that takes memory.
@@ -23,20 +22,6 @@ const REPLIES: &[&[u8]] = &[
     b"*1\r\n*1\r\n*1\r\n*1\r\n*1\r\n*1\r\n*1\r\n*1\r\n*1\r\n+x\r\n",
 ];
 
-/// The answer is this reply, or memory ran out, which it says.
-fn is_reply_of(
-    rt: &(impl Abort + AllocGlobal),
-    answer: &RedisResult<Value>,
-    refused: bool,
-    bytes: &[u8],
-) -> bool {
-    let wanted = parse_redis_value(rt.alloc(), bytes).expect(rt, "no refusal");
-    if let Ok(value) = answer {
-        assert!(rt; *value == wanted);
-    }
-    ran_out(rt, answer, refused)
-}
-
 /// The refusal of a parser that has failed.
 fn says_failed<T>(rt: &impl Abort, answer: &RedisResult<T>) {
     match answer {
@@ -51,116 +36,62 @@ fn has_failed(rt: &impl Abort, parser: &mut Parser) {
     says_failed(rt, &parser.take_value());
     says_failed(rt, &parser.feed(b":1\r\n"));
     says_failed(rt, &parser.parse_value(b":1\r\n".as_slice()));
-    let mut source = Given::new(b":1\r\n");
+    let mut source = Reading::new(b":1\r\n".as_slice());
     says_failed(rt, &parser.parse_from(&mut source));
-    assert_eq!(rt; source.left.len(), 4);
+    assert_eq!(rt; source.into_inner().len(), 4);
 }
 
-fn take_value_at(rt: &(impl Abort + AllocGlobal), step: usize, bytes: &[u8]) -> bool {
-    let mut parser = Parser::new(rt.alloc());
-    parser.feed(bytes).expect(rt, "no refusal");
-    refuse(rt.alloc(), step);
-    let taken = parser.take_value();
-    let refused = was_refused(rt.alloc());
-    let answer = match taken {
-        Ok(Some(value)) => Ok(value),
-        Ok(None) => rt.panic("a reply"),
-        Err(error) => Err(error),
-    };
-    if is_reply_of(rt, &answer, refused, bytes) {
-        has_failed(rt, &mut parser);
+/// The call gives this of a parser of these bytes, or memory runs out and the parser has failed.
+fn parses<F: Fn(&mut Parser) -> RedisResult<Option<Value>>>(
+    rt: &(impl Abort + AllocGlobal),
+    fed: &[u8],
+    wanted: &Option<Value>,
+    call: F,
+)
+    requires { F.IsAlwaysCallable call }
+{
+    for step in 0..STEPS {
+        let mut parser = Parser::new(rt.alloc());
+        parser.feed(fed).expect(rt, "no refusal");
+        refuse(rt.alloc(), step);
+        let answer = call(&mut parser);
+        let refused = was_refused(rt.alloc());
+        if ran_out(rt, &answer, refused) {
+            has_failed(rt, &mut parser);
+        } else {
+            let value = answer.expect(rt, "no refusal");
+            assert!(rt; value == *wanted);
+        }
+        if !refused {
+            return;
+        }
     }
-    refused
+    rt.panic("too many requests")
+}
+
+/// Each call that parses gives the reply, and none of it without its last byte.
+fn parse(rt: &(impl Abort + AllocGlobal), bytes: &[u8]) {
+    let value = parse_redis_value(rt.alloc(), bytes).expect(rt, "no refusal");
+    makes(rt, &value, || parse_redis_value(rt.alloc(), bytes));
+    let whole = Some(value);
+    parses(rt, bytes, &whole, |parser| parser.take_value());
+    parses(
+        rt,
+        b"",
+        &whole,
+        |parser| Ok(Some(parser.parse_value(bytes)?)),
+    );
+    parses(rt, b"", &whole, |parser| {
+        Ok(Some(parser.parse_from(&mut Reading::new(bytes))?))
+    });
+    if let Some((_last, front)) = bytes.split_last() {
+        parses(rt, front, &None, |parser| parser.take_value());
+    }
 }
 
 #[test]
-fn take_value(rt: HostRuntime) {
+fn replies(rt: HostRuntime) {
     for bytes in REPLIES {
-        sweep(&rt, |step| take_value_at(&rt, step, bytes));
+        parse(&rt, bytes);
     }
-}
-
-fn parse_from_at(rt: &(impl Abort + AllocGlobal), step: usize, bytes: &'static [u8]) -> bool {
-    let mut parser = Parser::new(rt.alloc());
-    let mut source = Given::new(bytes);
-    refuse(rt.alloc(), step);
-    let answer = parser.parse_from(&mut source);
-    let refused = was_refused(rt.alloc());
-    if is_reply_of(rt, &answer, refused, bytes) {
-        has_failed(rt, &mut parser);
-    }
-    refused
-}
-
-#[test]
-fn parse_from(rt: HostRuntime) {
-    for bytes in REPLIES {
-        sweep(&rt, |step| parse_from_at(&rt, step, bytes));
-    }
-}
-
-fn parse_value_at(rt: &(impl Abort + AllocGlobal), step: usize, bytes: &[u8]) -> bool {
-    let mut parser = Parser::new(rt.alloc());
-    refuse(rt.alloc(), step);
-    let answer = parser.parse_value(bytes);
-    let refused = was_refused(rt.alloc());
-    if is_reply_of(rt, &answer, refused, bytes) {
-        has_failed(rt, &mut parser);
-    }
-    refused
-}
-
-#[test]
-fn parse_value(rt: HostRuntime) {
-    for bytes in REPLIES {
-        sweep(&rt, |step| parse_value_at(&rt, step, bytes));
-    }
-}
-
-fn parse_redis_value_at(rt: &(impl Abort + AllocGlobal), step: usize, bytes: &[u8]) -> bool {
-    refuse(rt.alloc(), step);
-    let answer = parse_redis_value(rt.alloc(), bytes);
-    let refused = was_refused(rt.alloc());
-    let _ = is_reply_of(rt, &answer, refused, bytes);
-    refused
-}
-
-#[test]
-fn whole_bytes(rt: HostRuntime) {
-    for bytes in REPLIES {
-        sweep(&rt, |step| parse_redis_value_at(&rt, step, bytes));
-    }
-}
-
-/// A reply in two parts; the second is longer than the room for the first.
-const FIRST: &[u8] = b"*2\r\n:1\r\n$100\r\n01234";
-
-const SECOND: &[u8] = b"56789012345678901234567890123456789012345678901234567890123456789\
-    012345678901234567890123456789\r\n";
-
-fn feed_at(rt: &(impl Abort + AllocGlobal), step: usize, in_progress: bool) -> bool {
-    let mut parser = Parser::new(rt.alloc());
-    parser.feed(FIRST).expect(rt, "no refusal");
-    if in_progress {
-        assert!(rt; matches!(parser.take_value(), Ok(None)));
-    }
-    refuse(rt.alloc(), step);
-    let answer = parser.feed(SECOND);
-    let refused = was_refused(rt.alloc());
-    if ran_out(rt, &answer, refused) {
-        assert!(rt; !parser.is_failed() && parser.in_progress());
-        parser.feed(SECOND).expect(rt, "no refusal");
-    }
-    let taken = parser.take_value().expect(rt, "no refusal");
-    match taken.expect(rt, "a reply") {
-        Value::Array(items) => assert_eq!(rt; items.len(), 2),
-        _other => assert!(rt; false),
-    }
-    refused
-}
-
-#[test]
-fn feed(rt: HostRuntime) {
-    sweep(&rt, |step| feed_at(&rt, step, false));
-    sweep(&rt, |step| feed_at(&rt, step, true));
 }

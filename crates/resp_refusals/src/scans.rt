@@ -1,8 +1,8 @@
 //! Scans: want of memory is an item, and takes one of the budget.
 
-use crate::heap::{refuse, sweep, was_refused};
-use crate::links::Given;
-use resp_core::{ByteLink, Cmd, CommandSink, ErrorKind, IoKind, RedisResult, ScanProgress, cmd};
+use crate::heap::{STEPS, refuse, was_refused};
+use crate::links::{Link, asks, link, sent};
+use resp_core::{Cmd, ConnectionLike, ErrorKind, RedisResult, ScanProgress, cmd};
 use std::process::Abort;
 
 /// Pages: cursor 7 and nothing; cursor 4 and `b`; cursor 0 and nothing.
@@ -10,52 +10,35 @@ const PAGES: &[u8] = b"*2\r\n$1\r\n7\r\n*0\r\n\
     *2\r\n$1\r\n4\r\n*1\r\n$1\r\nb\r\n\
     *2\r\n$1\r\n0\r\n*0\r\n";
 
-/// The cursors of requests of one digit each, as digits after a 1.
-#[derive(Drop)]
-struct Cursors {
-    digits: u64,
-}
-
-impl Cursors {
-    /// Notes the last digit of a request.
-    fn note(&mut self, bytes: &[u8]) {
-        if let [.., digit, _, _] = bytes {
-            let value = (*digit % 16) as u64;
-            self.digits = self.digits.saturating_mul(10).saturating_add(value);
-        }
-    }
-}
-
-impl CommandSink for Cursors {
-    ghost use Rattle.std.specs.Prelude.{false, []};
-
-    ghost sink = { λ _. record { observable = false; bytes = []; unflushed = false; failures = 0 } };
-
-    fn send(&mut self, bytes: &[u8]) -> Result<usize, IoKind> {
-        self.note(bytes);
-        Ok(bytes.len())
-    }
-
-    fn flush(&mut self) -> Result<(), IoKind> {
-        Ok(())
-    }
-}
+/// A request, with its cursor of one digit.
+const REQUEST: &[u8] = b"*2\r\n$4\r\nSCAN\r\n$1\r\n0\r\n";
 
 /// `SCAN 0`.
-fn scan_command(rt: &(impl Abort + AllocGlobal)) -> Cmd {
+pub fn scan_command(rt: &(impl Abort + AllocGlobal)) -> Cmd {
     let mut command = cmd(rt.alloc(), "SCAN").expect(rt, "no refusal");
     command.push_cursor_arg(0).expect(rt, "no refusal");
     command
 }
 
+/// The first request is refused: nothing was sent, or the link is broken; or the reply is taken.
+#[test]
+fn first_requests(rt: HostRuntime) {
+    let command = scan_command(&rt);
+    let page = b"*2\r\n$1\r\n0\r\n*1\r\n$1\r\nb\r\n:7\r\n";
+    asks(&rt, REQUEST.len(), page, "Ok(Some(Ok(\"b\")))", |con| {
+        let mut scan: ScanProgress<String> = command.try_clone()?.start_scan(con, 9)?;
+        Ok(scan.next(con))
+    });
+    asks(&rt, REQUEST.len(), page, "Ok(Some(Ok(\"b\")))", |con| {
+        Ok(command.try_clone()?.iter::<String, Link>(con, 9)?.next())
+    });
+}
+
 /// One letter for an answer: the item, memory, the budget, a broken link, or the end.
-fn letter(rt: &impl Abort, answer: &Option<RedisResult<String>>) -> char {
+pub fn letter(answer: &Option<RedisResult<String>>) -> char {
     match answer {
         None => '.',
-        Some(Ok(text)) => {
-            assert_eq!(rt; text.as_str(), "b");
-            'b'
-        }
+        Some(Ok(text)) => text.chars().next().unwrap_or('?'),
         Some(Err(error)) => match error.kind() {
             ErrorKind::OutOfMemory => 'M',
             ErrorKind::Client => 'C',
@@ -65,69 +48,66 @@ fn letter(rt: &impl Abort, answer: &Option<RedisResult<String>>) -> char {
     }
 }
 
-/// What three calls answered, the first with a request refused, and the cursors that were sent.
-#[derive(Drop)]
-struct Answers {
-    answers: [char; 3],
-    digits: u64,
-    refused: bool,
-}
-
-fn three(rt: &(impl Abort + AllocGlobal), step: usize, budget: u64) -> Answers {
-    let mut con = ByteLink::over(rt.alloc(), Given::new(PAGES), Cursors { digits: 1 });
-    let mut scan: ScanProgress<String> = scan_command(rt)
-        .start_scan(&mut con, budget)
-        .expect(rt, "no refusal");
+/// What three calls answered, the first with a request refused, and whether one was.
+pub fn three<C: ConnectionLike>(
+    rt: &(impl Abort + AllocGlobal),
+    step: usize,
+    budget: u64,
+    con: &mut C,
+) -> (String, bool) {
+    let scan = scan_command(rt).start_scan(con, budget);
+    let mut scan: ScanProgress<String> = scan.expect(rt, "no refusal");
     refuse(rt.alloc(), step);
-    let first = scan.next(&mut con);
+    let first = scan.next(con);
     let refused = was_refused(rt.alloc());
-    let answers = [
-        letter(rt, &first),
-        letter(rt, &scan.next(&mut con)),
-        letter(rt, &scan.next(&mut con)),
-    ];
-    let (_source, sink) = con.into_ends();
-    Answers {
-        answers,
-        digits: sink.digits,
-        refused,
+    let mut answers = String::new(rt.alloc());
+    answers.push(letter(&first)).expect(rt, "no refusal");
+    for _call in 0..2usize {
+        answers
+            .push(letter(&scan.next(con)))
+            .expect(rt, "no refusal");
     }
+    (answers, refused)
 }
 
-fn next_at(rt: &(impl Abort + AllocGlobal), step: usize) -> bool {
-    let three = three(rt, step, 9);
-    match three.answers {
-        // Nothing was refused.
-        ['b', '.', '.'] => assert!(rt; three.digits == 1074),
-        // The request wasn't made, and is made at the next call.
-        ['M', 'b', '.'] => assert!(rt; three.refused && three.digits == 1074),
-        // The items are lost.
-        ['M', '.', '.'] => assert!(rt; three.refused && three.digits == 1074),
-        // The reply is lost, and the link is broken.
-        ['M', 'I', 'I'] => assert!(rt; three.refused && three.digits == 107),
-        _ => assert!(rt; false),
+/// Three calls over a link, and then the cursors that were sent.
+fn over_link(rt: &(impl Abort + AllocGlobal), step: usize, budget: u64) -> (String, bool) {
+    let mut con = link(rt, PAGES);
+    let (mut shown, refused) = three(rt, step, budget, &mut con);
+    for request in sent(con).as_slice().chunks(REQUEST.len()) {
+        let digit = request.get(18).copied().unwrap_or(b'?');
+        shown.push(char::from(digit)).expect(rt, "no refusal");
     }
-    three.refused
+    (shown, refused)
 }
 
+/// Each request of the first call refused in turn gives one of these, and none refused the first.
+pub fn scans<F: Fn(usize) -> (String, bool)>(rt: &impl Abort, wanted: &[&str], call: F)
+    requires { F.IsAlwaysCallable call }
+{
+    for step in 0..STEPS {
+        let (shown, refused) = call(step);
+        let place = wanted.iter().position(|text| *text == shown.as_str());
+        assert!(rt; place.is_some());
+        if !refused {
+            assert!(rt; place == Some(0));
+            return;
+        }
+    }
+    rt.panic("too many requests")
+}
+
+/// Nothing was refused; the request wasn't made, and is made at the next call; the items are lost;
+/// the reply is lost, and the link is broken.
 #[test]
-fn next(rt: HostRuntime) {
-    sweep(&rt, |step| next_at(&rt, step));
+fn later_requests(rt: HostRuntime) {
+    let wanted = ["b..074", "Mb.074", "M..074", "MII07"];
+    scans(&rt, wanted.as_slice(), |step| over_link(&rt, step, 9));
 }
 
 /// With a budget of two, the refused call has taken one.
-fn budget_at(rt: &(impl Abort + AllocGlobal), step: usize) -> bool {
-    let three = three(rt, step, 2);
-    match three.answers {
-        ['b', '.', '.'] | ['M', '.', '.'] => assert!(rt; three.digits == 1074),
-        ['M', 'b', 'C'] => assert!(rt; three.refused && three.digits == 107),
-        ['M', 'I', 'C'] => assert!(rt; three.refused && three.digits == 107),
-        _ => assert!(rt; false),
-    }
-    three.refused
-}
-
 #[test]
 fn a_refusal_takes_one_of_the_budget(rt: HostRuntime) {
-    sweep(&rt, |step| budget_at(&rt, step));
+    let wanted = ["b..074", "MbC07", "M..074", "MIC07"];
+    scans(&rt, wanted.as_slice(), |step| over_link(&rt, step, 2));
 }
