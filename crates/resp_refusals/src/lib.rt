@@ -1,0 +1,33 @@
+//! Each request for memory refused in turn, for the calls of `resp_core` that may take memory:
+//! each answers want of memory or what it answers with ample memory, and leaves what it says. And
+//! the calls that take none, shown to make no request.
+#![tactic(auto)]
+
+#[cfg(test)]
+mod changes;
+#[cfg(test)]
+mod conversions;
+#[cfg(test)]
+mod copies;
+#[cfg(test)]
+mod heap;
+#[cfg(test)]
+mod links;
+#[cfg(test)]
+mod lost_replies;
+#[cfg(test)]
+mod made;
+#[cfg(test)]
+mod no_memory;
+#[cfg(test)]
+mod no_memory_errors;
+#[cfg(test)]
+mod parsing;
+#[cfg(test)]
+mod programs;
+#[cfg(test)]
+mod queries;
+#[cfg(test)]
+mod scans;
+#[cfg(test)]
+mod subjects;

@@ -1,0 +1,124 @@
+//! Links: what they have sent and taken where memory ran out.
+
+use crate::heap::{STEPS, refuse, shows_as, was_refused};
+use crate::made::{GET_K, get};
+use resp_core::{ByteLink, ConnectionLike, Reading, RedisResult, Value, Writing};
+use std::fmt::Debug;
+use std::process::Abort;
+
+pub type Link = ByteLink<Reading<&'static [u8]>, Writing<Vec<u8>>>;
+
+/// A link on which these bytes come in. What is sent goes to a vector with room for it.
+pub fn link(rt: &(impl Abort + AllocGlobal), incoming: &'static [u8]) -> Link {
+    let sent = Vec::with_capacity(rt.alloc(), 1000).expect(rt, "no refusal");
+    ByteLink::new(rt.alloc(), incoming, sent)
+}
+
+/// What was sent over a link.
+pub fn sent(con: Link) -> Vec<u8> {
+    let (_source, sink) = con.into_ends();
+    sink.into_inner()
+}
+
+/// The link after a request of so many bytes, whose replies are followed by `:7`: nothing was sent
+/// and it is usable; or all was, and it is broken; or all was, the replies are taken, and it is
+/// usable.
+fn stands(rt: &(impl Abort + AllocGlobal), mut con: Link, request: usize) {
+    let broken = con.is_broken();
+    let next = get(rt).query::<Value>(&mut con);
+    let is_seven = matches!(next, Ok(Value::Int(7)));
+    let sent = sent(con).len();
+    if broken {
+        assert!(rt; next.is_err());
+        assert_eq!(rt; sent, request);
+    } else if is_seven {
+        assert_eq!(rt; sent, request.saturating_add(GET_K.len()));
+    } else {
+        assert_eq!(rt; sent, GET_K.len());
+    }
+}
+
+/// The call over a link answers what shows like this, or memory runs out; the link stands as it
+/// should.
+pub fn asks<T: Debug + Drop, F: Fn(&mut Link) -> RedisResult<T>>(
+    rt: &(impl Abort + AllocGlobal),
+    request: usize,
+    incoming: &'static [u8],
+    wanted: &str,
+    call: F,
+)
+    requires { F.IsAlwaysCallable call }
+{
+    for step in 0..STEPS {
+        let mut con = link(rt, incoming);
+        refuse(rt.alloc(), step);
+        let answer = call(&mut con);
+        let refused = was_refused(rt.alloc());
+        shows_as(rt, &answer, refused, wanted);
+        assert!(rt; answer.is_err() || !con.is_broken());
+        stands(rt, con, request);
+        if !refused {
+            return;
+        }
+    }
+    rt.panic("too many requests")
+}
+
+/// A reply, one with pushes before it, and one that is nested.
+const INCOMING: &[(&[u8], &str)] = &[
+    (b"$3\r\nabc\r\n:7\r\n", "Ok(bulk-string('\"abc\"'))"),
+    (
+        b">2\r\n+message\r\n+x\r\n>1\r\n+own\r\n$3\r\nabc\r\n:7\r\n",
+        "Ok(bulk-string('\"abc\"'))",
+    ),
+    (
+        b"*2\r\n+a\r\n%1\r\n+b\r\n$3\r\nabc\r\n:7\r\n",
+        "Ok(array([simple-string(\"a\"), map([(simple-string(\"b\"), bulk-string('\"abc\"'))])]))",
+    ),
+];
+
+#[test]
+fn one_command(rt: HostRuntime) {
+    let command = get(&rt);
+    for (incoming, wanted) in INCOMING {
+        asks(
+            &rt,
+            GET_K.len(),
+            incoming,
+            wanted,
+            |con| con.req_command(&command),
+        );
+        asks(&rt, GET_K.len(), incoming, wanted, |con| {
+            con.req_packed_command(GET_K)
+        });
+    }
+}
+
+const TWO: &[u8] = b"+a\r\n>2\r\n+message\r\n+x\r\n*2\r\n$1\r\nb\r\n$1\r\nc\r\n:7\r\n";
+
+#[test]
+fn packed_commands(rt: HostRuntime) {
+    let two = "Ok([simple-string(\"a\"), array([bulk-string('\"b\"'), bulk-string('\"c\"')])])";
+    asks(
+        &rt,
+        GET_K.len(),
+        TWO,
+        two,
+        |con| con.req_packed_commands(GET_K, 0, 2),
+    );
+    let one = "Ok([array([bulk-string('\"b\"'), bulk-string('\"c\"')])])";
+    asks(
+        &rt,
+        GET_K.len(),
+        TWO,
+        one,
+        |con| con.req_packed_commands(GET_K, 1, 1),
+    );
+    asks(
+        &rt,
+        GET_K.len(),
+        TWO,
+        "Ok([])",
+        |con| con.req_packed_commands(GET_K, 2, 0),
+    );
+}

@@ -1,0 +1,127 @@
+//! Scans over a connection that loses replies and stays usable: the cursor stays.
+
+use crate::scans::{scans, three};
+use resp_core::{
+    Cmd, ConnectionLike, ErrorKind, IoKind, RedisError, RedisResult, Value, parse_redis_value,
+};
+use std::alloc::{AllocError, Global};
+use std::process::Abort;
+
+/// Answers stored replies, the last one first. Where memory runs out one is lost.
+#[derive(Drop)]
+struct Forgetful {
+    alloc: Global,
+    replies: Vec<Value>,
+    /// The cursors of packed commands, as digits.
+    cursors: u64,
+    has_lost: bool,
+    broken: bool,
+}
+
+impl Forgetful {
+    /// Notes the cursor of one digit.
+    fn note(&mut self, bytes: &[u8]) {
+        if let [.., digit, _, _] = bytes {
+            let value = (*digit % 16) as u64;
+            self.cursors = self.cursors.saturating_mul(10).saturating_add(value);
+        }
+    }
+}
+
+impl ConnectionLike for Forgetful {
+    ghost use Rattle.resp_core.specs.Connections.{unobservable};
+
+    ghost connection = { λ c. unobservable c.broken };
+
+    fn req_command(&mut self, cmd: &Cmd) -> RedisResult<Value> {
+        if self.broken {
+            return Err(RedisError::from((ErrorKind::Io, "link is broken")));
+        }
+        if cmd.is_empty() {
+            return Err(RedisError::from((ErrorKind::Client, "empty command")));
+        }
+        if cmd.is_no_response() {
+            return Ok(Value::Nil);
+        }
+        match self.replies.pop() {
+            Some(reply) => Ok(reply),
+            None => {
+                self.broken = true;
+                Err(RedisError::from(IoKind::UnexpectedEof))
+            }
+        }
+    }
+
+    fn req_packed_command(&mut self, bytes: &[u8]) -> RedisResult<Value> {
+        if self.broken {
+            return Err(RedisError::from((ErrorKind::Io, "link is broken")));
+        }
+        if bytes.is_empty() {
+            return Err(RedisError::from((ErrorKind::Client, "empty command")));
+        }
+        self.note(bytes);
+        let Some(reply) = self.replies.pop() else {
+            self.broken = true;
+            return Err(RedisError::from(IoKind::UnexpectedEof));
+        };
+        let room: Result<Vec<u8>, AllocError> = Vec::with_capacity(self.alloc, 1);
+        if room.is_err() {
+            self.has_lost = true;
+            return Err(RedisError::OutOfMemory);
+        }
+        Ok(reply)
+    }
+
+    fn req_packed_commands(
+        &mut self,
+        _bytes: &[u8],
+        _offset: usize,
+        _count: usize,
+    ) -> RedisResult<Vec<Value>> {
+        if self.broken {
+            return Err(RedisError::from((ErrorKind::Io, "link is broken")));
+        }
+        self.broken = true;
+        Err(RedisError::from(IoKind::UnexpectedEof))
+    }
+
+    fn supports_pipelining(&self) -> bool {
+        false
+    }
+}
+
+/// Pages: cursor 7 and nothing; cursor 4 and `b`; cursor 0 and nothing.
+const PAGES: [&[u8]; 3] = [
+    b"*2\r\n$1\r\n0\r\n*0\r\n",
+    b"*2\r\n$1\r\n4\r\n*1\r\n$1\r\nb\r\n",
+    b"*2\r\n$1\r\n7\r\n*0\r\n",
+];
+
+/// Three calls, the cursors that were sent after the first, and whether a reply was lost.
+fn over_forgetful(rt: &(impl Abort + AllocGlobal), step: usize) -> (String, bool) {
+    let mut replies = Vec::new(rt.alloc());
+    for page in PAGES {
+        let page = parse_redis_value(rt.alloc(), page).expect(rt, "no refusal");
+        replies.push(page).expect(rt, "no refusal");
+    }
+    let mut con = Forgetful {
+        alloc: rt.alloc(),
+        replies,
+        cursors: 0,
+        has_lost: false,
+        broken: false,
+    };
+    let (answers, refused) = three(rt, step, 9, &mut con);
+    let cursors = con.cursors;
+    let has_lost = con.has_lost;
+    let shown = format!(in rt.alloc(); "{answers}{cursors} {has_lost}").expect(rt, "no refusal");
+    (shown, refused)
+}
+
+/// Nothing was refused; the request wasn't made, and is made at the next call; the items are lost;
+/// the reply is lost before its cursor is read.
+#[test]
+fn a_lost_reply(rt: HostRuntime) {
+    let wanted = ["b..74 false", "Mb.74 false", "M..74 false", "M..77 true"];
+    scans(&rt, wanted.as_slice(), |step| over_forgetful(&rt, step));
+}

@@ -1,0 +1,113 @@
+//! Scans: want of memory is an item, and takes one of the budget.
+
+use crate::heap::{STEPS, refuse, was_refused};
+use crate::links::{Link, asks, link, sent};
+use resp_core::{Cmd, ConnectionLike, ErrorKind, RedisResult, ScanProgress, cmd};
+use std::process::Abort;
+
+/// Pages: cursor 7 and nothing; cursor 4 and `b`; cursor 0 and nothing.
+const PAGES: &[u8] = b"*2\r\n$1\r\n7\r\n*0\r\n\
+    *2\r\n$1\r\n4\r\n*1\r\n$1\r\nb\r\n\
+    *2\r\n$1\r\n0\r\n*0\r\n";
+
+/// A request, with its cursor of one digit.
+const REQUEST: &[u8] = b"*2\r\n$4\r\nSCAN\r\n$1\r\n0\r\n";
+
+/// `SCAN 0`.
+pub fn scan_command(rt: &(impl Abort + AllocGlobal)) -> Cmd {
+    let mut command = cmd(rt.alloc(), "SCAN").expect(rt, "no refusal");
+    command.push_cursor_arg(0).expect(rt, "no refusal");
+    command
+}
+
+/// The first request is refused: nothing was sent, or the link is broken; or the reply is taken.
+#[test]
+fn first_requests(rt: HostRuntime) {
+    let command = scan_command(&rt);
+    let page = b"*2\r\n$1\r\n0\r\n*1\r\n$1\r\nb\r\n:7\r\n";
+    asks(&rt, REQUEST.len(), page, "Ok(Some(Ok(\"b\")))", |con| {
+        let mut scan: ScanProgress<String> = command.try_clone()?.start_scan(con, 9)?;
+        Ok(scan.next(con))
+    });
+    asks(&rt, REQUEST.len(), page, "Ok(Some(Ok(\"b\")))", |con| {
+        Ok(command.try_clone()?.iter::<String, Link>(con, 9)?.next())
+    });
+}
+
+/// One letter for an answer: the item, memory, the budget, a broken link, or the end.
+pub fn letter(answer: &Option<RedisResult<String>>) -> char {
+    match answer {
+        None => '.',
+        Some(Ok(text)) => text.chars().next().unwrap_or('?'),
+        Some(Err(error)) => match error.kind() {
+            ErrorKind::OutOfMemory => 'M',
+            ErrorKind::Client => 'C',
+            ErrorKind::Io => 'I',
+            _ => '?',
+        },
+    }
+}
+
+/// What three calls answered, the first with a request refused, and whether one was.
+pub fn three<C: ConnectionLike>(
+    rt: &(impl Abort + AllocGlobal),
+    step: usize,
+    budget: u64,
+    con: &mut C,
+) -> (String, bool) {
+    let scan = scan_command(rt).start_scan(con, budget);
+    let mut scan: ScanProgress<String> = scan.expect(rt, "no refusal");
+    refuse(rt.alloc(), step);
+    let first = scan.next(con);
+    let refused = was_refused(rt.alloc());
+    let mut answers = String::new(rt.alloc());
+    answers.push(letter(&first)).expect(rt, "no refusal");
+    for _call in 0..2usize {
+        answers
+            .push(letter(&scan.next(con)))
+            .expect(rt, "no refusal");
+    }
+    (answers, refused)
+}
+
+/// Three calls over a link, and then the cursors that were sent.
+fn over_link(rt: &(impl Abort + AllocGlobal), step: usize, budget: u64) -> (String, bool) {
+    let mut con = link(rt, PAGES);
+    let (mut shown, refused) = three(rt, step, budget, &mut con);
+    for request in sent(con).as_slice().chunks(REQUEST.len()) {
+        let digit = request.get(18).copied().unwrap_or(b'?');
+        shown.push(char::from(digit)).expect(rt, "no refusal");
+    }
+    (shown, refused)
+}
+
+/// Each request of the first call refused in turn gives one of these, and none refused the first.
+pub fn scans<F: Fn(usize) -> (String, bool)>(rt: &impl Abort, wanted: &[&str], call: F)
+    requires { F.IsAlwaysCallable call }
+{
+    for step in 0..STEPS {
+        let (shown, refused) = call(step);
+        let place = wanted.iter().position(|text| *text == shown.as_str());
+        assert!(rt; place.is_some());
+        if !refused {
+            assert!(rt; place == Some(0));
+            return;
+        }
+    }
+    rt.panic("too many requests")
+}
+
+/// Nothing was refused; the request wasn't made, and is made at the next call; the items are lost;
+/// the reply is lost, and the link is broken.
+#[test]
+fn later_requests(rt: HostRuntime) {
+    let wanted = ["b..074", "Mb.074", "M..074", "MII07"];
+    scans(&rt, wanted.as_slice(), |step| over_link(&rt, step, 9));
+}
+
+/// With a budget of two, the refused call has taken one.
+#[test]
+fn a_refusal_takes_one_of_the_budget(rt: HostRuntime) {
+    let wanted = ["b..074", "MbC07", "M..074", "MIC07"];
+    scans(&rt, wanted.as_slice(), |step| over_link(&rt, step, 2));
+}
