@@ -1,11 +1,8 @@
 //! Links in memory between calls: packed requests, pushes, limits and chains.
 
 use crate::checks::{PING, Test, answers, gives, has_sent, link, ping};
-use resp_core::{
-    ByteLink, ConnectionLike, FromRedisValue, Limits, PushInfo, PushKind, RedisResult,
-};
+use resp_core::{ByteLink, ConnectionLike, Limits, PushInfo, PushKind, RedisResult};
 use resp_testing::{Device, MemoryLink, debug_text, pipeline};
-use std::fmt::Debug;
 use std::io::{Cursor, ErrorKind};
 
 /// A packed command is answered this.
@@ -30,26 +27,22 @@ fn packed_commands_are_sent_as_they_stand(rt: HostRuntime) {
     has_sent(&rt, link, "*1\r\n$4\r\nPING\r\nxy");
 }
 
-/// Two commands as a pipeline are answered this.
-fn two_answer<T: FromRedisValue + Debug + Drop>(
-    rt: &impl Test,
-    con: &mut dyn ConnectionLike,
-    wanted: &str,
-) {
-    let two = pipeline(rt.alloc(), &[&["FOO"], &["BAR"]]).expect(rt, "memory");
-    answers(rt, two.query::<T>(con), wanted);
-}
-
 #[test]
 fn no_more_is_asked_than_needed(rt: HostRuntime) {
     let kind = Some(ErrorKind::ConnectionReset);
-    let reader = Device::failing(rt.alloc(), b":1\r\n:2\r\n:3\r\n", 99, 2, kind);
+    let reader = Device::failing(rt.alloc(), b"$2\r\n42\r\n:7\r\n", 99, 2, kind);
     let mut link = ByteLink::new(rt.alloc(), reader, Vec::new(rt.alloc()));
-    two_answer::<(i64, i64)>(&rt, &mut link, "(1, 2)");
-    gives(&rt, &mut link, "3");
+    gives(&rt, &mut link, "42");
+    gives(&rt, &mut link, "7");
     assert!(rt; !link.is_broken());
     gives(&rt, &mut link, "ConnectionReset");
     assert!(rt; link.is_broken());
+}
+
+/// A pipeline of two commands is done.
+fn two_are_done(rt: &impl Test, con: &mut dyn ConnectionLike) {
+    let two = pipeline(rt.alloc(), &[&["FOO"], &["BAR"]]).expect(rt, "memory");
+    answers(rt, two.exec(con), "()");
 }
 
 /// These are the pushes.
@@ -60,7 +53,7 @@ fn are(rt: &impl Test, pushes: &[PushInfo], wanted: &str) {
 #[test]
 fn pushes_are_taken_once(rt: HostRuntime) {
     let mut link = link(&rt, b":1\r\n>2\r\n+message\r\n+c\r\n:2\r\n>0\r\n:9\r\n");
-    two_answer::<()>(&rt, &mut link, "()");
+    two_are_done(&rt, &mut link);
     let message = "[PushInfo { kind: Message, payload: [simple-string(\"c\")] }]";
     are(&rt, link.pushes(), message);
     are(&rt, link.take_pushes().as_slice(), message);
