@@ -131,8 +131,12 @@ fn bytes(rt: HostRuntime) {
     });
     makes(
         &rt,
-        &Some(["42"]),
+        &Some(["42"].as_slice()),
         || Ok(String::from_byte_slice(alloc, b"42")?),
     );
-    makes(&rt, &Some(b"42"), || Ok(u8::from_byte_slice(alloc, b"42")?));
+    makes(
+        &rt,
+        &Some(b"42".as_slice()),
+        || Ok(u8::from_byte_slice(alloc, b"42")?),
+    );
 }

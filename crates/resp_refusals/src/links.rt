@@ -4,14 +4,16 @@ use crate::heap::{STEPS, refuse, shows_as, was_refused};
 use crate::made::{GET_K, get};
 use resp_core::{ByteLink, ConnectionLike, Reading, RedisResult, Value, Writing};
 use std::fmt::Debug;
+use std::io::Cursor;
 use std::process::Abort;
 
-pub type Link = ByteLink<Reading<&'static [u8]>, Writing<Vec<u8>>>;
+pub type Link = ByteLink<Reading<Cursor<Vec<u8>>>, Writing<Vec<u8>>>;
 
 /// A link on which these bytes come in. What is sent goes to a vector with room for it.
-pub fn link(rt: &(impl Abort + AllocGlobal), incoming: &'static [u8]) -> Link {
+pub fn link(rt: &(impl Abort + AllocGlobal), incoming: &[u8]) -> Link {
+    let incoming = Vec::from_slice(rt.alloc(), incoming).expect(rt, "no refusal");
     let sent = Vec::with_capacity(rt.alloc(), 1000).expect(rt, "no refusal");
-    ByteLink::new(rt.alloc(), incoming, sent)
+    ByteLink::new(rt.alloc(), Cursor::new(incoming), sent)
 }
 
 /// What was sent over a link.
@@ -43,7 +45,7 @@ fn stands(rt: &(impl Abort + AllocGlobal), mut con: Link, request: usize) {
 pub fn asks<T: Debug + Drop, F: Fn(&mut Link) -> RedisResult<T>>(
     rt: &(impl Abort + AllocGlobal),
     request: usize,
-    incoming: &'static [u8],
+    incoming: &[u8],
     wanted: &str,
     call: F,
 )

@@ -18,14 +18,23 @@ struct Forgetful {
     broken: bool,
 }
 
-impl Forgetful {
-    /// Notes the cursor of one digit.
-    fn note(&mut self, bytes: &[u8]) {
-        if let [.., digit, _, _] = bytes {
-            let value = (*digit % 16) as u64;
-            self.cursors = self.cursors.saturating_mul(10).saturating_add(value);
-        }
+/// These digits, and then a packed command's last one.
+fn noted(digits: u64, bytes: &[u8]) -> u64 {
+    match bytes {
+        [.., digit, _, _] => digits
+            .saturating_mul(10)
+            .saturating_add((*digit % 16) as u64),
+        _ => digits,
     }
+}
+
+fn has_room(alloc: Global) -> bool {
+    let room: Result<Vec<u8>, AllocError> = Vec::with_capacity(alloc, 1);
+    room.is_ok()
+}
+
+fn lose_one(replies: &mut Vec<Value>) {
+    let _lost = replies.pop();
 }
 
 impl ConnectionLike for Forgetful {
@@ -59,17 +68,19 @@ impl ConnectionLike for Forgetful {
         if bytes.is_empty() {
             return Err(RedisError::from((ErrorKind::Client, "empty command")));
         }
-        self.note(bytes);
-        let Some(reply) = self.replies.pop() else {
-            self.broken = true;
-            return Err(RedisError::from(IoKind::UnexpectedEof));
-        };
-        let room: Result<Vec<u8>, AllocError> = Vec::with_capacity(self.alloc, 1);
-        if room.is_err() {
+        self.cursors = noted(self.cursors, bytes);
+        if !has_room(self.alloc) {
             self.has_lost = true;
+            lose_one(&mut self.replies);
             return Err(RedisError::OutOfMemory);
         }
-        Ok(reply)
+        match self.replies.pop() {
+            Some(reply) => Ok(reply),
+            None => {
+                self.broken = true;
+                Err(RedisError::from(IoKind::UnexpectedEof))
+            }
+        }
     }
 
     fn req_packed_commands(

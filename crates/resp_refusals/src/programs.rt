@@ -19,7 +19,7 @@ fn words(rt: &(impl Abort + AllocGlobal), line: &str) -> Vec<String> {
 /// of its output, with status 2.
 fn prints<F: Fn(&mut Link, &mut Vec<u8>, &mut Vec<u8>) -> u8>(
     rt: &(impl Abort + AllocGlobal),
-    incoming: &'static [u8],
+    incoming: &[u8],
     wanted: (u8, &[u8], &[u8]),
     run: F,
 )

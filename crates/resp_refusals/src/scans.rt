@@ -30,7 +30,10 @@ fn first_requests(rt: HostRuntime) {
         Ok(scan.next(con))
     });
     asks(&rt, REQUEST.len(), page, "Ok(Some(Ok(\"b\")))", |con| {
-        Ok(command.try_clone()?.iter::<String, Link>(con, 9)?.next())
+        match command.try_clone()?.iter::<String, Link>(con, 9) {
+            Ok(mut scan) => Ok(scan.next()),
+            Err(error) => Err(error),
+        }
     });
 }
 
