@@ -67,12 +67,18 @@ fn changes<T: Subject, F: Fn(&mut T) -> RedisResult<()>>(rt: &(impl Abort + Allo
 #[test]
 fn arguments(rt: HostRuntime) {
     let alloc = rt.alloc();
-    changes(&rt, |to: &mut Cmd| to.arg("value").map(|_| ()));
+    changes(&rt, |to: &mut Cmd| {
+        let _ = to.arg("value")?;
+        Ok(())
+    });
     changes(&rt, |to: &mut Cmd| to.push_arg((1i64, LONG, Some("y"))));
     changes(&rt, |to: &mut Cmd| to.write_arg(b"value"));
     changes(&rt, |to: &mut Cmd| to.write_arg_fmt(alloc, -42i64));
     changes(&rt, |to: &mut Cmd| to.open_arg());
-    changes(&rt, |to: &mut Cmd| to.writer_for_next_arg().map(|_| ()));
+    changes(&rt, |to: &mut Cmd| {
+        let _ = to.writer_for_next_arg()?;
+        Ok(())
+    });
     changes(&rt, |to: &mut Cmd| to.reserve_space_for_args([1usize, 100]));
 }
 
@@ -94,17 +100,24 @@ fn longer_arguments(rt: HostRuntime) {
 
 #[test]
 fn cursor_arguments(rt: HostRuntime) {
-    changes(&rt, |to: &mut Cmd| to.cursor_arg(u64::MAX).map(|_| ()));
+    changes(&rt, |to: &mut Cmd| {
+        let _ = to.cursor_arg(u64::MAX)?;
+        Ok(())
+    });
     changes(&rt, |to: &mut Cmd| to.push_cursor_arg(7));
 }
 
 #[test]
 fn commands_of_pipelines(rt: HostRuntime) {
     let alloc = rt.alloc();
-    changes(&rt, |to: &mut Pipeline| to.cmd("NAME").map(|_| ()));
+    changes(&rt, |to: &mut Pipeline| {
+        let _ = to.cmd("NAME")?;
+        Ok(())
+    });
     changes(&rt, |to: &mut Pipeline| to.push_cmd(LONG));
     changes(&rt, |to: &mut Pipeline| {
-        to.add_command(cmd(alloc, LONG)?).map(|_| ())
+        let _ = to.add_command(cmd(alloc, LONG)?)?;
+        Ok(())
     });
     changes(&rt, |to: &mut Pipeline| to.push_command(cmd(alloc, LONG)?));
 }
@@ -115,7 +128,8 @@ fn arguments_of_pipelines(rt: HostRuntime) {
         if to.is_empty() {
             return Ok(());
         }
-        to.arg(LONG).map(|_| ())
+        let _ = to.arg(LONG)?;
+        Ok(())
     });
     changes(&rt, |to: &mut Pipeline| {
         if to.is_empty() {

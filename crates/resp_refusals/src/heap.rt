@@ -93,6 +93,11 @@ pub fn makes<T: Debug + Drop, W: Debug, F: FnMut() -> RedisResult<T>>(
 )
     requires { F.IsAlwaysCallable call }
 {
-    let text = format!(in rt.alloc(); "Ok({wanted:?})").expect(rt, "no refusal");
+    let text = as_answer(rt, wanted);
     answers(rt, text.as_str(), call);
+}
+
+/// The Debug text of an answer that shows as this value.
+fn as_answer<W: Debug>(rt: &(impl Abort + AllocGlobal), wanted: &W) -> String {
+    format!(in rt.alloc(); "Ok({wanted:?})").expect(rt, "no refusal")
 }

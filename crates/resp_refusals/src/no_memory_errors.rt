@@ -65,10 +65,8 @@ fn texts(rt: HostRuntime) {
     assert_eq!(rt; Description::from("short").as_str(), "short");
     assert_eq!(rt; ParsingError::from("text").description(), "text");
     let fault = ParsingError::from(FrameFault::NotInteger);
-    assert_eq!(rt;
-        fault.frame_fault().map(|fault| fault.text()),
-        Some("line is not an integer")
-    );
+    assert_eq!(rt; fault.frame_fault(), Some(FrameFault::NotInteger));
+    assert_eq!(rt; fault.description(), FrameFault::NotInteger.text());
     assert!(rt; ParsingError::from(AllocError).is_out_of_memory());
     assert!(rt; ParsingError::from(AllocFailed { value: 1u8 }).is_out_of_memory());
     assert_eq!(rt;
@@ -83,12 +81,11 @@ fn texts(rt: HostRuntime) {
 #[test]
 fn faults_of_texts(rt: HostRuntime) {
     let bytes = Vec::from_slice(rt.alloc(), b"\xff").expect(&rt, "no refusal");
-    let owned = String::from_utf8(bytes);
+    let owned = String::from_utf8(bytes).expect_err(&rt, "no text");
+    let borrowed = std::str::from_utf8(b"\xff").expect_err(&rt, "no text");
     refuse_all(rt.alloc());
-    let borrowed = std::str::from_utf8(b"\xff")
-        .map(|_| ())
-        .map_err(ParsingError::from);
-    assert!(rt; borrowed.is_err());
-    assert!(rt; owned.map(|_| ()).map_err(ParsingError::from).is_err());
+    assert_eq!(rt; ParsingError::from(borrowed).description(), "Invalid UTF-8");
+    let owned = ParsingError::from(owned);
+    assert_eq!(rt; owned.description(), "Cannot convert from UTF-8");
     took_none(&rt);
 }

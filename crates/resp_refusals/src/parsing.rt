@@ -42,10 +42,10 @@ fn has_failed(rt: &impl Abort, parser: &mut Parser) {
 }
 
 /// The call gives this of a parser of these bytes, or memory runs out and the parser has failed.
-fn parses<F: Fn(&mut Parser) -> RedisResult<Option<Value>>>(
+fn parses<T: PartialEq + Drop, F: Fn(&mut Parser) -> RedisResult<Option<T>>>(
     rt: &(impl Abort + AllocGlobal),
     fed: &[u8],
-    wanted: &Option<Value>,
+    wanted: &Option<T>,
     call: F,
 )
     requires { F.IsAlwaysCallable call }
