@@ -34,4 +34,3 @@ named-remove_entry name (e ∷ es) =
     named-cond (is_named name e.0) es (e ∷ remove_entry (is_named name) es)
     ∙ (ap (λ test. cond test (named es) (entry ∷ named (remove_entry (is_named name) es))) (same_test name e.0)
     ∙ ap (λ rest. cond (bytes_eq name (string_bytes e.0)) (named es) (entry ∷ rest)) (named-remove_entry name es))
-

@@ -1,12 +1,15 @@
 //! The fields of a reply by name.
 
-ghost use Rattle.std.specs.Prelude.{◌≡◌, ◌↔◌, [], IfErr, IsTrue, length};
+ghost use Rattle.std.specs.Prelude.{◌≡◌, ◌↔◌, ◌++◌, [], IfErr, IsTrue, OnOk, length};
 ghost use Rattle.resp_from.specs.Conversion.{Converts};
 ghost use Rattle.resp_fields.specs.Fields.{missing, value_of, without, OfField, OfFieldOr};
+ghost use Rattle.resp_fields.specs.Rows.{texts, values_of, values_or_nil, without_all, row_of};
+ghost use Rattle.resp_fields.specs.Rows.{Finds, FindsRow};
 
 use resp_from::{FromRedisValue, from_redis_value_by};
-use resp_value::{ParsingError, Value};
-use std::alloc::Global;
+use resp_laws::SingleValued;
+use resp_value::{Items, ParsingError, Value};
+use std::alloc::{AllocError, Global};
 use std::collections::BTreeMap;
 use std::marker::Model;
 
@@ -41,6 +44,53 @@ impl Fields {
         ensures left { self.new ≡ without name.now self.old }
     {
         self.entries.remove(name)
+    }
+
+    /// Takes the values of these fields out, in this order, and adds them to a row.
+    ///
+    /// Refused where one isn't there, or on `OutOfMemory`.
+    fn add_needed(&mut self, names: &[&str], row: &mut Vec<Value>) -> Result<(), ParsingError>
+        ensures added { Finds (values_of (texts names.now) self.old) row.old.items row.new.items
+            result }
+        ensures left { OnOk result (self.new ≡ without_all (texts names.now) self.old) }
+    {
+        for name in names {
+            match self.remove(name) {
+                Some(value) => row.push(value)?,
+                None => return Err(ParsingError::from("field is missing")),
+            }
+        }
+        Ok(())
+    }
+
+    /// The same, with `Nil` in the place of a field that isn't there. Fails only when out of
+    /// memory.
+    fn add_optional(&mut self, names: &[&str], row: &mut Vec<Value>) -> Result<(), AllocError>
+        ensures added { OnOk result (row.new.items
+            ≡ row.old.items ++ values_or_nil (texts names.now) self.old) }
+    {
+        for name in names {
+            row.push(self.remove(name).unwrap_or(Value::Nil))?;
+        }
+        Ok(())
+    }
+
+    /// The values of these fields, in this order, as one array: first those that have to be there,
+    /// and then those that may be absent, for which `Nil` stands. They are taken out.
+    ///
+    /// Refused with `field is missing` where one of the first isn't there, or on `OutOfMemory`.
+    pub(crate) fn take_row(
+        &mut self,
+        alloc: Global,
+        needed: &[&str],
+        optional: &[&str],
+    ) -> Result<Value, ParsingError>
+        ensures row { FindsRow (row_of (texts needed.now) (texts optional.now) self.old) result }
+    {
+        let mut row = Vec::new(alloc);
+        self.add_needed(needed, &mut row)?;
+        self.add_optional(optional, &mut row)?;
+        Ok(Value::Array(Items::from(row)))
     }
 
     /// Takes a field out, as a `T`.
@@ -115,4 +165,15 @@ impl FromRedisValue for Fields {
     fn from_redis_value(alloc: Global, value: Value) -> Result<Fields, ParsingError> {
         from_redis_value_by::<BTreeMap<String, Value>, Fields>(alloc, value)
     }
+}
+
+impl SingleValued for Fields {
+    ghost use Rattle.resp_fields.specs.Fields.{Named};
+    ghost use Rattle.resp_fields.specs.OneReply.{same_fields};
+
+    ghost Seen = { Named };
+
+    ghost seen = { λ fields. fields };
+
+    ghost single = { same_fields };
 }

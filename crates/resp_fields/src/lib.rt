@@ -5,4 +5,4 @@ mod fields;
 mod structs;
 
 pub use fields::Fields;
-pub use structs::{FromFields, from_redis_fields};
+pub use structs::{FromFields, from_redis_fields, from_redis_fields_by};
