@@ -5,11 +5,11 @@ use Rattle.resp_errors.specs.declared.parsing_error.ParsingError.{ParsingError}
 use Rattle.resp_value.specs.declared.value.Value.{Value}
 use Rattle.resp_from.specs.Conversion.{Converts, RefusesIf}
 use Rattle.resp_from.proofs.Conversions.{Converts-err, RefusesIf-along}
-use Rattle.resp_fields.specs.Fields.{Named, OfGiven}
+use Rattle.resp_fields.specs.Fields.{NamedValues, OfGiven}
 use Rattle.resp_fields.specs.Rows.{values_of, without_all}
 
 -- what was found of the names while the rest is still to be taken
-pub record Taking (names rest : List (List ℕ)) (start now : Named) (old row : List Value)
+pub record Taking (names rest : List (List ℕ)) (start now : NamedValues) (old row : List Value)
     : Type 0 where
   pub found : option_map (λ values. old ++ values) (values_of names start)
       ≡ option_map (λ values. row ++ values) (values_of rest now)

@@ -12,9 +12,9 @@ use Rattle.resp_from.specs.Conversion.{Converts, OfMade}
 use Rattle.resp_from.specs.Texts.{OfText}
 use Rattle.resp_laws.specs.lemmas.Maps.{one_sorted_map}
 use Rattle.resp_laws.specs.lemmas.Scalars.{one_string}
-use Rattle.resp_fields.specs.Fields.{Named, OfFields}
+use Rattle.resp_fields.specs.Fields.{NamedValues, OfFields}
 
-pub same_fields : (reply : Value) (f g : Named) → OfFields reply f → OfFields reply g → f ≡ g
+pub same_fields : (reply : Value) (f g : NamedValues) → OfFields reply f → OfFields reply g → f ≡ g
 same_fields reply f g h k =
     h.from_gives
     ∙ (one_sorted_map string_cmp string_cmp_total (λ key text. OfText key (string_bytes text))
@@ -23,7 +23,7 @@ same_fields reply f g h k =
     k.made_of.entries h.fits k.fits
     ∙ sym k.from_gives)
 
-pub made_of_fields : {X : Type 0} (Of : Named → X → Type 0) (reply : Value) (fields : Named)
+pub made_of_fields : {X : Type 0} (Of : NamedValues → X → Type 0) (reply : Value) (fields : NamedValues)
     (r : Result X ParsingError) → OfFields reply fields → Converts (Of fields) r
     → Converts (OfMade OfFields Of reply) r
 made_of_fields Of reply fields (Ok x) h made =

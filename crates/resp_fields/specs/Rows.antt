@@ -4,7 +4,7 @@ use Rattle.std.specs.Borrow.{Bor}
 use Rattle.resp_errors.specs.declared.parsing_error.ParsingError.{ParsingError}
 use Rattle.resp_value.specs.declared.value.Value.{Value, Array, Nil}
 use Rattle.resp_from.specs.Conversion.{OfMade, RefusesIf}
-use Rattle.resp_fields.specs.Fields.{Named, value_of, without, OfFields, OfGiven}
+use Rattle.resp_fields.specs.Fields.{NamedValues, value_of, without, OfFields, OfGiven}
 
 -- the texts that these refer to
 abbrev pub texts : List (Bor (List ℕ)) → List (List ℕ)
@@ -16,25 +16,25 @@ before (Some value) values = option_map (λ more. value ∷ more) values
 before None values = None
 
 -- the values of the fields of these names, each taken out in turn, if all are there
-abbrev pub values_of : List (List ℕ) → Named → Option (List Value)
+abbrev pub values_of : List (List ℕ) → NamedValues → Option (List Value)
 values_of [] fields = Some []
 values_of (name ∷ names) fields =
     before (value_of name fields) (values_of names (without name fields))
 
 -- the same, with `Nil` for each that isn't there
-abbrev pub values_or_nil : List (List ℕ) → Named → List Value
+abbrev pub values_or_nil : List (List ℕ) → NamedValues → List Value
 values_or_nil [] fields = []
 values_or_nil (name ∷ names) fields =
     unwrap_or (value_of name fields) Nil ∷ values_or_nil names (without name fields)
 
 -- the fields but those of these names
-abbrev pub without_all : List (List ℕ) → Named → Named
+abbrev pub without_all : List (List ℕ) → NamedValues → NamedValues
 without_all [] fields = fields
 without_all (name ∷ names) fields = without_all names (without name fields)
 
 -- the array of the values of these fields: of the needed ones, if all are there, and then of the
 -- optional ones
-abbrev pub row_of : List (List ℕ) → List (List ℕ) → Named → Option Value
+abbrev pub row_of : List (List ℕ) → List (List ℕ) → NamedValues → Option Value
 row_of needed optional fields =
     option_map (λ values. Array (values ++ values_or_nil optional (without_all needed fields)))
     (values_of needed fields)

@@ -1,15 +1,13 @@
 //! The fields of a reply by name.
 
-ghost use Rattle.std.specs.Prelude.{◌≡◌, ◌↔◌, ◌++◌, [], IfErr, IsTrue, OnOk, length};
+ghost use Rattle.std.specs.Prelude.{◌≡◌, ◌↔◌, [], IfErr, IsTrue, length};
 ghost use Rattle.resp_from.specs.Conversion.{Converts};
-ghost use Rattle.resp_fields.specs.Fields.{missing, value_of, without, OfField, OfFieldOr};
-ghost use Rattle.resp_fields.specs.Rows.{texts, values_of, values_or_nil, without_all, row_of};
-ghost use Rattle.resp_fields.specs.Rows.{Finds, FindsRow};
+ghost use Rattle.resp_fields.specs.Fields.{field_is_missing, value_of, without, OfField, OfFieldOr};
 
 use resp_from::{FromRedisValue, from_redis_value_by};
 use resp_laws::SingleValued;
-use resp_value::{Items, ParsingError, Value};
-use std::alloc::{AllocError, Global};
+use resp_value::{ParsingError, Value};
+use std::alloc::Global;
 use std::collections::BTreeMap;
 use std::marker::Model;
 
@@ -28,9 +26,9 @@ pub struct Fields {
 impl Model for Fields {
     ghost use Rattle.std.specs.Coded.{codes};
     ghost use Rattle.resp_value.specs.contracts.value.Value as reply;
-    ghost use Rattle.resp_fields.specs.Fields.{Named, named};
+    ghost use Rattle.resp_fields.specs.Fields.{NamedValues, named};
 
-    ghost Value = { Named };
+    ghost Value = { NamedValues };
 
     ghost coded = { Prim.hlevel (codes, reply.the_row.coded) };
 
@@ -38,77 +36,32 @@ impl Model for Fields {
 }
 
 impl Fields {
-    /// Takes the value of a field out.
-    fn remove(&mut self, name: &str) -> Option<Value>
+    /// Takes the value of a field out, if it is there. Takes no memory.
+    pub(crate) fn remove(&mut self, name: &str) -> Option<Value>
         ensures value { result ≡ value_of name.now self.old }
         ensures left { self.new ≡ without name.now self.old }
     {
         self.entries.remove(name)
     }
 
-    /// Takes the values of these fields out, in this order, and adds them to a row.
-    ///
-    /// Refused where one isn't there, or on `OutOfMemory`.
-    fn add_needed(&mut self, names: &[&str], row: &mut Vec<Value>) -> Result<(), ParsingError>
-        ensures added { Finds (values_of (texts names.now) self.old) row.old.items row.new.items
-            result }
-        ensures left { OnOk result (self.new ≡ without_all (texts names.now) self.old) }
-    {
-        for name in names {
-            match self.remove(name) {
-                Some(value) => row.push(value)?,
-                None => return Err(ParsingError::from("field is missing")),
-            }
-        }
-        Ok(())
-    }
-
-    /// The same, with `Nil` in the place of a field that isn't there. Fails only when out of
-    /// memory.
-    fn add_optional(&mut self, names: &[&str], row: &mut Vec<Value>) -> Result<(), AllocError>
-        ensures added { OnOk result (row.new.items
-            ≡ row.old.items ++ values_or_nil (texts names.now) self.old) }
-    {
-        for name in names {
-            row.push(self.remove(name).unwrap_or(Value::Nil))?;
-        }
-        Ok(())
-    }
-
-    /// The values of these fields, in this order, as one array: first those that have to be there,
-    /// and then those that may be absent, for which `Nil` stands. They are taken out.
-    ///
-    /// Refused with `field is missing` where one of the first isn't there, or on `OutOfMemory`.
-    pub(crate) fn take_row(
-        &mut self,
-        alloc: Global,
-        needed: &[&str],
-        optional: &[&str],
-    ) -> Result<Value, ParsingError>
-        ensures row { FindsRow (row_of (texts needed.now) (texts optional.now) self.old) result }
-    {
-        let mut row = Vec::new(alloc);
-        self.add_needed(needed, &mut row)?;
-        self.add_optional(optional, &mut row)?;
-        Ok(Value::Array(Items::from(row)))
-    }
-
     /// Takes a field out, as a `T`.
     ///
-    /// Refused with `field is missing` where it isn't there, and as the conversion refuses; the
-    /// field is taken out then too. Takes no memory but what the conversion takes.
+    /// Refused with `field is missing` where it isn't there, and as the conversion of its value
+    /// refuses; it is taken out then too. Takes no memory but what the conversion takes.
     pub fn take<T: FromRedisValue>(&mut self, alloc: Global, name: &str) -> Result<T, ParsingError>
         ensures converts { Converts (OfField name.now T.of_value self.old) result }
-        ensures errors { IfErr result (OfFieldOr name.now T.error_of_value missing self.old) }
+        ensures errors { IfErr result
+            (OfFieldOr name.now T.error_of_value field_is_missing self.old) }
         ensures left { self.new ≡ without name.now self.old }
     {
         match self.remove(name) {
-            Some(value) => T::from_redis_value(alloc, value),
+            Some(found) => T::from_redis_value(alloc, found),
             None => Err(ParsingError::from("field is missing")),
         }
     }
 
-    /// Takes a field out, as a `T`, or answers the default where it isn't there.
+    /// Takes a field out, as a `T`, or answers the default where it isn't there. Refused as the
+    /// conversion of its value refuses; it is taken out then too.
     pub fn take_or<T: FromRedisValue>(
         &mut self,
         alloc: Global,
@@ -168,10 +121,10 @@ impl FromRedisValue for Fields {
 }
 
 impl SingleValued for Fields {
-    ghost use Rattle.resp_fields.specs.Fields.{Named};
+    ghost use Rattle.resp_fields.specs.Fields.{NamedValues};
     ghost use Rattle.resp_fields.specs.OneReply.{same_fields};
 
-    ghost Seen = { Named };
+    ghost Seen = { NamedValues };
 
     ghost seen = { λ fields. fields };
 

@@ -2,7 +2,9 @@
 #![tactic(auto)]
 
 mod fields;
+mod rows;
 mod structs;
 
 pub use fields::Fields;
-pub use structs::{FromFields, from_redis_fields, from_redis_fields_by};
+pub use rows::from_redis_fields_by;
+pub use structs::{FromFields, from_redis_fields};

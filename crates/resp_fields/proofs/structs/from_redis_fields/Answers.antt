@@ -1,5 +1,4 @@
 use Rattle.resp_from.proofs.Conversions.{Converts-shape}
-use Rattle.resp_fields.specs.Fields.{OfFields}
 use Rattle.resp_fields.specs.OneReply.{made_of_fields}
 use Rattle.resp_fields.proofs.structs.from_redis_fields.Goals as goal
 

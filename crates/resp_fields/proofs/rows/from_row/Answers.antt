@@ -1,5 +1,5 @@
 use Rattle.resp_fields.proofs.TakingRows.{no_row, of_row}
-use Rattle.resp_fields.proofs.structs.from_row.Goals as goal
+use Rattle.resp_fields.proofs.rows.from_row.Goals as goal
 
 pub returns-in_err-row : goal.returns-in_err-row
 returns-in_err-row g c = record { converts = no_row _ _ _ _ c.from_residual.ensures c.in_err-row.ensures.row }
