@@ -13,7 +13,8 @@ use Rattle.resp_fields.specs.Fields.{named, value_of, without}
 abbrev is_named : List ℕ → String Global → Bool
 is_named name key = is_at (λ k. slice_cmp nat_cmp name (string_bytes k)) key
 
-same_test : (name : List ℕ) (key : String Global) → is_named name key ≡ bytes_eq name (string_bytes key)
+same_test : (name : List ℕ) (key : String Global)
+    → is_named name key ≡ bytes_eq name (string_bytes key)
 same_test name key = is_eq-slice_cmp name (string_bytes key)
 
 pub lookup-named : (name : List ℕ) (es : List (String Global × Value))
@@ -23,14 +24,19 @@ lookup-named name (e ∷ es) =
     ap (λ test. cond test (Some e.1) (lookup (is_named name) es)) (same_test name e.0)
     ∙ ap (cond (bytes_eq name (string_bytes e.0)) (Some e.1)) (lookup-named name es)
 
-named-cond : (test : Bool) (es ds : List (String Global × Value)) → named (cond test es ds) ≡ cond test (named es) (named ds)
-named-cond test es ds = elim test as (λ t. named (cond t es ds) ≡ cond t (named es) (named ds)) [ true ↦ refl | false ↦ refl ]
+named-cond : (test : Bool) (es ds : List (String Global × Value))
+    → named (cond test es ds) ≡ cond test (named es) (named ds)
+named-cond true es ds = refl
+named-cond false es ds = refl
 
 pub named-remove_entry : (name : List ℕ) (es : List (String Global × Value))
-    → named (remove_entry (is_at (λ k. slice_cmp nat_cmp name (string_bytes k))) es) ≡ without name (named es)
+    → named (remove_entry (is_at (λ k. slice_cmp nat_cmp name (string_bytes k))) es)
+    ≡ without name (named es)
 named-remove_entry name [] = refl
 named-remove_entry name (e ∷ es) =
     let entry : List ℕ × Value = (string_bytes e.0, e.1) in
     named-cond (is_named name e.0) es (e ∷ remove_entry (is_named name) es)
-    ∙ (ap (λ test. cond test (named es) (entry ∷ named (remove_entry (is_named name) es))) (same_test name e.0)
-    ∙ ap (λ rest. cond (bytes_eq name (string_bytes e.0)) (named es) (entry ∷ rest)) (named-remove_entry name es))
+    ∙ (ap (λ test. cond test (named es) (entry ∷ named (remove_entry (is_named name) es)))
+    (same_test name e.0)
+    ∙ ap (λ rest. cond (bytes_eq name (string_bytes e.0)) (named es) (entry ∷ rest))
+    (named-remove_entry name es))

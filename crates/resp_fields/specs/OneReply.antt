@@ -23,9 +23,9 @@ same_fields reply f g h k =
     k.made_of.entries h.fits k.fits
     ∙ sym k.from_gives)
 
-pub made_of_fields : {X : Type 0} (Of : NamedValues → X → Type 0) (reply : Value) (fields : NamedValues)
-    (r : Result X ParsingError) → OfFields reply fields → Converts (Of fields) r
-    → Converts (OfMade OfFields Of reply) r
+pub made_of_fields : {X : Type 0} (Of : NamedValues → X → Type 0) (reply : Value)
+    (fields : NamedValues) (r : Result X ParsingError) → OfFields reply fields
+    → Converts (Of fields) r → Converts (OfMade OfFields Of reply) r
 made_of_fields Of reply fields (Ok x) h made =
     record { made_of = fields; fits = h; from_gives = made }
 made_of_fields {X} Of reply fields (Err e) h none =

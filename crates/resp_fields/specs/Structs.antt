@@ -4,8 +4,8 @@ use Rattle.resp_value.specs.declared.value.Value.{Value}
 use Rattle.resp_fields.specs.Fields.{NamedValues, without, OfField, OfFieldOr}
 
 -- the field of this name is x, and the other fields are as the fact says
-abbrev pub Field : {X : Type 0} → List ℕ → (Value → X → Type 0) → X → (NamedValues → Type 0) → NamedValues
-    → Type 0
+abbrev pub Field : {X : Type 0} → List ℕ → (Value → X → Type 0) → X → (NamedValues → Type 0)
+    → NamedValues → Type 0
 Field name Of x Rest fields = OfField name Of fields x × Rest (without name fields)
 
 -- the same, where x is the default if there is no such field

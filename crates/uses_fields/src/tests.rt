@@ -70,7 +70,7 @@ fn a_missing_field_and_a_wrong_one_are_refused(rt: HostRuntime) {
     assert!(rt; refuses::<Account>(&rt, "*2\r\n+name\r\n+Ada\r\n", "field is missing"));
     assert!(rt; refuses::<Account>(&rt, "+OK\r\n", "Response type not hashmap compatible"));
     let wrong =
-        "*10\r\n+name\r\n+B\r\n+age\r\n:70000\r\n+motto\r\n+m\r\n+visits\r\n:0\r\n+active\r\n:0\r\n";
+        "*10\r\n+name\r\n+B\r\n+age\r\n:-1\r\n+motto\r\n+m\r\n+visits\r\n:0\r\n+active\r\n:0\r\n";
     assert!(rt; read::<Account>(&rt, wrong).is_err());
 }
 
