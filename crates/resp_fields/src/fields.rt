@@ -54,10 +54,10 @@ impl Fields {
             (OfFieldOr name.now T.error_of_value field_is_missing self.old) }
         ensures left { self.new ≡ without name.now self.old }
     {
-        match self.remove(name) {
-            Some(found) => T::from_redis_value(alloc, found),
-            None => Err(ParsingError::from("field is missing")),
-        }
+        let Some(found) = self.remove(name) else {
+            return Err(ParsingError::from("field is missing"));
+        };
+        T::from_redis_value(alloc, found)
     }
 
     /// Takes a field out, as a `T`, or answers the default where it isn't there. Refused as the
