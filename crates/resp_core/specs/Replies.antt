@@ -4,6 +4,10 @@ pub use Rattle.resp_errors.specs.Errors.{server_errors_of}
 pub use Rattle.resp_errors.specs.Memory.{OnlyMemory}
 pub use Rattle.resp_errors.specs.Redirects.{RedirectsTo}
 pub use Rattle.resp_errors.specs.Retries.{is_dropped, is_of_cluster, replaces_connection, retry_of}
+pub use Rattle.resp_fields.specs.Fields.{NamedValues, OfField, OfFieldOr, OfFields, value_of}
+pub use Rattle.resp_fields.specs.Fields.{without}
+pub use Rattle.resp_fields.specs.Rows.{OfRow, row_of}
+pub use Rattle.resp_fields.specs.Structs.{AnyOthers, Field, FieldOr, NoOthers}
 pub use Rattle.resp_from.specs.Conversion.{Converts, ConvertsCall, OfMade}
 pub use Rattle.resp_from.specs.Lists.{OfArray, OfVec}
 pub use Rattle.resp_from.specs.Maps.{HoldsMap, HoldsSet, OfMap, OfSet}

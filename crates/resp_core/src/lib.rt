@@ -24,6 +24,7 @@ pub use resp_args::{
 pub use resp_command::{
     Arg, ArgsIter, Cmd, ConnectionLike, Iter, Scan, ScanProgress, cmd, pack_command,
 };
+pub use resp_fields::{Fields, FromFields, from_redis_fields, from_redis_fields_by};
 pub use resp_from::{FromRedisValue, from_redis_value, from_redis_value_by, from_redis_value_ref};
 pub use resp_link::{ByteLink, CommandSink, Writing};
 pub use resp_parse::{Limits, Parser, Reading, ReplySource, parse_redis_value};

@@ -1,0 +1,4 @@
+pub mod Fields
+pub mod OneReply
+pub mod Rows
+pub mod Structs
