@@ -10,6 +10,8 @@ mod conversions;
 #[cfg(test)]
 mod copies;
 #[cfg(test)]
+mod fields;
+#[cfg(test)]
 mod heap;
 #[cfg(test)]
 mod links;

@@ -8,12 +8,13 @@ use crate::links::link;
 use crate::made::get;
 use crate::subjects::Subject;
 use resp_core::{
-    ArgList, ArgWriter, Boxed, ByteLink, Cmd, CommandSink, ConnectionLike, FromRedisValue,
+    ArgList, ArgWriter, Boxed, ByteLink, Cmd, CommandSink, ConnectionLike, Fields, FromRedisValue,
     InfoDict, IntegerReplyOrNoOp, Items, Limits, NumericBehavior, Parser, Pipeline,
     ProtocolVersion, PushKind, Reading, RedisWrite, ReplySource, Text, ToRedisArgs, Value,
     ValueType, VerbatimFormat, Writing, from_redis_value, from_redis_value_ref, get_push_kind,
     is_valid_16_bytes_hex_digest, parse_redis_value, pipe, verbatim_format,
 };
+use std::collections::BTreeMap;
 use std::process::Abort;
 
 /// No request was made since all were refused.
@@ -217,5 +218,14 @@ fn names(rt: HostRuntime) {
     assert_eq!(rt; of_a_value.name(), "xyz");
     assert!(rt; info.find(&"role").is_some() && info.contains_key(&"role"));
     assert!(rt; info.len() == 1 && !info.is_empty() && info.as_map().len() == 1);
+    took_none(&rt);
+}
+
+#[test]
+fn fields(rt: HostRuntime) {
+    let entries = BTreeMap::new(rt.alloc());
+    refuse_all(rt.alloc());
+    let fields = Fields::from(entries);
+    assert!(rt; fields.is_empty() && fields.len() == 0);
     took_none(&rt);
 }
