@@ -113,9 +113,15 @@ fn the_latest_cursor_is_sent(rt: HostRuntime) {
     command.set_cursor(7);
     let wanted = "*4\r\n$1\r\nA\r\n$1\r\n7\r\n$1\r\nb\r\n$1\r\n7\r\n";
     packs(&rt, &command, wanted);
+}
+
+#[test]
+fn a_cleared_command_has_no_cursor(rt: HostRuntime) {
+    let mut command = with_cursor(&rt, &["key", "value"], 24);
     let _ = command.set_no_response(true);
     command.clear();
     lists(&rt, &command, "");
+    packs(&rt, &command, "");
     assert!(rt; !command.in_scan_mode() && !command.is_no_response());
 }
 

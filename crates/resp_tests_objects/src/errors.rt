@@ -13,6 +13,7 @@ fn prints(rt: &impl Test, error: &RedisError, wanted: &str) {
     shows(rt, error, wanted);
     debugs(rt, error, wanted);
     equals(rt, error.try_clone(rt.alloc()), error);
+    assert!(rt; *error == *error);
 }
 
 /// The error that was made prints this.
