@@ -3,12 +3,14 @@
 #![tactic(auto)]
 
 #[cfg(test)]
-mod calls;
+mod adapters;
 #[cfg(test)]
 mod checks;
 #[cfg(test)]
-mod failures;
-#[cfg(test)]
 mod links;
 #[cfg(test)]
+mod parsers;
+#[cfg(test)]
 mod scans;
+#[cfg(test)]
+mod sessions;

@@ -77,7 +77,7 @@ fn a_cleared_command_is_new(rt: HostRuntime) {
     assert!(rt; roomy.is_empty() && !roomy.in_scan_mode() && !roomy.is_no_response());
 }
 
-/// The iterator of the command's arguments gives these, each with a space after it; `@` is a cursor.
+/// The command's arguments are these, each with a space after it; `@` is a cursor.
 fn lists(rt: &impl Test, command: &Cmd, wanted: &str) {
     let count = wanted.matches(' ').count();
     assert_eq!(rt; command.args_iter().size_hint(), (count, Some(count)));
