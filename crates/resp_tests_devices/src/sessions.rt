@@ -7,44 +7,33 @@ use resp_core::{ByteLink, IoKind, Limits, ReplySource, Writing};
 use resp_testing::{Call, session_text};
 use std::io::ErrorKind;
 
+/// `PING` is sent once over a link that reads so; this shows before what is sent.
+fn pings_once(rt: &impl Test, reader: Spec, wanted: &str) {
+    let devices = (device(rt, reader), device(rt, TAKES_ALL));
+    let text = session_text(rt.alloc(), Limits::default(), devices, &[Call::Ping]);
+    let sent = ", 1 writes, 1 flushes: *1\r\n$4\r\nPING\r\n";
+    assert_eq!(rt; text.strip_suffix(sent), Some(wanted));
+}
+
+const RESET: Option<ErrorKind> = Some(ErrorKind::ConnectionReset);
+
 #[test]
 fn a_query_flushes_its_writer(rt: HostRuntime) {
+    pings_once(&rt, (b"$2\r\n42\r\n", 1, 0, None), "42; usable [], 8 reads");
     // The second reply is there already, and nothing is asked for it.
-    let reader = (
-        b"$2\r\n42\r\n:7\r\n".as_slice(),
-        99,
-        2,
-        Some(ErrorKind::ConnectionReset),
-    );
-    let wanted = "42; 7; usable [], 1 reads, 2 writes, 2 flushes: \
-        *1\r\n$4\r\nPING\r\n*1\r\n$4\r\nPING\r\n";
-    ends_as(&rt, (reader, TAKES_ALL), &[Call::Ping, Call::Ping], wanted);
-    let wanted = "42; usable [], 8 reads, 14 writes, 1 flushes: *1\r\n$4\r\nPING\r\n";
-    let reader = (b"$2\r\n42\r\n".as_slice(), 1, 0, None);
-    ends_as(&rt, (reader, (b"", 1, 0, None)), &[Call::Ping], wanted);
+    let reader = (b"$2\r\n42\r\n:7\r\n".as_slice(), 99, 2, RESET);
+    let wanted = "42; 7; ConnectionReset; broken [], 2 reads, 42 writes, 3 flushes: \
+        *1\r\n$4\r\nPING\r\n*1\r\n$4\r\nPING\r\n*1\r\n$4\r\nPING\r\n";
+    ends_as(&rt, (reader, (b"", 1, 0, None)), &[Call::Ping; 3], wanted);
 }
 
 #[test]
 fn nothing_is_asked_after_a_refusal(rt: HostRuntime) {
-    for (reader, wanted) in [
-        (
-            (b":x\r\n:1\r\n".as_slice(), 4, 0, None),
-            "NotInteger; broken [], 1 reads, 1 writes, 1 flushes: *1\r\n$4\r\nPING\r\n",
-        ),
-        (
-            (b":1\r\n", 2, 2, None),
-            "UnexpectedEof; broken [], 2 reads, 1 writes, 1 flushes: *1\r\n$4\r\nPING\r\n",
-        ),
-        (
-            (b":1\r\n", 4, 1, Some(ErrorKind::Interrupted)),
-            "Interrupted; broken [], 1 reads, 1 writes, 1 flushes: *1\r\n$4\r\nPING\r\n",
-        ),
-        (
-            (b"$1\r\n1\r\n", 4, 2, Some(ErrorKind::TimedOut)),
-            "TimedOut; broken [], 2 reads, 1 writes, 1 flushes: *1\r\n$4\r\nPING\r\n",
-        ),
-    ] {
-        ends_as(&rt, (reader, TAKES_ALL), &[Call::Ping], wanted);
+    each! { pings_once, rt;
+        (b":x\r\n:1\r\n", 4, 0, None) => "NotInteger; broken [], 1 reads",
+        (b":1\r\n", 2, 2, None) => "UnexpectedEof; broken [], 2 reads",
+        (b":1\r\n", 4, 1, Some(ErrorKind::Interrupted)) => "Interrupted; broken [], 1 reads",
+        (b"$1\r\n1\r\n", 4, 2, Some(ErrorKind::TimedOut)) => "TimedOut; broken [], 2 reads",
     }
 }
 
@@ -139,57 +128,35 @@ const ALL: &[Call] = &[
     Call::Transaction,
 ];
 
+/// These calls over devices of single bytes that fail at these calls break the link at the first,
+/// and this shows after the refusals of the others.
+fn breaks_at_first(
+    rt: &impl Test,
+    (incoming, read, write): (&'static [u8], usize, usize),
+    wanted: &str,
+) {
+    let reader = (incoming, 1, read, Some(ErrorKind::TimedOut));
+    let writer = (b"".as_slice(), 1, write, Some(ErrorKind::BrokenPipe));
+    let devices = (device(rt, reader), device(rt, writer));
+    let text = session_text(rt.alloc(), Limits::default(), devices, ALL);
+    let (first, rest) = text.split_once("; ").unwrap_or(("", ""));
+    let rest = rest.trim_start_matches("link is broken - Io; ");
+    assert_eq!(rt; (first, rest), wanted.split_once("; ").unwrap_or(("", "")));
+    assert_eq!(rt; text.matches("link is broken - Io; ").count(), 8);
+}
+
 #[test]
 fn a_broken_link_asks_nothing(rt: HostRuntime) {
-    let push = "[PushInfo { kind: Message, payload: [int(1)] }]";
-    let faulty = b">2\r\n+message\r\n:1\r\n:x\r\n:2\r\n:3\r\n".as_slice();
+    const FAULTY: &[u8] = b">2\r\n+message\r\n:1\r\n:x\r\n:2\r\n:3\r\n";
     // Bytes that are no reply, an early end, a reader that fails, and a writer that fails.
-    for (incoming, read, write, first, pushes, rest) in [
-        (
-            faulty,
-            0,
-            0,
-            "NotInteger",
-            push,
-            "22 reads, 14 writes, 1 flushes: *1\r\n$4\r\nPING\r\n",
-        ),
-        (
-            &faulty[..18],
-            0,
-            0,
-            "UnexpectedEof",
-            push,
-            "19 reads, 14 writes, 1 flushes: *1\r\n$4\r\nPING\r\n",
-        ),
-        (
-            faulty,
-            20,
-            0,
-            "TimedOut",
-            push,
-            "20 reads, 14 writes, 1 flushes: *1\r\n$4\r\nPING\r\n",
-        ),
-        (
-            faulty,
-            0,
-            3,
-            "BrokenPipe",
-            "[]",
-            "0 reads, 3 writes, 0 flushes: *1",
-        ),
-    ] {
-        let again = "link is broken - Io; "
-            .repeat(rt.alloc(), 8)
-            .expect(&rt, "memory");
-        let wanted = format!(in rt.alloc(); "{first}; {again}broken {pushes}, {rest}");
-        let reader = (incoming, 1, read, Some(ErrorKind::TimedOut));
-        let writer = (b"".as_slice(), 1, write, Some(ErrorKind::BrokenPipe));
-        ends_as(
-            &rt,
-            (reader, writer),
-            ALL,
-            wanted.expect(&rt, "memory").as_str(),
-        );
+    each! { breaks_at_first, rt;
+        (FAULTY, 0, 0) => "NotInteger; broken [PushInfo { kind: Message, payload: [int(1)] }], \
+            22 reads, 14 writes, 1 flushes: *1\r\n$4\r\nPING\r\n",
+        (&FAULTY[..18], 0, 0) => "UnexpectedEof; broken [PushInfo { kind: Message, payload: \
+            [int(1)] }], 19 reads, 14 writes, 1 flushes: *1\r\n$4\r\nPING\r\n",
+        (FAULTY, 20, 0) => "TimedOut; broken [PushInfo { kind: Message, payload: [int(1)] }], \
+            20 reads, 14 writes, 1 flushes: *1\r\n$4\r\nPING\r\n",
+        (FAULTY, 0, 3) => "BrokenPipe; broken [], 0 reads, 3 writes, 0 flushes: *1",
     }
 }
 
@@ -212,28 +179,30 @@ fn calls_that_leave_a_link_usable(rt: HostRuntime) {
     ends_as(&rt, (reader, TAKES_ALL), calls.as_slice(), wanted);
 }
 
+/// A link of these limits over these bytes answers two calls so, and then this shows.
+fn is_limited(
+    rt: &impl Test,
+    (incoming, depth, bytes): (&'static [u8], usize, usize),
+    wanted: &str,
+) {
+    let devices = (device(rt, (incoming, 5, 0, None)), device(rt, TAKES_ALL));
+    let limits = Limits { depth, bytes };
+    let text = session_text(rt.alloc(), limits, devices, &[Call::Ping, Call::Ping]);
+    assert_eq!(rt;
+        text.split_once(" []").unwrap_or((text.as_str(), "")).0,
+        wanted
+    );
+}
+
 #[test]
 fn links_of_limits(rt: HostRuntime) {
-    let ends = "broken [], 2 reads, 2 writes, 2 flushes: *1\r\n$4\r\nPING\r\n*1\r\n$4\r\nPING\r\n";
-    let size = "size limit must be 1 to 2^63 - 1 bytes - InvalidClientConfig";
-    let levels = "depth limit must be 1 to 1000 - InvalidClientConfig";
-    for (incoming, depth, bytes, wanted, ends) in [
-        (
-            b":5\r\n*1\r\n:7\r\n".as_slice(),
-            1,
-            100,
-            "5; TooDeep; ",
-            ends,
-        ),
-        (b":5\r\n:67\r\n", 1, 4, "5; TooLong; ", ends),
-        (b":5\r\n", 1, 0, size, ""),
-        (b":5\r\n", 0, 1, levels, ""),
-        (b":5\r\n", 1001, 1, levels, ""),
-    ] {
-        let devices = (device(&rt, (incoming, 5, 0, None)), device(&rt, TAKES_ALL));
-        let limits = Limits { depth, bytes };
-        let text = session_text(rt.alloc(), limits, devices, &[Call::Ping, Call::Ping]);
-        assert_eq!(rt; text.strip_prefix(wanted), Some(ends), "{wanted}");
+    each! { is_limited, rt;
+        (b":5\r\n*1\r\n:7\r\n", 1, 100) => "5; TooDeep; broken",
+        (b":5\r\n:67\r\n", 1, 4) => "5; TooLong; broken",
+        (b":5\r\n:6\r\n", 1, 4) => "5; 6; usable",
+        (b"", 1, 0) => "size limit must be 1 to 2^63 - 1 bytes - InvalidClientConfig",
+        (b"", 0, 1) => "depth limit must be 1 to 1000 - InvalidClientConfig",
+        (b"", 1001, 1) => "depth limit must be 1 to 1000 - InvalidClientConfig",
     }
 }
 
