@@ -13,8 +13,8 @@ fn arguments_in_a_chain(rt: HostRuntime) {
     let _ = key.arg(42i32).expect(&rt, "memory");
     packs(&rt, &set, "*3\r\n$3\r\nSET\r\n$6\r\nmy_key\r\n$2\r\n42\r\n");
     set.clear();
-    answers(&rt, set.open_arg(), "()");
-    answers(&rt, set.extend_arg(b"GET"), "()");
+    set.open_arg().expect(&rt, "memory");
+    set.extend_arg(b"GET").expect(&rt, "memory");
     packs(&rt, &set, "*1\r\n$3\r\nGET\r\n");
 }
 
@@ -134,8 +134,9 @@ fn copies_keep_their_cursor(rt: HostRuntime) {
     copy.set_cursor(4);
     packs(&rt, &copy, "*2\r\n$1\r\nA\r\n$1\r\n4\r\n");
     // An extended cursor is an ordinary argument.
-    answers(&rt, taken.extend_arg(b"x"), "()");
+    taken.push_cursor_arg(6).expect(&rt, "memory");
+    taken.extend_arg(b"x").expect(&rt, "memory");
     taken.set_cursor(5);
-    packs(&rt, &taken, "*2\r\n$1\r\nA\r\n$2\r\n3x\r\n");
-    lists(&rt, &taken, "A 3x ");
+    packs(&rt, &taken, "*3\r\n$1\r\nA\r\n$1\r\n5\r\n$2\r\n6x\r\n");
+    lists(&rt, &taken, "A @ 6x ");
 }
