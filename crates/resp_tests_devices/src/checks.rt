@@ -1,8 +1,9 @@
-//! What the tests assert of answers, and the command that they ask.
+//! What the tests assert, and the devices that they make.
 
-use resp_core::{Cmd, ConnectionLike, FromRedisValue, RedisResult, cmd};
-use resp_testing::{MemoryLink, answer_text, link_over, sent_text};
+use resp_core::{ConnectionLike, Limits, RedisResult};
+use resp_testing::{Call, Device, MemoryLink, answer_text, command, link_over, session_text};
 use std::fmt::Debug;
+use std::io::ErrorKind;
 use std::process::Abort;
 
 /// A test's runtime.
@@ -20,22 +21,10 @@ pub fn answers<T: Debug + Drop>(rt: &impl Test, answer: RedisResult<T>, wanted: 
     is(rt, answer_text(rt.alloc(), answer), wanted);
 }
 
-/// `PING`.
-pub fn ping(rt: &impl Test) -> Cmd {
-    cmd(rt.alloc(), "PING").expect(rt, "memory")
-}
-
-/// What `PING` is sent as.
-pub const PING: &str = "*1\r\n$4\r\nPING\r\n";
-
-/// What `PING` is answered, as a value of the type.
-pub fn asked<T: FromRedisValue>(rt: &impl Test, con: &mut dyn ConnectionLike) -> RedisResult<T> {
-    ping(rt).query(con)
-}
-
 /// `PING` is answered this, as an integer.
 pub fn gives(rt: &impl Test, con: &mut dyn ConnectionLike, wanted: &str) {
-    answers(rt, asked::<i64>(rt, con), wanted);
+    let ping = command(rt.alloc(), &["PING"]).expect(rt, "memory");
+    answers(rt, ping.query::<i64>(con), wanted);
 }
 
 /// A link on which these bytes come in.
@@ -43,7 +32,23 @@ pub fn link(rt: &impl Test, incoming: &[u8]) -> MemoryLink {
     link_over(rt.alloc(), incoming).expect(rt, "memory")
 }
 
-/// The link has sent these bytes.
-pub fn has_sent(rt: &impl Test, link: MemoryLink, wanted: &str) {
-    is(rt, sent_text(rt.alloc(), link), wanted);
+/// A device's text, how many bytes a call moves at most, and the call that fails and how.
+pub type Spec = (&'static [u8], usize, usize, Option<ErrorKind>);
+
+/// The device of a spec.
+pub fn device(rt: &impl Test, (text, each, at, fault): Spec) -> Device {
+    Device::failing(rt.alloc(), text, each, at, fault)
+}
+
+/// A writer that takes all.
+pub const TAKES_ALL: Spec = (b"", usize::MAX, 0, None);
+
+/// A link over these devices answers these calls so, and shows this in the end.
+pub fn ends_as(rt: &impl Test, (reader, writer): (Spec, Spec), calls: &[Call], wanted: &str) {
+    let devices = (device(rt, reader), device(rt, writer));
+    is(
+        rt,
+        session_text(rt.alloc(), Limits::default(), devices, calls),
+        wanted,
+    );
 }

@@ -1,6 +1,6 @@
 //! Scans that are lent their connection, that lose it, and that never end.
 
-use crate::checks::{Test, answers, gives, has_sent, is, link};
+use crate::checks::{Test, answers, gives, is, link};
 use resp_core::{Cmd, RedisResult, ScanProgress};
 use resp_testing::{MemoryLink, command, refusal_text, sent_text};
 
@@ -57,7 +57,7 @@ fn a_scan_over_a_link_that_breaks(rt: HostRuntime) {
     gives_next(&rt, &mut scan, &mut link, wanted.as_slice());
     // The second request found a broken link.
     let sent = "*2\r\n$4\r\nSCAN\r\n$1\r\n0\r\n*2\r\n$4\r\nSCAN\r\n$1\r\n7\r\n";
-    has_sent(&rt, link, sent);
+    is(&rt, sent_text(rt.alloc(), link), sent);
 }
 
 #[test]
@@ -91,10 +91,10 @@ fn a_refused_scan_asks_once(rt: HostRuntime) {
         assert!(rt; refusal(&rt, &mut link, scan_command(&rt)).starts_with("Incompatible type"));
         gives(&rt, &mut link, "9");
         let sent = "*2\r\n$4\r\nSCAN\r\n$1\r\n0\r\n*1\r\n$4\r\nPING\r\n";
-        has_sent(&rt, link, sent);
+        is(&rt, sent_text(rt.alloc(), link), sent);
     }
     let mut link = link(&rt, b"");
     let refused = refusal(&rt, &mut link, Cmd::new(rt.alloc()));
     is(&rt, refused, "empty command - Client");
-    has_sent(&rt, link, "");
+    is(&rt, sent_text(rt.alloc(), link), "");
 }

@@ -1,4 +1,4 @@
-//! Rust values as arguments: each with its length before it, and in brackets for how many it counts.
+//! Rust values as arguments, each with its length before it; in brackets for how many they count.
 
 use crate::checks::{debugs, gives, made_gives};
 use crate::writing::WIDE;

@@ -13,8 +13,8 @@ fn arguments_in_a_chain(rt: HostRuntime) {
     let _ = key.arg(42i32).expect(&rt, "memory");
     packs(&rt, &set, "*3\r\n$3\r\nSET\r\n$6\r\nmy_key\r\n$2\r\n42\r\n");
     set.clear();
-    answers(&rt, set.open_arg(), "()");
-    answers(&rt, set.extend_arg(b"GET"), "()");
+    set.open_arg().expect(&rt, "memory");
+    set.extend_arg(b"GET").expect(&rt, "memory");
     packs(&rt, &set, "*1\r\n$3\r\nGET\r\n");
 }
 
@@ -77,7 +77,7 @@ fn a_cleared_command_is_new(rt: HostRuntime) {
     assert!(rt; roomy.is_empty() && !roomy.in_scan_mode() && !roomy.is_no_response());
 }
 
-/// The iterator of the command's arguments gives these, each with a space after it; `@` is a cursor.
+/// The command's arguments are these, each with a space after it; `@` is a cursor.
 fn lists(rt: &impl Test, command: &Cmd, wanted: &str) {
     let count = wanted.matches(' ').count();
     assert_eq!(rt; command.args_iter().size_hint(), (count, Some(count)));
@@ -113,9 +113,15 @@ fn the_latest_cursor_is_sent(rt: HostRuntime) {
     command.set_cursor(7);
     let wanted = "*4\r\n$1\r\nA\r\n$1\r\n7\r\n$1\r\nb\r\n$1\r\n7\r\n";
     packs(&rt, &command, wanted);
+}
+
+#[test]
+fn a_cleared_command_has_no_cursor(rt: HostRuntime) {
+    let mut command = with_cursor(&rt, &["key", "value"], 24);
     let _ = command.set_no_response(true);
     command.clear();
     lists(&rt, &command, "");
+    packs(&rt, &command, "");
     assert!(rt; !command.in_scan_mode() && !command.is_no_response());
 }
 
@@ -128,8 +134,9 @@ fn copies_keep_their_cursor(rt: HostRuntime) {
     copy.set_cursor(4);
     packs(&rt, &copy, "*2\r\n$1\r\nA\r\n$1\r\n4\r\n");
     // An extended cursor is an ordinary argument.
-    answers(&rt, taken.extend_arg(b"x"), "()");
+    taken.push_cursor_arg(6).expect(&rt, "memory");
+    taken.extend_arg(b"x").expect(&rt, "memory");
     taken.set_cursor(5);
-    packs(&rt, &taken, "*2\r\n$1\r\nA\r\n$2\r\n3x\r\n");
-    lists(&rt, &taken, "A 3x ");
+    packs(&rt, &taken, "*3\r\n$1\r\nA\r\n$1\r\n5\r\n$2\r\n6x\r\n");
+    lists(&rt, &taken, "A @ 6x ");
 }

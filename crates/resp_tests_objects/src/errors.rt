@@ -13,6 +13,7 @@ fn prints(rt: &impl Test, error: &RedisError, wanted: &str) {
     shows(rt, error, wanted);
     debugs(rt, error, wanted);
     equals(rt, error.try_clone(rt.alloc()), error);
+    assert!(rt; *error == *error);
 }
 
 /// The error that was made prints this.
@@ -37,7 +38,6 @@ fn parse(error: impl Into<ParsingError> + Drop) -> RedisError {
 
 #[test]
 fn errors_print_their_form(rt: HostRuntime) {
-    let detailed = RedisError::from((ErrorKind::Client, "other", string(&rt, "why")));
     each! { made_prints, rt;
         refused("empty command") => "empty command - Client",
         RedisError::OutOfMemory => "out of memory",
@@ -50,27 +50,49 @@ fn errors_print_their_form(rt: HostRuntime) {
         RedisError::from(IoKind::TimedOut) => "TimedOut",
         RedisError::from(IoKind::PermissionDenied) => "PermissionDenied",
     }
-    prints(&rt, &detailed, "other - Client: why");
-    assert!(rt; detailed.detail() == Some("why") && detailed.code().is_none());
-    assert_eq!(rt; parse("not a number").detail(), Some("not a number"));
-    assert_eq!(rt;
-        RedisError::OutOfMemory.retry_method(),
-        RetryMethod::NoRetry
-    );
+}
+
+/// A refusal with a detail.
+fn detailed(rt: &impl Test) -> RedisError {
+    RedisError::from((ErrorKind::Client, "other", string(rt, "why")))
+}
+
+#[test]
+fn details_of_errors(rt: HostRuntime) {
+    let error = detailed(&rt);
+    prints(&rt, &error, "other - Client: why");
+    assert!(rt; error.detail() == Some("why") && error.code().is_none());
+    let described = parse("not a number");
+    assert_eq!(rt; described.detail(), Some("not a number"));
+}
+
+/// Whether the two errors are equal.
+fn alike(a: RedisError, b: RedisError) -> bool {
+    a == b
 }
 
 #[test]
 fn equal_errors(rt: HostRuntime) {
-    let detailed = RedisError::from((ErrorKind::Client, "other", string(&rt, "why")));
-    assert!(rt; refused("empty command") == refused("formatting failed"));
-    assert!(rt; detailed == refused("empty command"));
-    assert!(rt; refused("x") != RedisError::from((ErrorKind::Io, "x")));
-    assert!(rt; RedisError::from((ErrorKind::Io, "x")) != RedisError::from(IoKind::Other));
-    assert!(rt; RedisError::from(IoKind::TimedOut) != RedisError::from(IoKind::Other));
-    assert!(rt; parse("unknown type byte") != parse(FrameFault::UnknownType));
+    let broken = ErrorKind::Io;
+    assert!(rt; alike(refused("empty command"), refused("formatting failed")));
+    assert!(rt; alike(detailed(&rt), refused("empty command")));
+    assert!(rt; !alike(refused("x"), RedisError::from((broken, "x"))));
+    assert!(rt;
+        !alike(
+            RedisError::from((broken, "x")),
+            RedisError::from(IoKind::Other)
+        )
+    );
+    assert!(rt;
+        !alike(
+            RedisError::from(IoKind::TimedOut),
+            RedisError::from(IoKind::Other)
+        )
+    );
+    assert!(rt; !alike(parse("unknown type byte"), parse(FrameFault::UnknownType)));
     let by_hand = RedisError::Parse(ParsingError::OutOfMemory);
-    assert!(rt; by_hand.kind() == ErrorKind::Parse && by_hand != RedisError::OutOfMemory);
-    assert!(rt; parse(ParsingError::OutOfMemory) == RedisError::OutOfMemory);
+    assert!(rt; by_hand.kind() == ErrorKind::Parse && !alike(by_hand, RedisError::OutOfMemory));
+    assert!(rt; alike(parse(ParsingError::OutOfMemory), RedisError::OutOfMemory));
 }
 
 #[test]

@@ -3,7 +3,7 @@
 use crate::checks::{Test, answers, is};
 use crate::commands::refused_map;
 use crate::writing::{WIDE, wide_pairs};
-use resp_core::{Cmd, Pipeline, pipe};
+use resp_core::{Cmd, Pipeline, ToRedisArgs, pipe};
 use resp_testing::{bytes_text, pipeline, pipeline_text};
 
 /// The pipeline is packed as these bytes.
@@ -52,20 +52,19 @@ fn the_commands_in_order(rt: HostRuntime) {
     is(&rt, bytes_text(rt.alloc(), packed.as_slice()), wanted);
 }
 
+/// The pipeline refuses the argument as one that is too wide.
+fn refuses<T: ToRedisArgs + Drop>(rt: &impl Test, pipeline: &mut Pipeline, arg: T) {
+    assert!(rt; !pipeline.is_empty());
+    let refused = pipeline.arg(arg).err().expect(rt, "a refusal");
+    answers::<()>(rt, Err(refused), WIDE);
+}
+
 #[test]
 fn refused_argument_of_a_pipeline_changes_nothing(rt: HostRuntime) {
     let mut pipeline = pipeline(rt.alloc(), &[&["A"], &["HSET", "h"]]).expect(&rt, "memory");
-    let pair = pipeline
-        .arg(refused_map(&rt))
-        .err()
-        .expect(&rt, "a refusal");
-    let midway = pipeline.arg(wide_pairs(&rt)).err().expect(&rt, "a refusal");
-    each! { answers, rt;
-        Err::<(), _>(pair) => WIDE,
-        Err::<(), _>(midway) => WIDE,
-        pipeline.push_arg(wide_pairs(&rt)) => WIDE,
-        pipeline.push_cmd("B") => "()",
-    }
+    refuses(&rt, &mut pipeline, refused_map(&rt));
+    refuses(&rt, &mut pipeline, wide_pairs(&rt));
+    answers(&rt, pipeline.push_cmd("B"), "()");
     let _ = pipeline.atomic();
     let wanted = "*1\r\n$5\r\nMULTI\r\n*1\r\n$1\r\nA\r\n*2\r\n$4\r\nHSET\r\n$1\r\nh\r\n\
         *1\r\n$1\r\nB\r\n*1\r\n$4\r\nEXEC\r\n";

@@ -1,12 +1,14 @@
 //! Types of replies: comparisons, calls of their own, and conversions that no row asks for; laws.
 
-use crate::checks::{both, debugs, equals, reply};
+use crate::checks::{Test, both, debugs, equals, reply};
 use resp_core::laws::{
     law_of_completion, law_of_equal_errors, law_of_error_texts, law_of_levels, law_of_limits,
     law_of_packing, law_of_pipelines, law_of_prefixes, law_of_requests, law_of_scans, law_of_sizes,
     law_of_taking,
 };
-use resp_core::{FromRedisValue, IncrexResult, InfoDict, IntegerReplyOrNoOp, Value, ValueType};
+use resp_core::{
+    FromRedisValue, IncrexResult, InfoDict, IntegerReplyOrNoOp, Role, Value, ValueType,
+};
 use std::collections::{HashMap, HashSet};
 
 #[test]
@@ -23,19 +25,39 @@ fn integers_are_compared_exactly(rt: HostRuntime) {
     assert_eq!(rt; IntegerReplyOrNoOp::ExistsButNotRelevant.raw(), Some(-1));
 }
 
+/// The parts of an increment's reply: both as integers, and each as a byte.
+fn parts(rt: &impl Test, bytes: &[u8]) -> (Option<(i64, i64)>, Option<u8>, Option<u8>) {
+    let alloc = rt.alloc();
+    let parts = IncrexResult::from_redis_value(alloc, reply(rt, bytes)).expect(rt, "an increment");
+    let bytes = (
+        parts.value_as(alloc).ok(),
+        parts.actual_increment_as(alloc).ok(),
+    );
+    (parts.as_i64(alloc).ok(), bytes.0, bytes.1)
+}
+
 #[test]
-fn increments_and_types(rt: HostRuntime) {
-    let (integers, same): (IncrexResult, _) = both(&rt, b"*2\r\n:5\r\n:2\r\n");
-    assert!(rt; integers == same);
-    assert_eq!(rt; integers.as_i64(rt.alloc()).expect(&rt, "integers"), (5, 2));
-    let (texts, _): (IncrexResult, _) = both(&rt, b"*2\r\n:300\r\n+7\r\n");
-    assert!(rt; texts.value_as::<u8>(rt.alloc()).is_err());
-    let grown = texts.actual_increment_as::<u8>(rt.alloc());
-    assert_eq!(rt; grown.expect(&rt, "a number"), 7);
-    equals(&rt, texts.try_clone(rt.alloc()), &texts);
+fn increments(rt: HostRuntime) {
+    for (bytes, wanted) in [
+        ("*2\r\n:5\r\n:2\r\n", (Some((5, 2)), Some(5), Some(2))),
+        ("*2\r\n:300\r\n+7\r\n", (Some((300, 7)), None, Some(7))),
+        ("*2\r\n_\r\n:0\r\n", (None, None, Some(0))),
+    ] {
+        assert_eq!(rt; parts(&rt, bytes.as_bytes()), wanted, "{bytes}");
+    }
+}
+
+#[test]
+fn copies_of_types(rt: HostRuntime) {
     let unknown = ValueType::read(rt.alloc(), "xyz").expect(&rt, "memory");
     equals(&rt, unknown.try_clone(rt.alloc()), &unknown);
     assert_eq!(rt; unknown.name(), "xyz");
+    let both = IncrexResult::from_redis_value(rt.alloc(), reply(&rt, b"*2\r\n:5\r\n_\r\n"));
+    let both = both.expect(&rt, "an increment");
+    equals(&rt, both.try_clone(rt.alloc()), &both);
+    let role = Role::from_redis_value(rt.alloc(), reply(&rt, b"*2\r\n$8\r\nsentinel\r\n*0\r\n"));
+    let role = role.expect(&rt, "a role");
+    equals(&rt, role.try_clone(rt.alloc()), &role);
 }
 
 #[test]

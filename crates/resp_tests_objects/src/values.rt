@@ -1,6 +1,6 @@
 //! Values by hand: copies, attributes, pairs and pushes; lists, texts and boxes.
 
-use crate::checks::{debugs, equals, is, reply, shows, string};
+use crate::checks::{Test, debugs, equals, is, reply, shows, string};
 use resp_core::{Boxed, Description, Items, PushInfo, PushKind, Text, Value};
 use resp_testing::{answer_text, debug_text};
 
@@ -53,25 +53,37 @@ fn an_attribute_keeps_its_pairs(rt: HostRuntime) {
     }
 }
 
+/// The reply has these pairs, borrowed.
+fn lends_pairs(rt: &impl Test, value: &Value, wanted: &[&str]) {
+    let mut pairs = value.as_map_iter().expect(rt, "pairs");
+    assert_eq!(rt; pairs.size_hint(), (wanted.len(), Some(wanted.len())));
+    for wanted in wanted {
+        is(rt, debug_text(rt.alloc(), &pairs.next()), wanted);
+    }
+    assert!(rt; pairs.next().is_none());
+}
+
+/// The reply has these pairs, moved.
+fn gives_pairs(rt: &impl Test, value: Value, wanted: &[&str]) {
+    let mut pairs = value.into_map_iter().ok().expect(rt, "pairs");
+    assert_eq!(rt; pairs.size_hint(), (wanted.len(), Some(wanted.len())));
+    for wanted in wanted {
+        is(rt, debug_text(rt.alloc(), &pairs.next()), wanted);
+    }
+    assert!(rt; pairs.next().is_none());
+}
+
 #[test]
 fn pairs_of_maps_and_arrays(rt: HostRuntime) {
-    let map = reply(&rt, b"%2\r\n+first\r\n:1\r\n+second\r\n:2\r\n");
-    let mut pairs = map.as_map_iter().expect(&rt, "pairs");
-    assert_eq!(rt; pairs.size_hint(), (2, Some(2)));
     let first = "Some((simple-string(\"first\"), int(1)))";
-    for wanted in [first, "Some((simple-string(\"second\"), int(2)))", "None"] {
-        is(&rt, debug_text(rt.alloc(), &pairs.next()), wanted);
-    }
+    let wanted = [first, "Some((simple-string(\"second\"), int(2)))"];
+    let map = reply(&rt, b"%2\r\n+first\r\n:1\r\n+second\r\n:2\r\n");
+    lends_pairs(&rt, &map, wanted.as_slice());
+    gives_pairs(&rt, map, wanted.as_slice());
+    let wanted = ["Some((int(1), int(2)))", "Some((int(3), int(4)))"];
     let four = reply(&rt, b"*4\r\n:1\r\n:2\r\n:3\r\n:4\r\n");
-    assert_eq!(rt;
-        four.as_map_iter().map(|pairs| pairs.size_hint()),
-        Some((2, Some(2)))
-    );
-    let mut pairs = four.into_map_iter().ok().expect(&rt, "pairs");
-    assert_eq!(rt; pairs.size_hint(), (2, Some(2)));
-    for wanted in ["Some((int(1), int(2)))", "Some((int(3), int(4)))", "None"] {
-        is(&rt, debug_text(rt.alloc(), &pairs.next()), wanted);
-    }
+    lends_pairs(&rt, &four, wanted.as_slice());
+    gives_pairs(&rt, four, wanted.as_slice());
 }
 
 #[test]

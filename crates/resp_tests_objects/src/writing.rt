@@ -92,13 +92,11 @@ fn a_refused_pair_isnt_written(rt: HostRuntime) {
 fn a_list_of_arguments(rt: HostRuntime) {
     let mut list = ArgList::new(rt.alloc());
     let values = [Some(1i64), None, Some(3)];
-    each! { answers, rt;
-        list.write_arg(b"SET") => "()",
-        list.open_arg() => "()",
-        list.extend_arg(b"key") => "()",
-        write_each_arg(&[1u64, 2], &mut list) => "()",
-        <Option<i64>>::make_arg_iter_ref(values.iter(), &mut list) => "()",
-    }
+    list.write_arg(b"SET").expect(&rt, "memory");
+    list.open_arg().expect(&rt, "memory");
+    list.extend_arg(b"key").expect(&rt, "memory");
+    write_each_arg(&[1u64, 2], &mut list).expect(&rt, "memory");
+    <Option<i64>>::make_arg_iter_ref(values.iter(), &mut list).expect(&rt, "memory");
     assert!(rt; list.len() == 6 && list.get(6).is_none());
     assert!(rt; list.get(1) == Some(b"key".as_slice()) && list.get(5) == Some(b"3".as_slice()));
     list.truncate(2);
