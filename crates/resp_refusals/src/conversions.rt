@@ -46,11 +46,12 @@ const PAIRS: &[u8] = b"%2\r\n+a\r\n:1\r\n+b\r\n:2\r\n";
 fn single_values(rt: HostRuntime) {
     converts::<String>(&rt, ABC, "Ok(\"abc\")");
     converts::<Text>(&rt, ABC, "Ok(\"abc\")");
-    converts::<Option<String>>(&rt, ABC, "Ok(Some(\"abc\"))");
+    converts::<Option<String>>(&rt, b":12\r\n", "Ok(Some(\"12\"))");
     converts::<Value>(&rt, ABC, "Ok(bulk-string('\"abc\"'))");
     converts::<Box<i64>>(&rt, b":5\r\n", "Ok(5)");
     converts::<Rc<String>>(&rt, ABC, "Ok(\"abc\")");
-    converts::<RedisResult<String>>(&rt, ABC, "Ok(Ok(\"abc\"))");
+    converts::<RedisResult<String>>(&rt, b":12\r\n", "Ok(Ok(\"12\"))");
+    converts::<RedisResult<i64>>(&rt, b"-MINE x\r\n", "Ok(Err(\"MINE\": x))");
 }
 
 #[test]

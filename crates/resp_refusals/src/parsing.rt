@@ -1,7 +1,7 @@
 //! Parsers: after want of memory a parser has failed for good, but for a refused `feed`.
 
 use crate::heap::{STEPS, makes, ran_out, refuse, was_refused};
-use resp_core::{Parser, Reading, RedisError, RedisResult, Value, parse_redis_value};
+use resp_core::{Parser, Reading, RedisError, RedisResult, parse_redis_value};
 use std::process::Abort;
 
 /// Whole replies, of each type that takes memory.
