@@ -133,10 +133,16 @@ fn copies_keep_their_cursor(rt: HostRuntime) {
     assert!(rt; !command.in_scan_mode());
     copy.set_cursor(4);
     packs(&rt, &copy, "*2\r\n$1\r\nA\r\n$1\r\n4\r\n");
-    // An extended cursor is an ordinary argument.
-    taken.push_cursor_arg(6).expect(&rt, "memory");
-    taken.extend_arg(b"x").expect(&rt, "memory");
     taken.set_cursor(5);
-    packs(&rt, &taken, "*3\r\n$1\r\nA\r\n$1\r\n5\r\n$2\r\n6x\r\n");
-    lists(&rt, &taken, "A @ 6x ");
+    packs(&rt, &taken, "*2\r\n$1\r\nA\r\n$1\r\n5\r\n");
+}
+
+#[test]
+fn an_extended_cursor_is_an_ordinary_argument(rt: HostRuntime) {
+    let mut command = cmd(rt.alloc(), "A").expect(&rt, "memory");
+    let _ = command.cursor_arg(3).expect(&rt, "memory");
+    command.extend_arg(b"x").expect(&rt, "memory");
+    command.set_cursor(4);
+    packs(&rt, &command, "*2\r\n$1\r\nA\r\n$2\r\n3x\r\n");
+    lists(&rt, &command, "A 3x ");
 }
