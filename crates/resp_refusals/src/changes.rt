@@ -1,221 +1,320 @@
 //! Calls that change an object: a refused one leaves it as it was, and works when it is made again.
 
-use crate::heap::{STEPS, ran_out, refuse, was_refused};
+use crate::heap::{Test, ran_out, refuse};
 use crate::made::{LONG, get};
 use crate::subjects::{REST, Subject};
 use resp_core::{
     ArgList, ArgWriter, Cmd, Items, Parser, Pipeline, RedisResult, RedisWrite, ToRedisArgs, cmd,
     write_each_arg,
 };
-use std::process::Abort;
+use std::alloc::Global;
 
-/// The call makes of the object what shows as the second text, or memory runs out, the object still
-/// shows as the first, and the call then makes that.
-fn change_at<T: Subject, F: Fn(&mut T) -> RedisResult<()>>(
-    rt: &(impl Abort + AllocGlobal),
-    step: usize,
-    mut object: T,
-    texts: (&str, &str),
-    change: &F,
-) -> bool
-    requires { F.IsAlwaysCallable change.now }
-{
-    let (before, after) = texts;
-    refuse(rt.alloc(), step);
-    let answer = change(&mut object);
-    let refused = was_refused(rt.alloc());
-    if ran_out(rt, &answer, refused) {
-        assert_eq!(rt; object.shows(rt).as_str(), before);
-        change(&mut object).expect(rt, "no refusal");
+/// A call that changes an object.
+trait Change: Clone + Copy {
+    type Object: Subject;
+
+    fn apply(self, alloc: Global, to: &mut Self::Object) -> RedisResult<()>;
+}
+
+/// The call makes of the object what it makes with ample memory; or memory runs out, the object still
+/// shows as before, and the call then makes that.
+fn changes_one<C: Change>(rt: &impl Test, change: C, size: usize) {
+    let alloc = rt.alloc();
+    let mut object = C::Object::of_size(rt, size);
+    let before = object.shows(rt);
+    change.apply(alloc, &mut object).expect(rt, "no refusal");
+    let after = object.shows(rt);
+    let mut object = C::Object::of_size(rt, size);
+    refuse(alloc);
+    let answer = change.apply(alloc, &mut object);
+    if ran_out(rt, &answer) {
+        assert_eq!(rt; object.shows(rt).as_str(), before.as_str());
+        change.apply(alloc, &mut object).expect(rt, "no refusal");
     } else {
         answer.expect(rt, "no refusal");
     }
-    assert_eq!(rt; object.shows(rt).as_str(), after);
-    refused
+    assert_eq!(rt; object.shows(rt).as_str(), after.as_str());
 }
 
-/// `change_at`, each request of an object of this size refused in turn.
-fn changes_one<T: Subject, F: Fn(&mut T) -> RedisResult<()>>(
-    rt: &(impl Abort + AllocGlobal),
-    size: usize,
-    change: &F,
-)
-    requires { F.IsAlwaysCallable change.now }
-{
-    let mut object = T::of_size(rt, size);
-    let before = object.shows(rt);
-    change(&mut object).expect(rt, "no refusal");
-    let after = object.shows(rt);
-    let texts = (before.as_str(), after.as_str());
-    for step in 0..STEPS {
-        if !change_at(rt, step, T::of_size(rt, size), texts, change) {
-            return;
+/// The same of objects of each size.
+fn changes_each_size<C: Change>(rt: &impl Test, change: C) {
+    for size in 0..C::Object::SIZES {
+        changes_one(rt, change, size);
+    }
+}
+
+/// The same of each call.
+fn changes<C: Change>(rt: &impl Test, calls: &[C]) {
+    for change in calls {
+        changes_each_size(rt, *change);
+    }
+}
+
+#[derive(Clone, Copy)]
+enum OfCommand {
+    Arg,
+    PushArg,
+    WriteArg,
+    WriteArgFmt,
+    OpenArg,
+    WriterForNextArg,
+    ReserveSpaceForArgs,
+    ExtendArg,
+    CursorArg,
+    PushCursorArg,
+}
+
+impl Change for OfCommand {
+    type Object = Cmd;
+
+    fn apply(self, alloc: Global, to: &mut Cmd) -> RedisResult<()> {
+        match self {
+            OfCommand::Arg => to.arg("value").map(unit),
+            OfCommand::PushArg => to.push_arg((1i64, LONG, Some("y"))),
+            OfCommand::WriteArg => to.write_arg(b"value"),
+            OfCommand::WriteArgFmt => to.write_arg_fmt(alloc, -42i64),
+            OfCommand::OpenArg => to.open_arg(),
+            OfCommand::WriterForNextArg => to.writer_for_next_arg().map(unit),
+            OfCommand::ReserveSpaceForArgs => to.reserve_space_for_args([1usize, 100]),
+            OfCommand::ExtendArg => extend(to),
+            OfCommand::CursorArg => to.cursor_arg(u64::MAX).map(unit),
+            OfCommand::PushCursorArg => to.push_cursor_arg(7),
         }
     }
-    rt.panic("too many requests")
 }
 
-/// The same at each size.
-fn changes<T: Subject, F: Fn(&mut T) -> RedisResult<()>>(rt: &(impl Abort + AllocGlobal), change: F)
-    requires { F.IsAlwaysCallable change }
-{
-    for size in 0..T::SIZES {
-        changes_one(rt, size, &change);
+/// Lets go of an answer.
+fn unit<T: Drop>(_answer: T) {}
+
+/// A longer last argument, if there is one.
+fn extend(to: &mut Cmd) -> RedisResult<()> {
+    if to.is_empty() {
+        return Ok(());
     }
+    to.extend_arg(&[b'a'; 999])
 }
 
 #[test]
 fn arguments(rt: HostRuntime) {
-    let alloc = rt.alloc();
-    changes(&rt, |to: &mut Cmd| {
-        let _ = to.arg("value")?;
-        Ok(())
-    });
-    changes(&rt, |to: &mut Cmd| to.push_arg((1i64, LONG, Some("y"))));
-    changes(&rt, |to: &mut Cmd| to.write_arg(b"value"));
-    changes(&rt, |to: &mut Cmd| to.write_arg_fmt(alloc, -42i64));
-    changes(&rt, |to: &mut Cmd| to.open_arg());
-    changes(&rt, |to: &mut Cmd| {
-        let _ = to.writer_for_next_arg()?;
-        Ok(())
-    });
-    changes(&rt, |to: &mut Cmd| to.reserve_space_for_args([1usize, 100]));
+    let calls = [
+        OfCommand::Arg,
+        OfCommand::PushArg,
+        OfCommand::WriteArg,
+        OfCommand::WriteArgFmt,
+        OfCommand::OpenArg,
+        OfCommand::WriterForNextArg,
+        OfCommand::ReserveSpaceForArgs,
+    ];
+    changes(&rt, calls.as_slice());
 }
 
 #[test]
 fn longer_arguments(rt: HostRuntime) {
-    changes(&rt, |to: &mut Cmd| {
-        if to.is_empty() {
-            return Ok(());
-        }
-        to.extend_arg(&[b'a'; 999])
-    });
-    changes(&rt, |to: &mut ArgList| {
-        if to.is_empty() {
-            return Ok(());
-        }
-        to.extend_arg(&[b'a'; 999])
-    });
+    changes(&rt, [OfCommand::ExtendArg].as_slice());
 }
 
 #[test]
 fn cursor_arguments(rt: HostRuntime) {
-    changes(&rt, |to: &mut Cmd| {
-        let _ = to.cursor_arg(u64::MAX)?;
-        Ok(())
-    });
-    changes(&rt, |to: &mut Cmd| to.push_cursor_arg(7));
+    let calls = [OfCommand::CursorArg, OfCommand::PushCursorArg];
+    changes(&rt, calls.as_slice());
+}
+
+#[derive(Clone, Copy)]
+enum OfPipeline {
+    Cmd,
+    PushCmd,
+    AddCommand,
+    PushCommand,
+    Arg,
+    PushArg,
+}
+
+impl Change for OfPipeline {
+    type Object = Pipeline;
+
+    fn apply(self, alloc: Global, to: &mut Pipeline) -> RedisResult<()> {
+        match self {
+            OfPipeline::Cmd => to.cmd("NAME").map(unit),
+            OfPipeline::PushCmd => to.push_cmd(LONG),
+            OfPipeline::AddCommand => to.add_command(cmd(alloc, LONG)?).map(unit),
+            OfPipeline::PushCommand => to.push_command(cmd(alloc, LONG)?),
+            OfPipeline::Arg if !to.is_empty() => to.arg(LONG).map(unit),
+            OfPipeline::PushArg if !to.is_empty() => to.push_arg((
+                1i64,
+                LONG,
+                [2i64, 3].as_slice(),
+            )),
+            _ => Ok(()),
+        }
+    }
 }
 
 #[test]
 fn commands_of_pipelines(rt: HostRuntime) {
-    let alloc = rt.alloc();
-    changes(&rt, |to: &mut Pipeline| {
-        let _ = to.cmd("NAME")?;
-        Ok(())
-    });
-    changes(&rt, |to: &mut Pipeline| to.push_cmd(LONG));
-    changes(&rt, |to: &mut Pipeline| {
-        let _ = to.add_command(cmd(alloc, LONG)?)?;
-        Ok(())
-    });
-    changes(&rt, |to: &mut Pipeline| to.push_command(cmd(alloc, LONG)?));
+    let calls = [
+        OfPipeline::Cmd,
+        OfPipeline::PushCmd,
+        OfPipeline::AddCommand,
+        OfPipeline::PushCommand,
+    ];
+    changes(&rt, calls.as_slice());
 }
 
 #[test]
 fn arguments_of_pipelines(rt: HostRuntime) {
-    changes(&rt, |to: &mut Pipeline| {
-        if to.is_empty() {
-            return Ok(());
+    changes(&rt, [OfPipeline::Arg, OfPipeline::PushArg].as_slice());
+}
+
+#[derive(Clone, Copy)]
+enum OfList {
+    WriteArg,
+    OpenArg,
+    ExtendArg,
+}
+
+impl Change for OfList {
+    type Object = ArgList;
+
+    fn apply(self, _alloc: Global, to: &mut ArgList) -> RedisResult<()> {
+        match self {
+            OfList::WriteArg => to.write_arg(b"new"),
+            OfList::OpenArg => to.open_arg(),
+            OfList::ExtendArg => extend_last(to),
         }
-        let _ = to.arg(LONG)?;
-        Ok(())
-    });
-    changes(&rt, |to: &mut Pipeline| {
-        if to.is_empty() {
-            return Ok(());
+    }
+}
+
+/// A longer last argument, if there is one.
+fn extend_last(to: &mut ArgList) -> RedisResult<()> {
+    if to.is_empty() {
+        return Ok(());
+    }
+    to.extend_arg(&[b'a'; 999])
+}
+
+#[derive(Clone, Copy)]
+enum OfItems {
+    Push,
+    ExtendFromSlice,
+}
+
+impl Change for OfItems {
+    type Object = Items<u8>;
+
+    fn apply(self, _alloc: Global, to: &mut Items<u8>) -> RedisResult<()> {
+        match self {
+            OfItems::Push => Ok(to.push(4)?),
+            OfItems::ExtendFromSlice => Ok(to.extend_from_slice(&[2; 99])?),
         }
-        to.push_arg((1i64, LONG, [2i64, 3].as_slice()))
-    });
+    }
+}
+
+/// A command, packed behind other bytes.
+#[derive(Clone, Copy)]
+struct Packed<'a>(&'a Cmd);
+
+impl Change for Packed<'_> {
+    type Object = Vec<u8>;
+
+    fn apply(self, _alloc: Global, to: &mut Vec<u8>) -> RedisResult<()> {
+        self.0.write_packed_command(to)
+    }
 }
 
 #[test]
 fn lists_and_buffers(rt: HostRuntime) {
+    let lists = [OfList::WriteArg, OfList::OpenArg, OfList::ExtendArg];
+    changes(&rt, lists.as_slice());
+    changes(&rt, [OfItems::Push, OfItems::ExtendFromSlice].as_slice());
     let command = get(&rt);
-    changes(&rt, |to: &mut ArgList| to.write_arg(b"new"));
-    changes(&rt, |to: &mut ArgList| to.open_arg());
-    changes(&rt, |to: &mut Items<u8>| Ok(to.push(4)?));
-    changes(
-        &rt,
-        |to: &mut Items<u8>| Ok(to.extend_from_slice(&[2; 99])?),
-    );
-    changes(&rt, |to: &mut Vec<u8>| command.write_packed_command(to));
+    changes(&rt, [Packed(&command)].as_slice());
+}
+
+/// The rest of a reply.
+#[derive(Clone, Copy)]
+struct Fed;
+
+impl Change for Fed {
+    type Object = Parser;
+
+    fn apply(self, _alloc: Global, to: &mut Parser) -> RedisResult<()> {
+        to.feed(REST)
+    }
 }
 
 #[test]
 fn feed(rt: HostRuntime) {
-    changes(&rt, |to: &mut Parser| to.feed(REST));
+    changes(&rt, [Fed].as_slice());
 }
 
 /// A writer appends to its argument, or memory runs out and the argument is as before.
-fn write_all_at(rt: &(impl Abort + AllocGlobal), step: usize) -> bool {
-    let mut command = get(rt);
-    let mut writer: ArgWriter<'_, Cmd> = command.writer_for_next_arg().expect(rt, "no refusal");
-    refuse(rt.alloc(), step);
-    let answer = writer.write_all(&[b'z'; 1000]);
-    let refused = was_refused(rt.alloc());
-    if ran_out(rt, &answer, refused) {
-        writer.write_all(&[b'z'; 1000]).expect(rt, "no refusal");
-    }
-    let mut wanted = get(rt);
-    wanted.write_arg(&[b'z'; 1000]).expect(rt, "no refusal");
-    assert_eq!(rt; command.shows(rt).as_str(), wanted.shows(rt).as_str());
-    refused
-}
-
 #[test]
 fn write_all(rt: HostRuntime) {
-    for step in 0..STEPS {
-        if !write_all_at(&rt, step) {
-            return;
-        }
+    let mut command = get(&rt);
+    let mut writer: ArgWriter<'_, Cmd> = command.writer_for_next_arg().expect(&rt, "no refusal");
+    refuse(rt.alloc());
+    let answer = writer.write_all(&[b'z'; 1000]);
+    if ran_out(&rt, &answer) {
+        writer.write_all(&[b'z'; 1000]).expect(&rt, "no refusal");
     }
-    rt.panic("too many requests")
+    let mut wanted = get(&rt);
+    wanted.write_arg(&[b'z'; 1000]).expect(&rt, "no refusal");
+    assert_eq!(rt; command.shows(&rt).as_str(), wanted.shows(&rt).as_str());
 }
 
-/// The call appends so many arguments, or memory runs out and the old argument is the first.
-fn writes<F: Fn(&mut Vec<Vec<u8>>) -> RedisResult<()>>(
-    rt: &(impl Abort + AllocGlobal),
-    count: usize,
-    write: F,
-)
-    requires { F.IsAlwaysCallable write }
-{
-    for step in 0..STEPS {
-        let mut out: Vec<Vec<u8>> = Vec::new(rt.alloc());
-        out.write_arg(b"old").expect(rt, "no refusal");
-        refuse(rt.alloc(), step);
-        let answer = write(&mut out);
-        let refused = was_refused(rt.alloc());
-        if !ran_out(rt, &answer, refused) {
-            assert_eq!(rt; out.len(), count.saturating_add(1));
-        }
-        let first = out.first().expect(rt, "the old argument");
-        assert_eq!(rt; first.as_slice(), b"old".as_slice());
-        if !refused {
-            return;
-        }
+/// A list of one argument.
+fn list(rt: &impl Test) -> Vec<Vec<u8>> {
+    let mut out: Vec<Vec<u8>> = Vec::new(rt.alloc());
+    out.write_arg(b"old").expect(rt, "no refusal");
+    out
+}
+
+/// The call appended so many arguments, or memory ran out; the old argument is the first.
+fn appended(rt: &impl Test, out: &[Vec<u8>], answer: &RedisResult<()>, count: usize) {
+    if !ran_out(rt, answer) {
+        assert_eq!(rt; out.len(), count.saturating_add(1));
     }
-    rt.panic("too many requests")
+    let first = out.first().expect(rt, "the old argument");
+    assert_eq!(rt; first.as_slice(), b"old".as_slice());
 }
 
 #[test]
-fn vectors(rt: HostRuntime) {
+fn values_in_a_vector(rt: HostRuntime) {
+    let mut out = list(&rt);
+    refuse(rt.alloc());
+    let answer = ("a", 1i64, Some("b")).write_redis_args(&mut out);
+    appended(&rt, out.as_slice(), &answer, 3);
     let items = ["a", "b"].as_slice();
-    writes(&rt, 3, |out| ("a", 1i64, Some("b")).write_redis_args(out));
-    writes(&rt, 2, |out| items.write_redis_args(out));
-    writes(&rt, 2, |out| <&str>::write_args_from_slice(items, out));
-    writes(&rt, 2, |out| <&str>::write_each_arg(items, out));
-    writes(&rt, 2, |out| write_each_arg(items, out));
-    writes(&rt, 2, |out| <&str>::make_arg_iter_ref(items.iter(), out));
+    let mut out = list(&rt);
+    refuse(rt.alloc());
+    let answer = items.write_redis_args(&mut out);
+    appended(&rt, out.as_slice(), &answer, 2);
+}
+
+/// The items of a slice, or of an iterator, one after another.
+#[derive(Clone, Copy)]
+enum Way {
+    Slice,
+    Each,
+    Free,
+    Iterator,
+}
+
+fn write(way: Way, items: &[&str], out: &mut Vec<Vec<u8>>) -> RedisResult<()> {
+    match way {
+        Way::Slice => <&str>::write_args_from_slice(items, out),
+        Way::Each => <&str>::write_each_arg(items, out),
+        Way::Free => write_each_arg(items, out),
+        Way::Iterator => <&str>::make_arg_iter_ref(items.iter(), out),
+    }
+}
+
+#[test]
+fn items_in_a_vector(rt: HostRuntime) {
+    for way in [Way::Slice, Way::Each, Way::Free, Way::Iterator] {
+        let mut out = list(&rt);
+        refuse(rt.alloc());
+        let answer = write(way, ["a", "b"].as_slice(), &mut out);
+        appended(&rt, out.as_slice(), &answer, 2);
+    }
 }

@@ -1,37 +1,34 @@
 //! Conversions of replies: each gives the whole value, or memory runs out.
 
-use crate::heap::{answers, makes};
+use crate::heap::{Test, made, refuse, shows};
 use resp_core::{
-    FromRedisValue, IncrexResult, Items, RedisResult, Role, Text, Value, ValueType,
-    from_redis_value, from_redis_value_by, from_redis_value_ref, parse_redis_value,
+    FromRedisValue, IncrexResult, Items, ParsingError, RedisError, RedisResult, Role, Text, Value,
+    ValueType, from_redis_value, from_redis_value_by, from_redis_value_ref, parse_redis_value,
 };
-use std::alloc::Global;
 use std::boxed::BoxedSlice;
 use std::collections::{BTreeMap, BTreeSet, HashMap, HashSet};
 use std::fmt::Debug;
-use std::process::Abort;
 use std::rc::Rc;
 
-fn value_of(rt: &(impl Abort + AllocGlobal), reply: &[u8]) -> Value {
+fn value_of(rt: &impl Test, reply: &[u8]) -> Value {
     parse_redis_value(rt.alloc(), reply).expect(rt, "no refusal")
+}
+
+/// The conversion answered what shows like this, or memory ran out in it.
+fn converted<T: Debug + Drop>(rt: &impl Test, answer: Result<T, ParsingError>, wanted: &str) {
+    shows(rt, answer.map_err(RedisError::from), wanted);
 }
 
 /// The reply converts to what shows like this, by value and by reference; the borrowed reply is as
 /// before.
-fn converts<T: FromRedisValue + Debug>(
-    rt: &(impl Abort + AllocGlobal),
-    reply: &[u8],
-    wanted: &str,
-) {
-    let alloc = rt.alloc();
-    let value = value_of(rt, reply);
-    answers(
-        rt,
-        wanted,
-        || Ok(from_redis_value::<T>(alloc, value.try_clone(alloc)?)?),
-    );
-    answers(rt, wanted, || Ok(from_redis_value_ref::<T>(alloc, &value)?));
-    assert!(rt; value == value_of(rt, reply));
+fn converts<T: FromRedisValue + Debug>(rt: &impl Test, reply: &[u8], wanted: &str) {
+    let moved = value_of(rt, reply);
+    refuse(rt.alloc());
+    converted(rt, from_redis_value::<T>(rt.alloc(), moved), wanted);
+    let borrowed = value_of(rt, reply);
+    refuse(rt.alloc());
+    converted(rt, from_redis_value_ref::<T>(rt.alloc(), &borrowed), wanted);
+    assert!(rt; borrowed == value_of(rt, reply));
 }
 
 const ABC: &[u8] = b"$3\r\nabc\r\n";
@@ -91,53 +88,40 @@ fn replies_of_single_commands(rt: HostRuntime) {
     converts::<IncrexResult>(&rt, b"*2\r\n:5\r\n:2\r\n", INCREASED);
 }
 
-/// Lists that the type makes of several replies, and of bytes.
+/// The items of an array.
+fn items_of(rt: &impl Test, reply: &[u8]) -> Vec<Value> {
+    match value_of(rt, reply) {
+        Value::Array(items) => items.into_vec(),
+        _ => Vec::new(rt.alloc()),
+    }
+}
+
+/// Lists that the type makes of several replies.
 #[test]
 fn several_replies(rt: HostRuntime) {
     let alloc = rt.alloc();
-    let texts = value_of(&rt, TEXTS);
-    let replies = texts.as_sequence().expect(&rt, "a list");
-    makes(&rt, &["a", "12", "abc"], || {
-        Ok(String::from_redis_values(alloc, copied(alloc, replies)?)?)
-    });
-    makes(&rt, &["a", "12", "abc"], || {
-        Ok(String::from_redis_value_refs(alloc, replies)?)
-    });
-    answers(&rt, "Ok([Ok(\"a\"), Ok(\"12\"), Ok(\"abc\")])", || {
-        Ok(String::from_each_redis_values(alloc, copied(alloc, replies)?)?)
-    });
-    let numbers = value_of(&rt, NUMBERS);
-    makes(&rt, &[1, 2, 3, 4], || {
-        let value = numbers.try_clone(alloc)?;
-        Ok(from_redis_value_by::<Vec<i64>, Items<i64>>(alloc, value)?)
-    });
-}
-
-fn copied(alloc: Global, values: &[Value]) -> RedisResult<Vec<Value>> {
-    let mut copies = Vec::new(alloc);
-    for value in values {
-        copies.push(value.try_clone(alloc)?)?;
+    let replies = items_of(&rt, TEXTS);
+    makes! { rt;
+        String::from_redis_value_refs(alloc, replies.as_slice()) => ["a", "12", "abc"],
+        String::from_redis_values(alloc, replies) => ["a", "12", "abc"],
     }
-    Ok(copies)
+    let replies = items_of(&rt, TEXTS);
+    refuse(alloc);
+    let each = String::from_each_redis_values(alloc, replies).map_err(RedisError::from);
+    shows(&rt, each, "Ok([Ok(\"a\"), Ok(\"12\"), Ok(\"abc\")])");
+    let numbers = value_of(&rt, NUMBERS);
+    makes! { rt; from_redis_value_by::<Vec<i64>, Items<i64>>(alloc, numbers) => [1, 2, 3, 4] }
 }
 
 #[test]
 fn bytes(rt: HostRuntime) {
     let alloc = rt.alloc();
-    makes(&rt, &["42"], || {
-        Ok(String::from_byte_vec(alloc, Vec::from_slice(alloc, b"42")?)?)
-    });
-    makes(&rt, b"42", || {
-        Ok(u8::from_byte_vec(alloc, Vec::from_slice(alloc, b"42")?)?)
-    });
-    makes(
-        &rt,
-        &Some(["42"].as_slice()),
-        || Ok(String::from_byte_slice(alloc, b"42")?),
-    );
-    makes(
-        &rt,
-        &Some(b"42".as_slice()),
-        || Ok(u8::from_byte_slice(alloc, b"42")?),
-    );
+    let text = Vec::from_slice(alloc, b"42").expect(&rt, "no refusal");
+    let bytes = Vec::from_slice(alloc, b"42").expect(&rt, "no refusal");
+    makes! { rt;
+        String::from_byte_vec(alloc, text) => ["42"],
+        u8::from_byte_vec(alloc, bytes) => b"42",
+        String::from_byte_slice(alloc, b"42") => Some(["42"].as_slice()),
+        u8::from_byte_slice(alloc, b"42") => Some(b"42".as_slice()),
+    }
 }

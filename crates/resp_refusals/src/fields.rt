@@ -3,7 +3,7 @@
 ghost use Rattle.std.specs.Prelude.{◌≡◌, ◌∷◌, [], codes};
 ghost use Rattle.resp_core.specs.Replies.{OfFields, OfMade, OfRow, Field, AnyOthers};
 
-use crate::heap::answers;
+use crate::heap::{made, refuse, shows};
 use resp_core::{
     Fields, FromFields, FromRedisValue, ParsingError, RedisResult, Value, from_redis_fields,
     from_redis_fields_by, from_redis_value, parse_redis_value,
@@ -92,19 +92,19 @@ fn field_or(alloc: Global, name: &str) -> RedisResult<i64> {
 #[test]
 fn fields_by_name(rt: HostRuntime) {
     let alloc = rt.alloc();
-    answers(&rt, "Ok(\"ann\")", || field(alloc, "name"));
-    answers(&rt, "Ok(42)", || field_or(alloc, "age"));
-    answers(&rt, "Ok(7)", || field_or(alloc, "city"));
+    makes! { rt;
+        field(alloc, "name") => "ann",
+        field_or(alloc, "age") => 42,
+        field_or(alloc, "city") => 7,
+    }
 }
 
 #[test]
 fn structs_of_fields(rt: HostRuntime) {
-    let alloc = rt.alloc();
-    answers(
-        &rt,
-        "Ok(Named { name: \"ann\" })",
-        || of_hash::<Named>(alloc),
-    );
-    let user = "Ok(User { name: \"ann\", city: None })";
-    answers(&rt, user, || of_hash::<User>(alloc));
+    refuse(rt.alloc());
+    let named = of_hash::<Named>(rt.alloc());
+    shows(&rt, named, "Ok(Named { name: \"ann\" })");
+    refuse(rt.alloc());
+    let user = of_hash::<User>(rt.alloc());
+    shows(&rt, user, "Ok(User { name: \"ann\", city: None })");
 }

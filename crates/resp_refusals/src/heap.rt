@@ -1,36 +1,41 @@
 //! A heap that is told to refuse requests, by requests of sizes that no heap has.
 //!
-//! Over any other heap these are refused and no other request is, so that each sweep is one call
-//! with ample memory. `tools/refused-memory` runs the tests over a heap that listens.
+//! Over any other heap these are refused and no other request is, so that each test makes its calls
+//! with ample memory. `tools/refused-memory` runs each test over a heap that listens, again and
+//! again: in the nth run it refuses the nth request of each call that is tested.
 
-use resp_core::{ErrorKind, RedisResult};
+use resp_core::{ErrorKind, RedisError, RedisResult};
 use std::alloc::{AllocError, Global};
 use std::fmt::Debug;
 use std::process::Abort;
 
-/// TOLD + 2 n: the nth request from here is refused, counted from 0. TOLD + 2 n + 1: that one and
-/// all later ones.
-const TOLD: usize = 0x5afe_0000_0000_0000;
+/// From here the request that the run names is refused, and all later ones too where it says so.
+const REFUSE: usize = 0x5afe_0000_0000_0000;
+
+/// From here each request is refused.
+const REFUSE_ALL: usize = 0x5afe_0000_0000_0001;
 
 /// Granted where a request was refused since then; from here none is.
 const ASK: usize = 0x5aff_0000_0000_0000;
 
-/// The steps of a sweep: no call here makes half as many requests.
-pub const STEPS: usize = 2000;
+/// A test's runtime.
+pub trait Test: Abort + AllocGlobal {}
+
+impl<R: Abort + AllocGlobal> Test for R {}
 
 fn is_granted(alloc: Global, size: usize) -> bool {
     let asked: Result<Vec<u8>, AllocError> = Vec::with_capacity(alloc, size);
     asked.is_ok()
 }
 
-/// From here requests are refused as this step of a sweep says.
-pub fn refuse(alloc: Global, step: usize) {
-    let _ = is_granted(alloc, TOLD | step);
+/// From here the request is refused that the run names, counted from here.
+pub fn refuse(alloc: Global) {
+    let _ = is_granted(alloc, REFUSE);
 }
 
 /// From here each request is refused.
 pub fn refuse_all(alloc: Global) {
-    refuse(alloc, 1);
+    let _ = is_granted(alloc, REFUSE_ALL);
 }
 
 /// Whether a request was refused. From here none is.
@@ -39,7 +44,7 @@ pub fn was_refused(alloc: Global) -> bool {
 }
 
 /// Whether memory ran out, which it does only where a request was refused.
-pub fn ran_out<T>(rt: &impl Abort, answer: &RedisResult<T>, refused: bool) -> bool {
+fn is_out_of_memory<T>(rt: &impl Abort, answer: &RedisResult<T>, refused: bool) -> bool {
     let Err(error) = answer else {
         return false;
     };
@@ -48,56 +53,36 @@ pub fn ran_out<T>(rt: &impl Abort, answer: &RedisResult<T>, refused: bool) -> bo
     ran_out
 }
 
+/// Whether memory ran out in the call that answered this. From here no request is refused.
+pub fn ran_out<T>(rt: &impl Test, answer: &RedisResult<T>) -> bool {
+    let refused = was_refused(rt.alloc());
+    is_out_of_memory(rt, answer, refused)
+}
+
 /// The Debug text of a value.
-pub fn shown<T: Debug>(rt: &(impl Abort + AllocGlobal), value: &T) -> String {
+fn debug_text<T: Debug>(rt: &impl Test, value: &T) -> String {
     format!(in rt.alloc(); "{value:?}").expect(rt, "no refusal")
 }
 
-/// The answer shows like this, or memory ran out.
-pub fn shows_as<T: Debug>(
-    rt: &(impl Abort + AllocGlobal),
-    answer: &RedisResult<T>,
-    refused: bool,
-    wanted: &str,
-) {
-    if !ran_out(rt, answer, refused) {
-        assert_eq!(rt; shown(rt, answer).as_str(), wanted);
+/// The call answered what shows like this, or memory ran out in it.
+pub fn shows<T: Debug + Drop>(rt: &impl Test, answer: RedisResult<T>, wanted: &str) {
+    if !ran_out(rt, &answer) {
+        assert_eq!(rt; debug_text(rt, &answer).as_str(), wanted);
     }
 }
 
-/// The call answers what shows like this, or memory runs out.
-pub fn answers<T: Debug + Drop, F: FnMut() -> RedisResult<T>>(
-    rt: &(impl Abort + AllocGlobal),
-    wanted: &str,
-    mut call: F,
-)
-    requires { F.IsAlwaysCallable call }
-{
-    for step in 0..STEPS {
-        refuse(rt.alloc(), step);
-        let answer = call();
-        let refused = was_refused(rt.alloc());
-        shows_as(rt, &answer, refused, wanted);
-        if !refused {
-            return;
-        }
-    }
-    rt.panic("too many requests")
-}
-
-/// The call makes what shows as this value, or memory runs out.
-pub fn makes<T: Debug + Drop, W: Debug, F: FnMut() -> RedisResult<T>>(
-    rt: &(impl Abort + AllocGlobal),
+/// The call made what shows as this value, or memory ran out in it.
+pub fn made<T: Debug + Drop, E: Into<RedisError> + Drop, W: Debug>(
+    rt: &impl Test,
+    answer: Result<T, E>,
     wanted: &W,
-    call: F,
-)
-    requires { F.IsAlwaysCallable call }
-{
-    let text = as_answer(rt, wanted);
-    answers(rt, text.as_str(), call);
-}
-
-/// The Debug text of an answer that shows as this value.
-fn as_answer<W: Debug>(rt: &(impl Abort + AllocGlobal), wanted: &W) -> String {
-    format!(in rt.alloc(); "Ok({wanted:?})").expect(rt, "no refusal")
+) {
+    let answer = answer.map_err(E::into);
+    if !ran_out(rt, &answer) {
+        let answer = answer.expect(rt, "no refusal");
+        assert_eq!(rt;
+            debug_text(rt, &answer).as_str(),
+            debug_text(rt, wanted).as_str()
+        );
+    }
 }

@@ -1,7 +1,19 @@
-//! Each request for memory refused in turn, for the calls of `resp_core` that may take memory:
-//! each answers want of memory or what it answers with ample memory, and leaves what it says. And
-//! the calls that take none, shown to make no request.
+//! Each request for memory refused in turn, for the calls of `resp_core` that may take memory: each
+//! answers want of memory or what it answers with ample memory, and leaves what it says. And the
+//! calls that take none, shown to make no request.
 #![tactic(auto)]
+
+/// Makes each call, with a request for memory refused, and compares what it made.
+#[cfg(test)]
+macro_rules! makes {
+    ($rt:expr; $($call:expr => $wanted:expr),+ $(,)?) => {
+        $(
+            refuse($rt.alloc());
+            let answer = $call;
+            made(&$rt, answer, &$wanted);
+        )+
+    };
+}
 
 #[cfg(test)]
 mod changes;

@@ -1,11 +1,11 @@
 //! Scans over a connection that loses replies and stays usable: the cursor stays.
 
-use crate::scans::{scans, three};
+use crate::heap::Test;
+use crate::scans::{is_one_of, three};
 use resp_core::{
     Cmd, ConnectionLike, ErrorKind, IoKind, RedisError, RedisResult, Value, parse_redis_value,
 };
 use std::alloc::{AllocError, Global};
-use std::process::Abort;
 
 /// Answers stored replies, the last one first. Where memory runs out one is lost.
 #[derive(Drop)]
@@ -109,7 +109,7 @@ const PAGES: [&[u8]; 3] = [
 ];
 
 /// Three calls, the cursors that were sent after the first, and whether a reply was lost.
-fn over_forgetful(rt: &(impl Abort + AllocGlobal), step: usize) -> (String, bool) {
+fn over_forgetful(rt: &impl Test) -> (String, bool) {
     let mut replies = Vec::new(rt.alloc());
     for page in PAGES {
         let page = parse_redis_value(rt.alloc(), page).expect(rt, "no refusal");
@@ -122,7 +122,7 @@ fn over_forgetful(rt: &(impl Abort + AllocGlobal), step: usize) -> (String, bool
         has_lost: false,
         broken: false,
     };
-    let (answers, refused) = three(rt, step, 9, &mut con);
+    let (answers, refused) = three(rt, 9, &mut con);
     let cursors = con.cursors;
     let has_lost = con.has_lost;
     let shown = format!(in rt.alloc(); "{answers}{cursors} {has_lost}").expect(rt, "no refusal");
@@ -134,5 +134,5 @@ fn over_forgetful(rt: &(impl Abort + AllocGlobal), step: usize) -> (String, bool
 #[test]
 fn a_lost_reply(rt: HostRuntime) {
     let wanted = ["b..74 false", "Mb.74 false", "M..74 false", "M..77 true"];
-    scans(&rt, wanted.as_slice(), |step| over_forgetful(&rt, step));
+    is_one_of(&rt, over_forgetful(&rt), wanted.as_slice());
 }

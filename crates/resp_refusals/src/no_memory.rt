@@ -3,7 +3,7 @@
 //! What a test calls them on is made first. Then all requests are refused, up to its last line,
 //! which asks whether one was.
 
-use crate::heap::{refuse_all, was_refused};
+use crate::heap::{Test, refuse_all, was_refused};
 use crate::links::link;
 use crate::made::get;
 use crate::subjects::Subject;
@@ -15,18 +15,17 @@ use resp_core::{
     is_valid_16_bytes_hex_digest, parse_redis_value, pipe, verbatim_format,
 };
 use std::collections::BTreeMap;
-use std::process::Abort;
 
 /// No request was made since all were refused.
-pub fn took_none(rt: &(impl Abort + AllocGlobal)) {
+pub fn took_none(rt: &impl Test) {
     assert!(rt; !was_refused(rt.alloc()));
 }
 
-pub fn text(rt: &(impl Abort + AllocGlobal), text: &str) -> String {
+pub fn text(rt: &impl Test, text: &str) -> String {
     String::from_str(rt.alloc(), text).expect(rt, "no refusal")
 }
 
-fn reply<T: FromRedisValue>(rt: &(impl Abort + AllocGlobal), bytes: &[u8]) -> T {
+fn reply<T: FromRedisValue>(rt: &impl Test, bytes: &[u8]) -> T {
     let value = parse_redis_value(rt.alloc(), bytes).expect(rt, "no refusal");
     from_redis_value(rt.alloc(), value).expect(rt, "no refusal")
 }

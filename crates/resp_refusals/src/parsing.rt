@@ -1,7 +1,7 @@
 //! Parsers: after want of memory a parser has failed for good, but for a refused `feed`.
 
-use crate::heap::{STEPS, makes, ran_out, refuse, was_refused};
-use resp_core::{Parser, Reading, RedisError, RedisResult, parse_redis_value};
+use crate::heap::{Test, made, ran_out, refuse};
+use resp_core::{Parser, Reading, RedisError, RedisResult, Value, parse_redis_value};
 use std::process::Abort;
 
 /// Whole replies, of each type that takes memory.
@@ -31,7 +31,7 @@ fn says_failed<T>(rt: &impl Abort, answer: &RedisResult<T>) {
 }
 
 /// Each call of the parser says that it has failed, and asks for no bytes.
-fn has_failed(rt: &impl Abort, parser: &mut Parser) {
+fn has_failed(rt: &impl Abort, mut parser: Parser) {
     assert!(rt; parser.is_failed());
     says_failed(rt, &parser.take_value());
     says_failed(rt, &parser.feed(b":1\r\n"));
@@ -41,57 +41,58 @@ fn has_failed(rt: &impl Abort, parser: &mut Parser) {
     assert_eq!(rt; source.into_inner().len(), 4);
 }
 
-/// The call gives this of a parser of these bytes, or memory runs out and the parser has failed.
-fn parses<T: PartialEq + Drop, F: Fn(&mut Parser) -> RedisResult<Option<T>>>(
-    rt: &(impl Abort + AllocGlobal),
-    fed: &[u8],
-    wanted: &Option<T>,
-    call: F,
-)
-    requires { F.IsAlwaysCallable call }
-{
-    for step in 0..STEPS {
-        let mut parser = Parser::new(rt.alloc());
-        parser.feed(fed).expect(rt, "no refusal");
-        refuse(rt.alloc(), step);
-        let answer = call(&mut parser);
-        let refused = was_refused(rt.alloc());
-        if ran_out(rt, &answer, refused) {
-            has_failed(rt, &mut parser);
-        } else {
-            let value = answer.expect(rt, "no refusal");
-            assert!(rt; value == *wanted);
-        }
-        if !refused {
-            return;
-        }
-    }
-    rt.panic("too many requests")
+/// A parser of these bytes.
+fn fed(rt: &impl Test, bytes: &[u8]) -> Parser {
+    let mut parser = Parser::new(rt.alloc());
+    parser.feed(bytes).expect(rt, "no refusal");
+    parser
 }
 
-/// Each call that parses gives the reply, and none of it without its last byte.
-fn parse(rt: &(impl Abort + AllocGlobal), bytes: &[u8]) {
-    let value = parse_redis_value(rt.alloc(), bytes).expect(rt, "no refusal");
-    makes(rt, &value, || parse_redis_value(rt.alloc(), bytes));
-    let whole = Some(value);
-    parses(rt, bytes, &whole, |parser| parser.take_value());
-    parses(
-        rt,
-        b"",
-        &whole,
-        |parser| Ok(Some(parser.parse_value(bytes)?)),
-    );
-    parses(rt, b"", &whole, |parser| {
-        Ok(Some(parser.parse_from(&mut Reading::new(bytes))?))
-    });
-    if let Some((_last, front)) = bytes.split_last() {
-        parses(rt, front, &None, |parser| parser.take_value());
+/// The parser answered this, or memory ran out and it has failed.
+fn answered<T: PartialEq + Drop>(
+    rt: &impl Test,
+    parser: Parser,
+    answer: RedisResult<T>,
+    wanted: &T,
+) {
+    if ran_out(rt, &answer) {
+        has_failed(rt, parser);
+    } else {
+        let value = answer.expect(rt, "no refusal");
+        assert!(rt; value == *wanted);
     }
+}
+
+/// What is fed gives this.
+fn takes(rt: &impl Test, bytes: &[u8], wanted: &Option<Value>) {
+    let mut parser = fed(rt, bytes);
+    refuse(rt.alloc());
+    let answer = parser.take_value();
+    answered(rt, parser, answer, wanted);
+}
+
+/// What is read gives this.
+fn reads(rt: &impl Test, bytes: &[u8], wanted: &Value) {
+    let mut parser = Parser::new(rt.alloc());
+    refuse(rt.alloc());
+    let answer = parser.parse_value(bytes);
+    answered(rt, parser, answer, wanted);
+    let mut parser = Parser::new(rt.alloc());
+    let mut source = Reading::new(bytes);
+    refuse(rt.alloc());
+    let answer = parser.parse_from(&mut source);
+    answered(rt, parser, answer, wanted);
 }
 
 #[test]
 fn replies(rt: HostRuntime) {
     for bytes in REPLIES {
-        parse(&rt, bytes);
+        let value = parse_redis_value(rt.alloc(), bytes).expect(&rt, "no refusal");
+        makes! { rt; parse_redis_value(rt.alloc(), bytes) => value }
+        reads(&rt, bytes, &value);
+        takes(&rt, bytes, &Some(value));
+        if let Some((_last, front)) = bytes.split_last() {
+            takes(&rt, front, &None);
+        }
     }
 }

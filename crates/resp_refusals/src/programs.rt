@@ -1,12 +1,11 @@
 //! The program `resp`: it prints that memory ran out, with status 2, or what it prints with ample
 //! memory.
 
-use crate::heap::{STEPS, refuse, was_refused};
-use crate::links::{Link, link};
+use crate::heap::{Test, refuse, was_refused};
+use crate::links::link;
 use resp_program::{pack, query, read};
-use std::process::Abort;
 
-fn words(rt: &(impl Abort + AllocGlobal), line: &str) -> Vec<String> {
+fn words(rt: &impl Test, line: &str) -> Vec<String> {
     let mut words = Vec::new(rt.alloc());
     for word in line.split(' ') {
         let word = String::from_str(rt.alloc(), word).expect(rt, "no refusal");
@@ -15,50 +14,45 @@ fn words(rt: &(impl Abort + AllocGlobal), line: &str) -> Vec<String> {
     words
 }
 
-/// The call prints this with this status, or `refused: out of memory` and no more than a beginning
-/// of its output, with status 2.
-fn prints<F: Fn(&mut Link, &mut Vec<u8>, &mut Vec<u8>) -> u8>(
-    rt: &(impl Abort + AllocGlobal),
-    incoming: &[u8],
-    wanted: (u8, &[u8], &[u8]),
-    run: F,
-)
-    requires { F.IsAlwaysCallable run }
-{
+/// Room for what is printed.
+fn room(rt: &impl Test) -> Vec<u8> {
+    Vec::with_capacity(rt.alloc(), 1000).expect(rt, "no refusal")
+}
+
+/// The status, what is printed, and what is printed of a refusal.
+type Printed<'a> = (u8, &'a [u8], &'a [u8]);
+
+/// This was printed with this status, or `refused: out of memory` and no more than a beginning of
+/// the output, with status 2.
+fn printed(rt: &impl Test, (answer, printed, refusal): Printed, wanted: Printed) {
+    let refused = was_refused(rt.alloc());
     let (status, out, err) = wanted;
-    for step in 0..STEPS {
-        let mut con = link(rt, incoming);
-        let mut printed = Vec::with_capacity(rt.alloc(), 1000).expect(rt, "no refusal");
-        let mut refusal = Vec::with_capacity(rt.alloc(), 1000).expect(rt, "no refusal");
-        refuse(rt.alloc(), step);
-        let answer = run(&mut con, &mut printed, &mut refusal);
-        let refused = was_refused(rt.alloc());
-        if refused && refusal.as_slice() == b"refused: out of memory\n".as_slice() {
-            assert_eq!(rt; answer, 2);
-            assert!(rt; out.starts_with(printed.as_slice()));
-        } else {
-            assert_eq!(rt; answer, status);
-            assert_eq!(rt; printed.as_slice(), out);
-            assert_eq!(rt; refusal.as_slice(), err);
-        }
-        if !refused {
-            return;
-        }
+    if refused && refusal == b"refused: out of memory\n".as_slice() {
+        assert_eq!(rt; answer, 2);
+        assert!(rt; out.starts_with(printed));
+    } else {
+        assert_eq!(rt; answer, status);
+        assert_eq!(rt; printed, out);
+        assert_eq!(rt; refusal, err);
     }
-    rt.panic("too many requests")
 }
 
 #[test]
 fn packs(rt: HostRuntime) {
     let words = words(&rt, "SET key value");
-    let packed = b"*3\r\n$3\r\nSET\r\n$3\r\nkey\r\n$5\r\nvalue\r\n";
-    prints(&rt, b"", (0, packed, b""), |_con, out, err| {
-        pack(rt.alloc(), words.as_slice(), out, err)
-    });
+    let (mut out, mut err) = (room(&rt), room(&rt));
+    let packed = b"*3\r\n$3\r\nSET\r\n$3\r\nkey\r\n$5\r\nvalue\r\n".as_slice();
+    refuse(rt.alloc());
+    let status = pack(rt.alloc(), words.as_slice(), &mut out, &mut err);
+    printed(
+        &rt,
+        (status, out.as_slice(), err.as_slice()),
+        (0, packed, b""),
+    );
 }
 
 /// Bytes, the status, and what is printed of them and of a refusal.
-const READS: &[(&[u8], (u8, &[u8], &[u8]))] = &[
+const READS: &[(&[u8], Printed<'static>)] = &[
     (
         b"+OK\r\n*2\r\n$3\r\nabc\r\n:1\r\n",
         (0, b"ok\narray([bulk-string('\"abc\"'), int(1)])\n", b""),
@@ -73,10 +67,11 @@ const READS: &[(&[u8], (u8, &[u8], &[u8]))] = &[
 #[test]
 fn reads(rt: HostRuntime) {
     for (bytes, wanted) in READS {
-        prints(&rt, b"", *wanted, |_con, out, err| {
-            let mut input = *bytes;
-            read(rt.alloc(), &mut input, out, err)
-        });
+        let (mut out, mut err) = (room(&rt), room(&rt));
+        let mut input = *bytes;
+        refuse(rt.alloc());
+        let status = read(rt.alloc(), &mut input, &mut out, &mut err);
+        printed(&rt, (status, out.as_slice(), err.as_slice()), *wanted);
     }
 }
 
@@ -114,8 +109,10 @@ const QUERIES: &[(&str, &[u8], u8, &[u8])] = &[
 fn queries(rt: HostRuntime) {
     for (line, replies, status, text) in QUERIES {
         let words = words(&rt, line);
-        prints(&rt, replies, (*status, b"", text), |con, _out, err| {
-            query(rt.alloc(), words.as_slice(), con, err)
-        });
+        let mut con = link(&rt, replies);
+        let mut err = room(&rt);
+        refuse(rt.alloc());
+        let answer = query(rt.alloc(), words.as_slice(), &mut con, &mut err);
+        printed(&rt, (answer, b"", err.as_slice()), (*status, b"", text));
     }
 }

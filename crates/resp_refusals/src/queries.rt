@@ -1,56 +1,47 @@
 //! Queries of commands and pipelines: where composing or converting is refused, the replies are
 //! taken and the link is usable.
 
-use crate::links::asks;
+use crate::heap::{Test, refuse};
+use crate::links::{answered, link};
 use crate::made::{GET_K, get};
-use resp_core::{Pipeline, pipe};
+use resp_core::{FromRedisValue, Pipeline, pipe};
 use std::collections::BTreeMap;
-use std::process::Abort;
+use std::fmt::Debug;
+
+/// `GET k` is answered by what shows like this.
+fn asks<T: FromRedisValue + Debug>(rt: &impl Test, incoming: &[u8], wanted: &str) {
+    let command = get(rt);
+    let mut con = link(rt, incoming);
+    refuse(rt.alloc());
+    let answer = command.query::<T>(&mut con);
+    answered(rt, (con, GET_K.len()), answer, wanted);
+}
+
+const TEXT: &[u8] = b"$3\r\nabc\r\n:7\r\n";
+
+const LIST: &[u8] = b">2\r\n+message\r\n+x\r\n*2\r\n+a\r\n+b\r\n:7\r\n";
 
 #[test]
 fn commands(rt: HostRuntime) {
-    let sent = GET_K.len();
-    let get = get(&rt);
-    let text = b"$3\r\nabc\r\n:7\r\n";
-    asks(
-        &rt,
-        sent,
-        text,
-        "Ok(\"abc\")",
-        |con| get.query::<String>(con),
-    );
-    asks(
-        &rt,
-        sent,
-        text,
-        "Ok(Some(\"abc\"))",
-        |con| get.query::<Option<String>>(con),
-    );
-    let list = b">2\r\n+message\r\n+x\r\n*2\r\n+a\r\n+b\r\n:7\r\n";
-    asks(
-        &rt,
-        sent,
-        list,
-        "Ok([\"a\", \"b\"])",
-        |con| get.query::<Vec<String>>(con),
-    );
-    asks(&rt, sent, list, "Ok(())", |con| get.exec(con));
+    asks::<String>(&rt, TEXT, "Ok(\"abc\")");
+    asks::<Option<String>>(&rt, TEXT, "Ok(Some(\"abc\"))");
+    asks::<Vec<String>>(&rt, LIST, "Ok([\"a\", \"b\"])");
     let map = b"%1\r\n+a\r\n*2\r\n:1\r\n:2\r\n:7\r\n";
-    asks(&rt, sent, map, "Ok({\"a\": [1, 2]})", |con| {
-        get.query::<BTreeMap<String, Vec<i64>>>(con)
-    });
-    let error = b"-MINE x y\r\n:7\r\n";
-    asks(
-        &rt,
-        sent,
-        error,
-        "Err(\"MINE\": x y)",
-        |con| get.query::<i64>(con),
-    );
+    asks::<BTreeMap<String, Vec<i64>>>(&rt, map, "Ok({\"a\": [1, 2]})");
+    asks::<i64>(&rt, b"-MINE x y\r\n:7\r\n", "Err(\"MINE\": x y)");
+}
+
+#[test]
+fn a_command_without_an_answer(rt: HostRuntime) {
+    let command = get(&rt);
+    let mut con = link(&rt, LIST);
+    refuse(rt.alloc());
+    let answer = command.exec(&mut con);
+    answered(&rt, (con, GET_K.len()), answer, "Ok(())");
 }
 
 /// `SET k 1`, which may be ignored, and `GET k`; and how long they are when packed.
-fn two(rt: &(impl Abort + AllocGlobal), atomic: bool, ignored: bool) -> (Pipeline, usize) {
+fn two(rt: &impl Test, atomic: bool, ignored: bool) -> (Pipeline, usize) {
     let mut pipeline = pipe(rt.alloc());
     if atomic {
         let _ = pipeline.atomic();
@@ -65,41 +56,48 @@ fn two(rt: &(impl Abort + AllocGlobal), atomic: bool, ignored: bool) -> (Pipelin
     (pipeline, packed.len())
 }
 
+/// Two commands, sent at once, are answered by what shows like this.
+fn asks_two<T: FromRedisValue + Debug>(
+    rt: &impl Test,
+    (pipeline, request): (Pipeline, usize),
+    incoming: &[u8],
+    wanted: &str,
+) {
+    let mut con = link(rt, incoming);
+    refuse(rt.alloc());
+    let answer = pipeline.query::<T>(&mut con);
+    answered(rt, (con, request), answer, wanted);
+}
+
+const REPLIES: &[u8] = b"+OK\r\n$3\r\nabc\r\n:7\r\n";
+
 #[test]
 fn pipelines(rt: HostRuntime) {
-    let replies = b"+OK\r\n$3\r\nabc\r\n:7\r\n";
-    let (whole, sent) = two(&rt, false, false);
-    asks(&rt, sent, replies, "Ok((\"OK\", \"abc\"))", |con| {
-        whole.query::<(String, String)>(con)
-    });
-    asks(&rt, sent, replies, "Ok(())", |con| whole.exec(con));
-    let (one, sent) = two(&rt, false, true);
-    asks(
+    asks_two::<(String, String)>(
         &rt,
-        sent,
-        replies,
-        "Ok((\"abc\",))",
-        |con| one.query::<(String,)>(con),
+        two(&rt, false, false),
+        REPLIES,
+        "Ok((\"OK\", \"abc\"))",
     );
+    asks_two::<(String,)>(&rt, two(&rt, false, true), REPLIES, "Ok((\"abc\",))");
     let errors = b"-MINE x\r\n-OTHER y\r\n:7\r\n";
     let both =
         "Err(Pipeline failures: [(Index 0, error: \"MINE\": x), (Index 1, error: \"OTHER\": y)])";
-    asks(&rt, sent, errors, both, |con| one.query::<(String,)>(con));
+    asks_two::<(String,)>(&rt, two(&rt, false, true), errors, both);
+}
+
+#[test]
+fn a_pipeline_without_an_answer(rt: HostRuntime) {
+    let (whole, sent) = two(&rt, false, false);
+    let mut con = link(&rt, REPLIES);
+    refuse(rt.alloc());
+    let answer = whole.exec(&mut con);
+    answered(&rt, (con, sent), answer, "Ok(())");
 }
 
 #[test]
 fn transactions(rt: HostRuntime) {
     let replies = b"+OK\r\n+QUEUED\r\n+QUEUED\r\n*2\r\n+OK\r\n$3\r\nabc\r\n:7\r\n";
-    let (whole, sent) = two(&rt, true, false);
-    asks(&rt, sent, replies, "Ok([\"OK\", \"abc\"])", |con| {
-        whole.query::<Vec<String>>(con)
-    });
-    let (one, sent) = two(&rt, true, true);
-    asks(
-        &rt,
-        sent,
-        replies,
-        "Ok((\"abc\",))",
-        |con| one.query::<(String,)>(con),
-    );
+    asks_two::<Vec<String>>(&rt, two(&rt, true, false), replies, "Ok([\"OK\", \"abc\"])");
+    asks_two::<(String,)>(&rt, two(&rt, true, true), replies, "Ok((\"abc\",))");
 }

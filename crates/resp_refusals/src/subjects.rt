@@ -1,31 +1,31 @@
 //! Objects that calls change: how they are made, and what they show.
 
+use crate::heap::Test;
 use crate::links::link;
 use resp_core::{ArgList, Cmd, Items, Parser, Pipeline, RedisWrite, cmd, pipe};
-use std::process::Abort;
 
 pub trait Subject: Sized + Drop {
     /// How many there are, with more or less room that is left.
     const SIZES: usize;
 
-    fn of_size<R: Abort + AllocGlobal>(rt: &R, size: usize) -> Self;
+    fn of_size<R: Test>(rt: &R, size: usize) -> Self;
 
     /// What public calls show of it.
-    fn shows<R: Abort + AllocGlobal>(&mut self, rt: &R) -> String;
+    fn shows<R: Test>(&mut self, rt: &R) -> String;
 }
 
 /// `GET` with an argument of so many bytes.
 impl Subject for Cmd {
     const SIZES: usize = 80;
 
-    fn of_size<R: Abort + AllocGlobal>(rt: &R, size: usize) -> Cmd {
+    fn of_size<R: Test>(rt: &R, size: usize) -> Cmd {
         let mut command = cmd(rt.alloc(), "GET").expect(rt, "no refusal");
         let arg = Vec::<u8>::of_size(rt, size);
         command.write_arg(arg.as_slice()).expect(rt, "no refusal");
         command
     }
 
-    fn shows<R: Abort + AllocGlobal>(&mut self, rt: &R) -> String {
+    fn shows<R: Test>(&mut self, rt: &R) -> String {
         let packed = self.get_packed_command().expect(rt, "no refusal");
         let scans = self.in_scan_mode();
         let framed = self.framed();
@@ -41,7 +41,7 @@ const NUMBERS: &[u8] = b":1\r\n:2\r\n:3\r\n:4\r\n:5\r\n:6\r\n:7\r\n:8\r\n:9\r\n:
 impl Subject for Pipeline {
     const SIZES: usize = 10;
 
-    fn of_size<R: Abort + AllocGlobal>(rt: &R, size: usize) -> Pipeline {
+    fn of_size<R: Test>(rt: &R, size: usize) -> Pipeline {
         let mut pipeline = pipe(rt.alloc());
         for position in 0..size {
             pipeline.push_cmd("A").expect(rt, "no refusal");
@@ -52,7 +52,7 @@ impl Subject for Pipeline {
         pipeline
     }
 
-    fn shows<R: Abort + AllocGlobal>(&mut self, rt: &R) -> String {
+    fn shows<R: Test>(&mut self, rt: &R) -> String {
         let packed = self.get_packed_pipeline().expect(rt, "no refusal");
         let mut con = link(rt, NUMBERS);
         let kept: Vec<i64> = self.query(&mut con).expect(rt, "no refusal");
@@ -64,14 +64,14 @@ impl Subject for Pipeline {
 impl Subject for ArgList {
     const SIZES: usize = 10;
 
-    fn of_size<R: Abort + AllocGlobal>(rt: &R, size: usize) -> ArgList {
+    fn of_size<R: Test>(rt: &R, size: usize) -> ArgList {
         let mut list = ArgList::new(rt.alloc());
         let arg = Vec::<u8>::of_size(rt, size);
         list.write_arg(arg.as_slice()).expect(rt, "no refusal");
         list
     }
 
-    fn shows<R: Abort + AllocGlobal>(&mut self, rt: &R) -> String {
+    fn shows<R: Test>(&mut self, rt: &R) -> String {
         let args = self.as_slice();
         format!(in rt.alloc(); "{args:?}").expect(rt, "no refusal")
     }
@@ -81,13 +81,13 @@ impl Subject for ArgList {
 impl Subject for Vec<u8> {
     const SIZES: usize = 70;
 
-    fn of_size<R: Abort + AllocGlobal>(rt: &R, size: usize) -> Vec<u8> {
+    fn of_size<R: Test>(rt: &R, size: usize) -> Vec<u8> {
         let mut bytes = Vec::new(rt.alloc());
         bytes.resize(size, b'x').expect(rt, "no refusal");
         bytes
     }
 
-    fn shows<R: Abort + AllocGlobal>(&mut self, rt: &R) -> String {
+    fn shows<R: Test>(&mut self, rt: &R) -> String {
         format!(in rt.alloc(); "{self:?}").expect(rt, "no refusal")
     }
 }
@@ -96,11 +96,11 @@ impl Subject for Vec<u8> {
 impl Subject for Items<u8> {
     const SIZES: usize = 10;
 
-    fn of_size<R: Abort + AllocGlobal>(rt: &R, size: usize) -> Items<u8> {
+    fn of_size<R: Test>(rt: &R, size: usize) -> Items<u8> {
         Items::from(Vec::<u8>::of_size(rt, size))
     }
 
-    fn shows<R: Abort + AllocGlobal>(&mut self, rt: &R) -> String {
+    fn shows<R: Test>(&mut self, rt: &R) -> String {
         format!(in rt.alloc(); "{self:?}").expect(rt, "no refusal")
     }
 }
@@ -116,7 +116,7 @@ pub const REST: &[u8] = b"567890123456789012345678901234567890123456789012345678
 impl Subject for Parser {
     const SIZES: usize = 2;
 
-    fn of_size<R: Abort + AllocGlobal>(rt: &R, size: usize) -> Parser {
+    fn of_size<R: Test>(rt: &R, size: usize) -> Parser {
         let mut parser = Parser::new(rt.alloc());
         parser.feed(FIRST).expect(rt, "no refusal");
         if size > 0 {
@@ -125,7 +125,7 @@ impl Subject for Parser {
         parser
     }
 
-    fn shows<R: Abort + AllocGlobal>(&mut self, rt: &R) -> String {
+    fn shows<R: Test>(&mut self, rt: &R) -> String {
         let taken = self.take_value().expect(rt, "no refusal");
         let in_progress = self.in_progress();
         format!(in rt.alloc(); "{taken:?} {in_progress}").expect(rt, "no refusal")
