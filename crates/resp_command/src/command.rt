@@ -33,8 +33,10 @@ use std::mem;
 /// A command: its name and arguments, in order.
 ///
 /// ```text
-/// let reply: String = cmd(alloc, "GET")?.arg("my_key")?.query(&mut link)?;
+/// let visits: i64 = cmd(rt.alloc(), "INCR")?.arg("visits")?.query(&mut link)?;
 /// ```
+///
+/// In `crates/uses_counter/src/main.rt`.
 #[derive(Drop)]
 pub struct Cmd {
     alloc: Global,
@@ -335,10 +337,12 @@ impl Cmd {
     /// ```text
     /// let mut scan = cmd(alloc, "SCAN")?;
     /// scan.push_cursor_arg(0)?;
-    /// for key in scan.iter::<String, _>(&mut link, 1_000)? {
-    ///     print(key?);
+    /// for key in scan.iter::<String, _>(link, 1_000)? {
+    ///     keys.push(key?)?;
     /// }
     /// ```
+    ///
+    /// In `crates/uses_scan/src/tests.rt`.
     pub fn iter<'a, T: FromRedisValue, C: ConnectionLike>(
         self,
         con: &'a mut C,

@@ -4,9 +4,11 @@
 //! reply:
 //!
 //! ```text
-//! let mut link = ByteLink::new(alloc, reader, writer);
-//! let value: String = cmd(alloc, "GET")?.arg("my_key")?.query(&mut link)?;
+//! let mut link = ByteLink::new(rt.alloc(), rt.stdin(), rt.stdout());
+//! let visits: i64 = cmd(rt.alloc(), "INCR")?.arg("visits")?.query(&mut link)?;
 //! ```
+//!
+//! In `crates/uses_counter/src/main.rt`.
 //!
 //! This crate gives out the public names of the crates below it, so a user names it alone.
 #![tactic(auto)]

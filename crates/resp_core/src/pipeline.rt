@@ -29,9 +29,18 @@ const SPARE: usize = 32;
 /// Commands that are sent at once, and whose replies are answered together.
 ///
 /// ```text
-/// let mut transfer = pipe(alloc);
-/// transfer.atomic().cmd("SET")?.arg("k")?.arg(1i64)?.ignore().cmd("GET")?.arg("k")?;
+/// pipe(alloc)
+///     .cmd("SET")?
+///     .arg(("name", name))?
+///     .ignore()
+///     .cmd("GET")?
+///     .arg("name")?
+///     .cmd("INCR")?
+///     .arg("age")?
+///     .query(con)
 /// ```
+///
+/// In `crates/uses_arguments/src/commands.rt`.
 ///
 /// As a transaction ([`Pipeline::atomic`]) the commands are sent between `MULTI` and `EXEC`. The
 /// no-response flag of a command changes nothing here.

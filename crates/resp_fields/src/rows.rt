@@ -77,29 +77,35 @@ fn from_row<T: FromRedisValue, X: From<T>>(
 /// fields, or the values are no `T`, or on `OutOfMemory`.
 ///
 /// ```text
-/// type Row = (String, i64, Option<String>);
+/// type Row = (String, Vec<Point>, Option<Point>);
 ///
-/// impl From<Row> for User {
-///     ghost from_gives = { λ t u. u ≡ record { name = t.0; age = t.1; city = t.2 } };
+/// impl From<Row> for Path {
+///     ghost from_gives = { λ t p. p ≡ record { name = t.0; points = t.1; start = t.2 } };
 ///
-///     fn from((name, age, city): Row) -> User {
-///         User { name, age, city }
+///     fn from((name, points, start): Row) -> Path {
+///         Path {
+///             name,
+///             points,
+///             start,
+///         }
 ///     }
 /// }
 ///
-/// impl FromRedisValue for User {
+/// impl FromRedisValue for Path {
 ///     const WIDTH: usize = 0;
 ///
 ///     const BYTES: bool = false;
 ///
-///     ghost of_value = { OfRow (codes "name" ∷ codes "age" ∷ []) (codes "city" ∷ [])
-///         (OfMade ⟦<Row as FromRedisValue>⟧.of_value ⟦<User as From<Row>>⟧.from_gives) };
+///     ghost of_value = { OfRow (codes "name" ∷ codes "points" ∷ []) (codes "start" ∷ [])
+///         (OfMade ⟦<Row as FromRedisValue>⟧.of_value ⟦<Path as From<Row>>⟧.from_gives) };
 ///
-///     fn from_redis_value(alloc: Global, value: Value) -> Result<User, ParsingError> {
-///         from_redis_fields_by::<Row, User>(alloc, value, &["name", "age"], &["city"])
+///     fn from_redis_value(alloc: Global, value: Value) -> Result<Path, ParsingError> {
+///         from_redis_fields_by::<Row, Path>(alloc, value, &["name", "points"], &["start"])
 ///     }
 /// }
 /// ```
+///
+/// In `crates/uses_fields/src/paths.rt`.
 pub fn from_redis_fields_by<T: FromRedisValue, X: From<T>>(
     alloc: Global,
     value: Value,

@@ -17,13 +17,17 @@ use std::alloc::Global;
 /// ```text
 /// impl FromFields for Point {
 ///     ghost of_fields = { λ fields p. Field (codes "x") ⟦<i64 as FromRedisValue>⟧.of_value p.x
-///         (Field (codes "y") ⟦<i64 as FromRedisValue>⟧.of_value p.y AnyOthers) fields };
+///         (Field (codes "y") ⟦<i64 as FromRedisValue>⟧.of_value p.y NoOthers) fields };
 ///
 ///     fn from_fields(alloc: Global, fields: &mut Fields) -> Result<Point, ParsingError> {
-///         Ok(Point {
+///         let point = Point {
 ///             x: fields.take(alloc, "x")?,
 ///             y: fields.take(alloc, "y")?,
-///         })
+///         };
+///         if !fields.is_empty() {
+///             return Err(ParsingError::from("unknown field"));
+///         }
+///         Ok(point)
 ///     }
 /// }
 ///
@@ -39,6 +43,8 @@ use std::alloc::Global;
 ///     }
 /// }
 /// ```
+///
+/// In `crates/uses_fields/src/paths.rt`.
 pub trait FromFields: Sized + Drop {
     // Holds of fields and each value that is made of them.
     ghost of_fields: { NamedValues → Self → Type 0 };

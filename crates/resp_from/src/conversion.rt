@@ -167,6 +167,8 @@ pub fn from_redis_value_ref<T: FromRedisValue>(
 ///     }
 /// }
 /// ```
+///
+/// In `crates/uses_replies/src/own_types.rt`.
 pub fn from_redis_value_by<T: FromRedisValue, X: From<T>>(
     alloc: Global,
     value: Value,

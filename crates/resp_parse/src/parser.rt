@@ -107,9 +107,14 @@ impl Parser {
     /// right, `size limit must be 1 to 2^63 - 1 bytes`.
     ///
     /// ```text
-    /// let limits = Limits { depth: 8, bytes: 1_000_000 };
+    /// let limits = Limits {
+    ///     depth: 8,
+    ///     bytes: 1_000_000,
+    /// };
     /// let mut parser = Parser::with_limits(alloc, limits)?;
     /// ```
+    ///
+    /// In `crates/resp_tests_objects/src/parsers.rt`.
     pub fn with_limits(alloc: Global, limits: Limits) -> RedisResult<Parser>
         ensures accepts { IsOk result ↔ AreLimits limits }
         ensures limits { IfOk result (λ parser. parser.limits ≡ limits) }
@@ -336,6 +341,8 @@ impl Parser {
     /// let fault = parser.take_value(); // FrameFault::BodyEnd, shown by the X
     /// let offset = parser.fault_offset(); // Some(7)
     /// ```
+    ///
+    /// In `crates/resp_tests_objects/src/parsers.rt`.
     pub fn fault_offset(&self) -> Option<usize>
         ensures offset { result ≡ self.now.fault_offset }
         ensures works { self.now.failed ≡ false → result ≡ None }

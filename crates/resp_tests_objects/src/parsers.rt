@@ -1,7 +1,7 @@
 //! Parsers between calls, and the limits that are chosen.
 
 use crate::checks::{Test, answers, is};
-use resp_core::{Limits, Parser, parse_redis_value};
+use resp_core::{Limits, Parser, RedisResult, Value, parse_redis_value};
 use resp_testing::next_text;
 
 /// The parser is fed a piece, and then answers this.
@@ -49,6 +49,23 @@ fn a_failed_parser_takes_nothing(rt: HostRuntime) {
     answers(&rt, parser.parse_value(b":1\r\n".as_slice()), failed);
     assert!(rt; parser.is_failed() && parser.in_progress());
     assert_eq!(rt; parser.fault_offset(), Some(9));
+}
+
+#[test]
+fn a_fault_shows_after_so_many_bytes(rt: HostRuntime) -> RedisResult<()> {
+    let alloc = rt.alloc();
+    let limits = Limits {
+        depth: 8,
+        bytes: 1_000_000,
+    };
+    let mut parser = Parser::with_limits(alloc, limits)?;
+    parser.feed(b":1\r\n$2\r\nabX")?;
+    let one = parser.take_value()?; // Some(Value::Int(1))
+    let fault = parser.take_value(); // FrameFault::BodyEnd, shown by the X
+    let offset = parser.fault_offset(); // Some(7)
+    assert!(rt; one == Some(Value::Int(1)) && offset == Some(7));
+    answers(&rt, fault, "BodyEnd");
+    Ok(())
 }
 
 /// Feeds the bytes; whether more are awaited then.

@@ -16,13 +16,7 @@ use resp_value::{ParsingError, RedisResult, Text, Value};
 use std::alloc::{AllocError, Global};
 use std::collections::BTreeMap;
 
-/// What INFO answers: values under their keys.
-///
-/// ```text
-/// # Replication
-/// role:master
-/// connected_slaves:0
-/// ```
+/// What INFO answers, a line a key as in `role:master`: values under their keys.
 #[derive(Drop)]
 pub struct InfoDict {
     map: BTreeMap<String, Value>,

@@ -2,7 +2,8 @@
 
 use crate::call::cursor_place;
 use crate::program::run;
-use resp_core::{ByteLink, Reading, Writing};
+use resp_core::{ByteLink, Reading, RedisResult, Writing, cmd};
+use std::alloc::Global;
 use std::io::Cursor;
 use std::process::Abort;
 
@@ -132,4 +133,22 @@ fn where_the_cursor_stands(rt: HostRuntime) {
     for (name, place) in [("SCAN", 1), ("HSCAN", 2), ("SSCAN", 2), ("zscan", 2)] {
         stands_at(&rt, name, place);
     }
+}
+
+/// All keys.
+fn keys_of(alloc: Global, link: &mut Link) -> RedisResult<Vec<String>> {
+    let mut keys = Vec::new(alloc);
+    let mut scan = cmd(alloc, "SCAN")?;
+    scan.push_cursor_arg(0)?;
+    for key in scan.iter::<String, _>(link, 1_000)? {
+        keys.push(key?)?;
+    }
+    Ok(keys)
+}
+
+#[test]
+fn all_keys(rt: HostRuntime) {
+    let mut link = link_over(&rt, TWO_OF_SEVEN);
+    let keys = keys_of(rt.alloc(), &mut link).expect(&rt, "no refusal");
+    assert_eq!(rt; keys.len(), 2);
 }
