@@ -9,20 +9,31 @@ ghost use Rattle.uses_session.specs.Counting.{setting};
 
 use resp_core::{
     Attempt, ConnectionLike, ErrorKind, FromRedisValue, Pipeline, RedisError, RedisResult,
-    ServerErrorKind, cmd, pipe,
+    ServerErrorKind, cmd, pipe, retrying,
 };
 use std::alloc::Global;
 
-/// The number of a key, which is to be raised by one.
+/// How often a transaction is tried again before it is given up.
+const RETRIES: u64 = 2;
+
+/// Raises the number of a key by one and answers what it is then. Fails as EXECABORT where other
+/// clients changed it during each attempt.
 ///
 /// A number that is answered is one more than was read after the key was watched, and was set by
 /// the last request, a transaction that was not aborted.
+pub fn count_up(alloc: Global, con: &mut dyn ConnectionLike, key: &str) -> RedisResult<i64>
+    ensures { IfOk result (λ number.
+        CountedUp (⟦<() as FromRedisValue>⟧.of_value) (⟦<Option<i64> as FromRedisValue>⟧.of_value)
+        (⟦<Option<()> as FromRedisValue>⟧.of_value) (connection con.new) key.now number) }
+{
+    retrying(con, RETRIES, &CountUp { alloc, key }, is_aborted)
+}
+
+/// The number of this key, which is to be raised by one.
 #[derive(Drop)]
-pub struct CountUp<'a> {
-    /// For the commands.
-    pub alloc: Global,
-    /// The key.
-    pub key: &'a str,
+struct CountUp<'a> {
+    alloc: Global,
+    key: &'a str,
 }
 
 impl Attempt<i64> for CountUp<'_> {
@@ -39,7 +50,7 @@ impl Attempt<i64> for CountUp<'_> {
 }
 
 /// Whether a transaction was aborted, as where another client was in between.
-pub fn is_aborted(error: &RedisError) -> bool {
+fn is_aborted(error: &RedisError) -> bool {
     error.kind() == ErrorKind::Server(ServerErrorKind::ExecAbort)
 }
 

@@ -3,13 +3,10 @@
 ghost use Rattle.std.specs.Prelude.{IfOk, codes};
 ghost use Rattle.uses_session.specs.Counting.{CountedUp};
 
-use crate::counting::{CountUp, is_aborted};
+use crate::counting::count_up;
 use crate::server::{Server, greet};
-use resp_core::{ConnectionLike, FromRedisValue, RedisResult, ValueType, cmd, pipe, retrying};
+use resp_core::{ConnectionLike, FromRedisValue, RedisResult, ValueType, cmd, pipe};
 use std::alloc::Global;
-
-/// How often a transaction is tried again before the session gives it up.
-const RETRIES: u64 = 2;
 
 /// What a server holds of a name.
 #[derive(Drop)]
@@ -50,15 +47,11 @@ pub fn session(
         (⟦<Option<()> as FromRedisValue>⟧.of_value) (connection con.new) (codes "visits")
         learned.visits) }
 {
-    let visit = CountUp {
-        alloc,
-        key: "visits",
-    };
     Ok(Learned {
         server: greet(alloc, con, protocol)?,
         name: rename(alloc, con, name)?,
         entry: look(alloc, con)?,
-        visits: retrying(con, RETRIES, &visit, is_aborted)?,
+        visits: count_up(alloc, con, "visits")?,
     })
 }
 
