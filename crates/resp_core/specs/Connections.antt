@@ -18,3 +18,4 @@ pub use Rattle.resp_command.specs.Taken.{Taken, Taking, TakesOneThing}
 pub use Rattle.resp_link.specs.Linking.{connection_of}
 pub use Rattle.resp_link.specs.Receiving.{Inflow, inflow_of, unread}
 pub use Rattle.resp_link.specs.Sink.{Sink, sink_of}
+pub use Rattle.resp_retry.specs.Retried.{Retried, TriedAgain}

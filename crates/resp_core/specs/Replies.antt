@@ -1,9 +1,10 @@
 -- What the contracts of replies and errors cite, given out for the crates of users.
 pub use Rattle.resp_errors.specs.Errors.{kind_of, detail_of, code_of, fault_of, io_kind_of}
-pub use Rattle.resp_errors.specs.Errors.{server_errors_of}
+pub use Rattle.resp_errors.specs.Errors.{first_server_error_of, server_errors_of}
 pub use Rattle.resp_errors.specs.Memory.{OnlyMemory}
 pub use Rattle.resp_errors.specs.Redirects.{RedirectsTo}
 pub use Rattle.resp_errors.specs.Retries.{is_dropped, is_of_cluster, replaces_connection, retry_of}
+pub use Rattle.resp_errors.specs.ServerErrors.{server_code_of, server_details_of}
 pub use Rattle.resp_fields.specs.Fields.{NamedValues, OfField, OfFieldOr, OfFields, value_of}
 pub use Rattle.resp_fields.specs.Fields.{without}
 pub use Rattle.resp_fields.specs.Rows.{OfRow, row_of}

@@ -13,6 +13,7 @@
 //! This crate gives out the public names of the crates below it, so a user names it alone.
 #![tactic(auto)]
 
+mod attempts;
 mod composing;
 pub mod laws;
 mod pipeline;
@@ -30,6 +31,7 @@ pub use resp_fields::{Fields, FromFields, from_redis_fields, from_redis_fields_b
 pub use resp_from::{FromRedisValue, from_redis_value, from_redis_value_by, from_redis_value_ref};
 pub use resp_link::{ByteLink, CommandSink, Writing};
 pub use resp_parse::{Limits, Parser, Reading, ReplySource, parse_redis_value};
+pub use resp_retry::{Attempt, retrying};
 pub use resp_types::{IncrexResult, InfoDict, IntegerReplyOrNoOp, ReplicaInfo, Role, ValueType};
 pub use resp_value::{
     Boxed, Description, ErrorKind, FrameFault, IoKind, Items, MapIter, OwnedMapIter, ParsingError,

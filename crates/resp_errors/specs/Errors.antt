@@ -1,5 +1,5 @@
 -- What an error says, by its form.
-use Rattle.std.specs.Prelude.{ℕ, List, [], ◌∷◌, codes, Option, None, Some, Result, Ok, Err}
+use Rattle.std.specs.Prelude.{ℕ, List, [], ◌∷◌, codes, Option, None, Some, Result, Ok, Err, slice_get, option_and_then}
 use Rattle.resp_errors.specs.declared.kinds.ServerErrorKind.{ServerErrorKind}
 use Rattle.resp_errors.specs.declared.kinds.ServerErrorKind.TheVariants.{ResponseError, ExecAbort, BusyLoading, NoScript, Moved, Ask, TryAgain, ClusterDown, CrossSlot, MasterDown, ReadOnly, NotBusy, NoSub, NoPerm}
 use Rattle.resp_errors.specs.declared.kinds.ErrorKind.{ErrorKind}
@@ -145,6 +145,10 @@ server_errors_of (form.Server e) = Some ((0, e) ∷ [])
 server_errors_of (form.Pipeline errors) = Some errors
 server_errors_of (form.Aborted errors) = Some errors
 server_errors_of _ = None
+
+-- the first of these, where there is one
+abbrev pub first_server_error_of : RedisError → Option (ℕ × ServerError)
+first_server_error_of e = option_and_then (λ errors. slice_get errors 0) (server_errors_of e)
 
 -- the server's error of an error of that form; of another form the error itself
 abbrev pub server_error_or_back : RedisError → Result ServerError RedisError

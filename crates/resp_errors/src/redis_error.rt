@@ -3,7 +3,8 @@
 ghost use Rattle.std.specs.Prelude.{◌≡◌, ◌↔◌, IsTrue, IfOk, Some, None, string_bytes, option_map};
 ghost use Rattle.std.specs.Option.{option_copied};
 ghost use Rattle.resp_errors.specs.Errors.{kind_of, detail_of, code_of, category_of_kind, fault_of};
-ghost use Rattle.resp_errors.specs.Errors.{io_kind_of, server_errors_of, error_of_parsing};
+ghost use Rattle.resp_errors.specs.Errors.{io_kind_of, server_errors_of, first_server_error_of};
+ghost use Rattle.resp_errors.specs.Errors.{error_of_parsing};
 ghost use Rattle.resp_errors.specs.Descriptions.{fitting};
 ghost use Rattle.resp_errors.specs.Memory.{OnlyMemory};
 ghost use Rattle.resp_errors.specs.declared.redis_error.RedisError.TheVariants as form;
@@ -141,6 +142,32 @@ impl RedisError {
                 Ok(Some(errors.into_vec()))
             }
             _ => Ok(None),
+        }
+    }
+
+    /// The first of the server errors inside, with its position: of a list its first item, and of a
+    /// lone server error that one, at position 0. `None` where there is none.
+    ///
+    /// It takes no memory and leaves the error whole. [`code`](RedisError::code) of a pipeline's
+    /// error knows the codes of [`ServerErrorKind`] alone; this tells any other one by its code:
+    ///
+    /// ```text
+    /// match error.first_server_error() {
+    ///     Some((position, cause)) if cause.code() == "WRONGTYPE" => ..,
+    ///     ..
+    /// }
+    /// ```
+    pub fn first_server_error(&self) -> Option<(usize, &ServerError)>
+        ensures { option_map (λ found. (found.0, found.1.now)) result
+            ≡ first_server_error_of self.now }
+    {
+        match self {
+            RedisError::Server(error) => Some((0, error)),
+            RedisError::Pipeline(errors) | RedisError::Aborted(errors) => {
+                let (position, error) = errors.as_slice().first()?;
+                Some((*position, error))
+            }
+            _ => None,
         }
     }
 

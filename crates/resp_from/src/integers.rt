@@ -11,8 +11,12 @@ use resp_value::{ParsingError, Value};
 use std::alloc::Global;
 use std::num::{ParseIntError, TryFromIntError};
 
-/// An integer type: which numbers and which texts are its values.
-pub trait Integer: Sized + Drop {
+/// An integer type that replies convert to: which numbers and which texts are its values.
+///
+/// One impl of [`FromRedisValue`] serves them all. So of a type that has no conversion the compiler
+/// says that it isn't this, be it an integer type or not: what it lacks is `FromRedisValue`. There
+/// are no floats: take the text of such a reply, as a `String`, or the [`Value`].
+pub trait IntegerFromRedisValue: Sized + Drop {
     /// Whether the type is that of bytes.
     const IS_BYTE: bool;
 
@@ -33,7 +37,7 @@ pub trait Integer: Sized + Drop {
         ensures decides { Decides (of_text text.now) result };
 }
 
-fn read_integer<T: Integer>(value: &Value) -> Result<T, ParsingError>
+fn read_integer<T: IntegerFromRedisValue>(value: &Value) -> Result<T, ParsingError>
     ensures decides { Decides (OfInteger T.of_number T.of_text value.now) result }
 {
     match strip_attribute_ref(value) {
@@ -50,7 +54,7 @@ fn read_integer<T: Integer>(value: &Value) -> Result<T, ParsingError>
 /// An integer is the reply's number, or the number that its text writes in decimal: `+`, or for
 /// signed types `-`, or no sign, and digits, without white space. At most one attribute is removed.
 /// Takes no memory.
-impl<T: Integer> FromRedisValue for T {
+impl<T: IntegerFromRedisValue> FromRedisValue for T {
     const WIDTH: usize = 0;
 
     const BYTES: bool = T::IS_BYTE;
@@ -97,7 +101,7 @@ fn numeral<T>(number: Result<T, ParseIntError>) -> Result<T, ParsingError>
     }
 }
 
-impl Integer for i8 {
+impl IntegerFromRedisValue for i8 {
     ghost use Rattle.std.specs.Prelude.{false};
     ghost use Rattle.std.specs.Int.{w8};
     ghost use Rattle.resp_from.specs.Integers.{SignedNumber, SignedText};
@@ -119,7 +123,7 @@ impl Integer for i8 {
     }
 }
 
-impl Integer for i16 {
+impl IntegerFromRedisValue for i16 {
     ghost use Rattle.std.specs.Prelude.{false};
     ghost use Rattle.std.specs.Int.{w16};
     ghost use Rattle.resp_from.specs.Integers.{SignedNumber, SignedText};
@@ -141,7 +145,7 @@ impl Integer for i16 {
     }
 }
 
-impl Integer for i32 {
+impl IntegerFromRedisValue for i32 {
     ghost use Rattle.std.specs.Prelude.{false};
     ghost use Rattle.std.specs.Int.{w32};
     ghost use Rattle.resp_from.specs.Integers.{SignedNumber, SignedText};
@@ -163,7 +167,7 @@ impl Integer for i32 {
     }
 }
 
-impl Integer for i64 {
+impl IntegerFromRedisValue for i64 {
     ghost use Rattle.std.specs.Prelude.{false};
     ghost use Rattle.std.specs.Int.{w64};
     ghost use Rattle.resp_from.specs.Integers.{SignedNumber, SignedText};
@@ -185,7 +189,7 @@ impl Integer for i64 {
     }
 }
 
-impl Integer for i128 {
+impl IntegerFromRedisValue for i128 {
     ghost use Rattle.std.specs.Prelude.{false};
     ghost use Rattle.std.specs.Int.{w128};
     ghost use Rattle.resp_from.specs.Integers.{SignedNumber, SignedText};
@@ -207,7 +211,7 @@ impl Integer for i128 {
     }
 }
 
-impl Integer for isize {
+impl IntegerFromRedisValue for isize {
     ghost use Rattle.std.specs.Prelude.{false};
     ghost use Rattle.std.specs.Int.{w64};
     ghost use Rattle.resp_from.specs.Integers.{SignedNumber, SignedText};
@@ -229,7 +233,7 @@ impl Integer for isize {
     }
 }
 
-impl Integer for u8 {
+impl IntegerFromRedisValue for u8 {
     ghost use Rattle.std.specs.Prelude.{true};
     ghost use Rattle.resp_from.specs.Integers.{UnsignedNumber, UnsignedText};
 
@@ -250,7 +254,7 @@ impl Integer for u8 {
     }
 }
 
-impl Integer for u16 {
+impl IntegerFromRedisValue for u16 {
     ghost use Rattle.std.specs.Prelude.{false};
     ghost use Rattle.resp_from.specs.Integers.{UnsignedNumber, UnsignedText};
 
@@ -271,7 +275,7 @@ impl Integer for u16 {
     }
 }
 
-impl Integer for u32 {
+impl IntegerFromRedisValue for u32 {
     ghost use Rattle.std.specs.Prelude.{false};
     ghost use Rattle.resp_from.specs.Integers.{UnsignedNumber, UnsignedText};
 
@@ -292,7 +296,7 @@ impl Integer for u32 {
     }
 }
 
-impl Integer for u64 {
+impl IntegerFromRedisValue for u64 {
     ghost use Rattle.std.specs.Prelude.{false};
     ghost use Rattle.resp_from.specs.Integers.{UnsignedNumber, UnsignedText};
 
@@ -313,7 +317,7 @@ impl Integer for u64 {
     }
 }
 
-impl Integer for u128 {
+impl IntegerFromRedisValue for u128 {
     ghost use Rattle.std.specs.Prelude.{false};
     ghost use Rattle.resp_from.specs.Integers.{UnsignedNumber, UnsignedText};
 
@@ -334,7 +338,7 @@ impl Integer for u128 {
     }
 }
 
-impl Integer for usize {
+impl IntegerFromRedisValue for usize {
     ghost use Rattle.std.specs.Prelude.{false};
     ghost use Rattle.resp_from.specs.Integers.{UnsignedNumber, UnsignedText};
 

@@ -5,7 +5,7 @@ use resp_testing::{answer_text, bytes_text, pipeline};
 use std::collections::VecDeque;
 use std::fmt::Debug;
 use std::process::Abort;
-use uses_replies::{Counted, Stored, visits};
+use uses_replies::{Counted, Stored, count_call, visits};
 
 /// The answer shows this: its Debug form, or its refusal.
 fn answers<T: Debug + Drop>(rt: &(impl Abort + AllocGlobal), answer: RedisResult<T>, wanted: &str) {
@@ -73,4 +73,23 @@ fn requests_are_counted(rt: HostRuntime) {
         *1\r\n$1\r\nA\r\n*1\r\n$1\r\nB\r\n";
     let sent = con.into_sent();
     assert_eq!(rt; bytes_text(rt.alloc(), sent.as_slice()).as_str(), wanted);
+}
+
+#[test]
+fn a_key_of_another_type_is_no_counter(rt: HostRuntime) {
+    let incoming = Vec::from_slice(
+        rt.alloc(),
+        b"+OK\r\n+QUEUED\r\n+QUEUED\r\n*2\r\n:8\r\n:0\r\n\
+        +OK\r\n+QUEUED\r\n+QUEUED\r\n*2\r\n\
+        -WRONGTYPE Operation against a key holding the wrong kind of value\r\n:0\r\n\
+        +OK\r\n-ERR x\r\n+QUEUED\r\n-EXECABORT y\r\n",
+    )
+    .expect(&rt, "memory");
+    let mut con = Counted::new(rt.alloc(), incoming);
+    let mut count_answers = |wanted: &str| {
+        answers(&rt, count_call(rt.alloc(), &mut con, "calls"), wanted);
+    };
+    count_answers("Some(8)");
+    count_answers("None");
+    count_answers("Transaction aborted: [(Index 0, error: ResponseError: x)]");
 }

@@ -1,5 +1,6 @@
 //! Tests of the callers `uses_arguments`, `uses_proxy`, `uses_redirect` and `uses_replies`, and of
-//! what the program `resp` does where its streams fail, over links in memory.
+//! what the program `resp` does where its streams fail, over links in memory; and of calls that are
+//! tried again.
 #![tactic(auto)]
 
 #[cfg(test)]
@@ -12,3 +13,5 @@ mod program;
 mod queries;
 #[cfg(test)]
 mod replies;
+#[cfg(test)]
+mod retries;

@@ -1,12 +1,14 @@
 //! What users write of replies: connections of their own, one for tests of code that takes a
 //! `&mut dyn ConnectionLike` ([`Stored`]) and one around a link ([`Counted`]), and types of their
-//! own that replies convert to.
+//! own that replies convert to, and an error that is told by the server's code.
 #![tactic(auto)]
 
 mod counted;
+mod counters;
 mod own_types;
 mod stored;
 
 pub use counted::{Counted, MemoryLink};
+pub use counters::{count_call, is_of_wrong_type, visits_when_ready};
 pub use own_types::{Point, Scored};
 pub use stored::{Stored, visits};

@@ -1,53 +1,57 @@
 //! A number that several clients may raise: a transaction that is tried again where another client
 //! was faster.
 
-ghost use Rattle.std.specs.Prelude.{◌≡◌, ◌+ℤ◌, pos, IfOk, IfSome, IsTrue, OnOk, codes};
+ghost use Rattle.std.specs.Prelude.{◌≡◌, ◌+ℤ◌, pos, IfOk, OnOk, Ok, Some, codes};
 ghost use Rattle.resp_core.specs.Connections.{CommandQuery};
 ghost use Rattle.resp_core.specs.PipelineQuery.{PipelineQuery};
 ghost use Rattle.uses_session.specs.Counting.{CountedUp, WatchedAndRead, of_key, or_zero};
 ghost use Rattle.uses_session.specs.Counting.{setting};
 
 use resp_core::{
-    ConnectionLike, ErrorKind, FromRedisValue, Pipeline, RedisError, RedisResult, cmd, pipe,
+    Attempt, ConnectionLike, ErrorKind, FromRedisValue, Pipeline, RedisError, RedisResult,
+    ServerErrorKind, cmd, pipe, retrying,
 };
 use std::alloc::Global;
 
-/// Raises the number of a key by one and answers what it is then; `None` where other clients
-/// changed it during each attempt.
+/// How often a transaction is tried again before it is given up.
+const RETRIES: u64 = 2;
+
+/// Raises the number of a key by one and answers what it is then. Fails as EXECABORT where other
+/// clients changed it during each attempt.
 ///
 /// A number that is answered is one more than was read after the key was watched, and was set by
 /// the last request, a transaction that was not aborted.
-pub fn count_up(
-    alloc: Global,
-    con: &mut dyn ConnectionLike,
-    key: &str,
-    attempts: u32,
-) -> RedisResult<Option<i64>>
-    ensures { IfOk result (λ found. IfSome found (λ number.
+pub fn count_up(alloc: Global, con: &mut dyn ConnectionLike, key: &str) -> RedisResult<i64>
+    ensures { IfOk result (λ number.
         CountedUp (⟦<() as FromRedisValue>⟧.of_value) (⟦<Option<i64> as FromRedisValue>⟧.of_value)
-        (⟦<Option<()> as FromRedisValue>⟧.of_value) (connection con.new) key.now number)) }
+        (⟦<Option<()> as FromRedisValue>⟧.of_value) (connection con.new) key.now number) }
 {
-    for _ in 0..attempts {
-        if let Some(number) = attempt(alloc, con, key)? {
-            return Ok(Some(number));
-        }
-    }
-    Ok(None)
+    retrying(con, RETRIES, &CountUp { alloc, key }, is_aborted)
 }
 
-/// Watches the key, reads its number, and sets it to one more in a transaction; `None` where that
-/// was aborted, since another client was in between.
-fn attempt(alloc: Global, con: &mut dyn ConnectionLike, key: &str) -> RedisResult<Option<i64>>
-    ensures { IfOk result (λ found. IfSome found (λ number.
+/// The number of this key, which is to be raised by one.
+#[derive(Drop)]
+struct CountUp<'a> {
+    alloc: Global,
+    key: &'a str,
+}
+
+impl Attempt<i64> for CountUp<'_> {
+    ghost attempts = { λ count _ new result. IfOk result (λ number.
         CountedUp (⟦<() as FromRedisValue>⟧.of_value) (⟦<Option<i64> as FromRedisValue>⟧.of_value)
-        (⟦<Option<()> as FromRedisValue>⟧.of_value) (connection con.new) key.now number)) }
-{
-    let number = one_more(watch_and_read(alloc, con, key)?)?;
-    if set_watched(alloc, con, key, number)? {
-        Ok(Some(number))
-    } else {
-        Ok(None)
+        (⟦<Option<()> as FromRedisValue>⟧.of_value) new count.key.now number) };
+
+    /// Watches the key, reads its number, and sets it to one more in a transaction.
+    fn attempt(&self, con: &mut dyn ConnectionLike) -> RedisResult<i64> {
+        let number = one_more(watch_and_read(self.alloc, con, self.key)?)?;
+        set_watched(self.alloc, con, self.key, number)?;
+        Ok(number)
     }
+}
+
+/// Whether a transaction was aborted, as where another client was in between.
+fn is_aborted(error: &RedisError) -> bool {
+    error.kind() == ErrorKind::Server(ServerErrorKind::ExecAbort)
 }
 
 /// Watches the key, and reads its number, where it has one.
@@ -97,20 +101,25 @@ fn one_more(held: Option<i64>) -> RedisResult<i64>
     }
 }
 
-/// Sets the key to the number in a transaction, and answers whether it was done: not where it was
-/// aborted.
+/// Sets the key to the number in a transaction. Fails as EXECABORT where it was aborted, since
+/// another client was in between.
 fn set_watched(
     alloc: Global,
     con: &mut dyn ConnectionLike,
     key: &str,
     number: i64,
-) -> RedisResult<bool>
-    ensures { IfOk result (λ done. IsTrue done →
-        PipelineQuery (connection con.old) (connection con.new) (setting key.now number)
-        (⟦<Option<()> as FromRedisValue>⟧.of_value) (Ok (Some tt))) }
+) -> RedisResult<()>
+    ensures { OnOk result (PipelineQuery (connection con.old) (connection con.new)
+        (setting key.now number) (⟦<Option<()> as FromRedisValue>⟧.of_value) (Ok (Some tt))) }
 {
     let done: Option<()> = setting(alloc, key, number)?.query(con)?;
-    Ok(done.is_some())
+    match done {
+        Some(()) => Ok(()),
+        None => Err(RedisError::from((
+            ErrorKind::Server(ServerErrorKind::ExecAbort),
+            "another client was faster",
+        ))),
+    }
 }
 
 /// The transaction that sets a key to a number.

@@ -81,10 +81,7 @@ fn print_learned<E: Write>(learned: &Learned, err: &mut E) -> io::Result<()> {
     for name in &entry.both {
         writeln!(err, "found {name:?}")?;
     }
-    match learned.visits {
-        Some(visits) => writeln!(err, "visit {visits}"),
-        None => writeln!(err, "others count too"),
-    }
+    writeln!(err, "visit {}", learned.visits)
 }
 
 /// Prints what a transaction came to, and of each command in it that was refused or failed why.

@@ -1,15 +1,12 @@
 //! A session: its steps, and what is learned of them.
 
-ghost use Rattle.std.specs.Prelude.{IfOk, IfSome, codes};
+ghost use Rattle.std.specs.Prelude.{IfOk, codes};
 ghost use Rattle.uses_session.specs.Counting.{CountedUp};
 
 use crate::counting::count_up;
 use crate::server::{Server, greet};
 use resp_core::{ConnectionLike, FromRedisValue, RedisResult, ValueType, cmd, pipe};
 use std::alloc::Global;
-
-/// How often a transaction is tried before the session gives it up.
-const ATTEMPTS: u32 = 3;
 
 /// What a server holds of a name.
 #[derive(Drop)]
@@ -31,8 +28,8 @@ pub struct Learned {
     pub name: String,
     /// What else it said of the name.
     pub entry: Entry,
-    /// How many visits there were with this one; `None` where the count could not be raised.
-    pub visits: Option<i64>,
+    /// How many visits there were with this one.
+    pub visits: i64,
 }
 
 /// Greets the server, leaves a name there, looks at it, and counts a visit.
@@ -45,15 +42,16 @@ pub fn session(
     protocol: i64,
     name: &str,
 ) -> RedisResult<Learned>
-    ensures { IfOk result (λ learned. IfSome learned.visits (λ visits.
+    ensures { IfOk result (λ learned.
         CountedUp (⟦<() as FromRedisValue>⟧.of_value) (⟦<Option<i64> as FromRedisValue>⟧.of_value)
-        (⟦<Option<()> as FromRedisValue>⟧.of_value) (connection con.new) (codes "visits") visits)) }
+        (⟦<Option<()> as FromRedisValue>⟧.of_value) (connection con.new) (codes "visits")
+        learned.visits) }
 {
     Ok(Learned {
         server: greet(alloc, con, protocol)?,
         name: rename(alloc, con, name)?,
         entry: look(alloc, con)?,
-        visits: count_up(alloc, con, "visits", ATTEMPTS)?,
+        visits: count_up(alloc, con, "visits")?,
     })
 }
 
