@@ -4,8 +4,9 @@ use resp_core::{ConnectionLike, RedisResult, parse_redis_value};
 use resp_testing::{answer_text, bytes_text, pipeline};
 use std::collections::VecDeque;
 use std::fmt::Debug;
+use std::io::Cursor;
 use std::process::Abort;
-use uses_replies::{Counted, Stored, visits};
+use uses_replies::{Counted, Stored, visit_between, visit_over, visits};
 
 /// The answer shows this: its Debug form, or its refusal.
 fn answers<T: Debug + Drop>(rt: &(impl Abort + AllocGlobal), answer: RedisResult<T>, wanted: &str) {
@@ -73,4 +74,20 @@ fn requests_are_counted(rt: HostRuntime) {
         *1\r\n$1\r\nA\r\n*1\r\n$1\r\nB\r\n";
     let sent = con.into_sent();
     assert_eq!(rt; bytes_text(rt.alloc(), sent.as_slice()).as_str(), wanted);
+}
+
+#[test]
+fn visits_over_ends_of_any_type(rt: HostRuntime) {
+    let alloc = rt.alloc();
+    let mut input = Cursor::new(Vec::from_slice(alloc, b":7\r\n").expect(&rt, "memory"));
+    let mut output: Vec<u8> = Vec::new(alloc);
+    answers(
+        &rt,
+        visit_between(alloc, &mut input, &mut output, "home"),
+        "7",
+    );
+    let sent = b"*4\r\n$7\r\nHINCRBY\r\n$4\r\nhome\r\n$6\r\nvisits\r\n$1\r\n1\r\n";
+    assert!(rt; output.as_slice() == sent.as_slice());
+    let input = Cursor::new(Vec::from_slice(alloc, b":8\r\n").expect(&rt, "memory"));
+    answers(&rt, visit_over(alloc, input, output, "home"), "8");
 }
