@@ -1,2 +1,3 @@
 pub mod GrowingArgs
+pub mod JoinedArgs
 pub mod ReplacedArg

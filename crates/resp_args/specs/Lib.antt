@@ -1,5 +1,6 @@
 pub mod Args
 pub mod Comparisons
+pub mod Joined
 pub mod Kept
 pub mod Options
 pub mod SingleArg

@@ -6,6 +6,7 @@ mod hashed_maps;
 mod hashed_sets;
 mod integers;
 mod pairs;
+mod parts;
 mod slices;
 mod sorted_maps;
 mod sorted_sets;

@@ -6,6 +6,7 @@ mod args;
 mod comparison;
 mod copies;
 mod impls;
+mod joined;
 mod options;
 mod shown;
 mod single_arg;
@@ -15,6 +16,7 @@ mod writer;
 pub use arg_list::ArgList;
 pub use args::{NumericBehavior, ToRedisArgs, write_each_arg};
 pub use comparison::ValueComparison;
+pub use joined::{ArgPart, Joined};
 pub use options::{
     ExistenceCheck, ExpireOption, Expiry, FieldExistenceCheck, ProtocolVersion, SetExpiry,
     is_valid_16_bytes_hex_digest,

@@ -20,9 +20,9 @@ mod pipeline;
 
 pub use pipeline::{Pipeline, pipe};
 pub use resp_args::{
-    ArgList, ArgWriter, ExistenceCheck, ExpireOption, Expiry, FieldExistenceCheck, NumericBehavior,
-    ProtocolVersion, RedisWrite, SetExpiry, ToRedisArgs, ToSingleRedisArg, ValueComparison,
-    is_valid_16_bytes_hex_digest, write_each_arg,
+    ArgList, ArgPart, ArgWriter, ExistenceCheck, ExpireOption, Expiry, FieldExistenceCheck, Joined,
+    NumericBehavior, ProtocolVersion, RedisWrite, SetExpiry, ToRedisArgs, ToSingleRedisArg,
+    ValueComparison, is_valid_16_bytes_hex_digest, write_each_arg,
 };
 pub use resp_command::{
     Arg, ArgsIter, Cmd, ConnectionLike, Iter, Scan, ScanProgress, cmd, pack_command,

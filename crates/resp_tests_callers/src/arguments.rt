@@ -1,9 +1,11 @@
 //! What own types write, and the bytes of the commands that own functions make.
 
-use resp_core::{Cmd, RedisResult, ToRedisArgs, cmd};
+use resp_core::{Cmd, Joined, RedisResult, ToRedisArgs, cmd};
 use resp_testing::{args_text, command_text};
 use std::process::Abort;
-use uses_arguments::{Key, Member, Path, Point, Range, add_all, add_tagged, add_twelve, get};
+use uses_arguments::{
+    Key, LimitKey, Member, Path, Point, Range, add_all, add_tagged, add_twelve, get, get_name,
+};
 
 /// The value gives these arguments.
 fn gives<T: ToRedisArgs>(rt: &(impl Abort + AllocGlobal), value: &T, wanted: &str) {
@@ -27,6 +29,32 @@ fn fields_one_after_another(rt: HostRuntime) {
     gives(&rt, &Key { name }, "6:my_key (1)");
     let points = points.to_vec(rt.alloc()).expect(&rt, "memory");
     gives(&rt, &Path { points }, "1:1 1:2 1:3 1:4 (2)");
+}
+
+#[test]
+fn parts_are_one_argument(rt: HostRuntime) {
+    let name = string(&rt, "ada");
+    gives(&rt, &Joined(("limit:", &name)), "9:limit:ada (1)");
+    gives(&rt, &LimitKey { name }, "9:limit:ada (1)");
+    gives(&rt, &Joined(("", "")), "0: (1)");
+    gives(
+        &rt,
+        &Joined(("n", u64::MAX, i64::MIN)),
+        "41:n18446744073709551615-9223372036854775808 (1)",
+    );
+    gives(&rt, &Joined(("a", 1u8, ("b", -2i16), "c")), "6:a1b-2c (1)");
+    gives(&rt, &Joined(("a", 1u8, 2u16, 3u32, -4i8)), "6:a123-4 (1)");
+    let bytes = Vec::from_slice(rt.alloc(), b"xy").expect(&rt, "memory");
+    gives(
+        &rt,
+        &Joined((b"w".as_slice(), bytes, 1i32, 2u128, 3usize, -4isize)),
+        "8:wxy123-4 (1)",
+    );
+    packs(
+        &rt,
+        get_name(rt.alloc(), 7),
+        "*2\r\n$3\r\nGET\r\n$11\r\nuser:7:name\r\n",
+    );
 }
 
 /// The command is packed as these bytes.

@@ -4,8 +4,9 @@ use resp_core::{ConnectionLike, RedisResult, parse_redis_value};
 use resp_testing::{answer_text, bytes_text, pipeline};
 use std::collections::VecDeque;
 use std::fmt::Debug;
+use std::io::Cursor;
 use std::process::Abort;
-use uses_replies::{Counted, Stored, count_call, visits};
+use uses_replies::{Counted, Stored, count_call, visit_between, visit_over, visits};
 
 /// The answer shows this: its Debug form, or its refusal.
 fn answers<T: Debug + Drop>(rt: &(impl Abort + AllocGlobal), answer: RedisResult<T>, wanted: &str) {
@@ -92,4 +93,20 @@ fn a_key_of_another_type_is_no_counter(rt: HostRuntime) {
     count_answers("Some(8)");
     count_answers("None");
     count_answers("Transaction aborted: [(Index 0, error: ResponseError: x)]");
+}
+
+#[test]
+fn visits_over_ends_of_any_type(rt: HostRuntime) {
+    let alloc = rt.alloc();
+    let mut input = Cursor::new(Vec::from_slice(alloc, b":7\r\n").expect(&rt, "memory"));
+    let mut output: Vec<u8> = Vec::new(alloc);
+    answers(
+        &rt,
+        visit_between(alloc, &mut input, &mut output, "home"),
+        "7",
+    );
+    let sent = b"*4\r\n$7\r\nHINCRBY\r\n$4\r\nhome\r\n$6\r\nvisits\r\n$1\r\n1\r\n";
+    assert!(rt; output.as_slice() == sent.as_slice());
+    let input = Cursor::new(Vec::from_slice(alloc, b":8\r\n").expect(&rt, "memory"));
+    answers(&rt, visit_over(alloc, input, output, "home"), "8");
 }

@@ -9,6 +9,7 @@
 mod commands;
 mod fields;
 mod key;
+mod limit_key;
 mod member;
 mod path;
 mod point;
@@ -17,6 +18,7 @@ mod range;
 pub use commands::{add_all, add_tagged, add_twelve, fields_of, get, rename, set_fields};
 pub use fields::Fields;
 pub use key::Key;
+pub use limit_key::{LimitKey, get_name};
 pub use member::{Member, member_args};
 pub use path::Path;
 pub use point::Point;
