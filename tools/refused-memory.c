@@ -1,5 +1,5 @@
 /* Stands before malloc, realloc and calloc of the C library (glibc), and refuses requests as the
-   tests of crates/resp_refusals tell it, by requests of sizes that no heap has (src/heap.rt there).
+   tests of crates/resp_tests_refused_memory tell it, by requests of sizes that no heap has (src/heap.rt there).
    REFUSED_REQUEST says which request is refused after each time it is told, counted from 0, and
    REFUSED_LATER, if it is set, that all later ones are refused too. At exit it writes to standard
    error how often it was told, and how many requests it refused. */

@@ -12,8 +12,8 @@
 //! it is `refused: out of memory`.
 #![tactic(auto)]
 
+use resp_cli_lib::{Task, pack, print_no_words, print_usage, query, read, task_of};
 use resp_core::ByteLink;
-use resp_program::{Task, pack, print_no_words, print_usage, query, read, task_of};
 use std::process::ExitCode;
 use std::{env, io};
 

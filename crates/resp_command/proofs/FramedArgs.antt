@@ -10,8 +10,8 @@ use borrow.Author.Tests.{ltb-true, ltb-false}
 use Rattle.resp_args.specs.Args.{Args, extended}
 use Rattle.resp_parse.specs.Lines.{crlf}
 use Rattle.resp_command.specs.Packed.{bulk}
-use Rattle.resp_command.specs.Frames.{IsFramed, args_at, longer, span_at, spans_of}
-use Rattle.resp_command.specs.declared.frames.Span.{Span}
+use Rattle.resp_command.specs.EncodedArgs.{IsFramed, args_at, longer, span_at, spans_of}
+use Rattle.resp_command.specs.declared.encoded_args.Span.{Span}
 
 pub between : (p a q : List ℕ) (i j : ℕ) → i ≡ length p → j ≡ length p + length a → slice_range (p ++ (a ++ q)) i j ≡ a
 between p a q i j h k = grind (arith, common_steps)
@@ -52,8 +52,8 @@ spans-append at (a ∷ xs) ys =
     rw (← n) (ap (λ spans. span_at at a ∷ spans) (spans-append (at + length (bulk a)) xs ys))
 
 -- the place of the frame after some arguments
-frames-then : (xs : Args) (a : List ℕ) → flat_map bulk (xs ++ a ∷ []) ≡ flat_map bulk xs ++ bulk a
-frames-then xs a = flat_map-append bulk xs (a ∷ []) ∙ ap (λ bs. flat_map bulk xs ++ bs) (append-nil (bulk a))
+encoded_args-then : (xs : Args) (a : List ℕ) → flat_map bulk (xs ++ a ∷ []) ≡ flat_map bulk xs ++ bulk a
+encoded_args-then xs a = flat_map-append bulk xs (a ∷ []) ∙ ap (λ bs. flat_map bulk xs ++ bs) (append-nil (bulk a))
 
 spans-then : (xs : Args) (a : List ℕ) → spans_of 0 (xs ++ a ∷ []) ≡ spans_of 0 xs ++ span_at (length (flat_map bulk xs)) a ∷ []
 spans-then xs a = rw (spans-append 0 xs (a ∷ []), zero-add (length (flat_map bulk xs))) refl
@@ -67,7 +67,7 @@ pushed bytes bytes' a spans spans' from to h e f n m =
     let long : length bytes' ≡ length F + length (bulk a) = ap length e ∙ length-append bytes (bulk a) ∙ ap (λ bs. length bs + length (bulk a)) h.bytes_are in
     let i : from ≡ length F + (length (decimal (length a)) + 3) = omega (arith, n, m, long, length-bulk a) in
     let j : to ≡ (length F + (length (decimal (length a)) + 3)) + length a = omega (arith, i, m) in
-    holds bytes' spans' (args ++ a ∷ []) (rw (frames-then args a, ← h.bytes_are) e) (rw (spans-then args a, ← h.spans_are, ← i, m) f)
+    holds bytes' spans' (args ++ a ∷ []) (rw (encoded_args-then args a, ← h.bytes_are) e) (rw (spans-then args a, ← h.spans_are, ← i, m) f)
 
 take-none : (args : Args) → take 0 args ≡ []
 take-none [] = refl
@@ -200,7 +200,7 @@ module _ (bytes : List ℕ) (spans : List Span) (h : IsFramed bytes spans) (some
   args_split = let n = counted bytes spans h in rw n (last-split (args_at bytes spans) (rw (← n) some))
 
   pub bytes_split : bytes ≡ flat_map bulk others ++ bulk last_arg
-  bytes_split = h.bytes_are ∙ ap (flat_map bulk) args_split ∙ frames-then others last_arg
+  bytes_split = h.bytes_are ∙ ap (flat_map bulk) args_split ∙ encoded_args-then others last_arg
 
   pub spans_split : spans ≡ spans_of 0 others ++ span_at last_start last_arg ∷ []
   spans_split = h.spans_are ∙ ap (spans_of 0) args_split ∙ spans-then others last_arg
@@ -231,7 +231,7 @@ module _ (bytes : List ℕ) (spans : List Span) (h : IsFramed bytes spans) (some
       let new' : new ≡ span_at last_start arg = rw (i, j) refl in
       let there : set spans (length spans - 1) new ≡ spans_of 0 others ++ new ∷ [] = ap (λ (n : ℕ). set spans n new) (sym before-last) ∙ ap (λ (ss : List Span). set ss (length (spans_of 0 others)) new) spans_split ∙ set-append_seam (spans_of 0 others) (span_at last_start last_arg) [] new in
       let all : extended (args_at bytes spans) more ≡ others ++ arg ∷ [] = ap (λ args. extended args more) args_split ∙ extended-then others last_arg more in
-      rw all (holds bytes' spans' (others ++ arg ∷ []) (made ∙ sym (frames-then others arg)) (f ∙ there ∙ ap (λ span. spans_of 0 others ++ span ∷ []) new' ∙ sym (spans-then others arg)))
+      rw all (holds bytes' spans' (others ++ arg ∷ []) (made ∙ sym (encoded_args-then others arg)) (f ∙ there ∙ ap (λ span. spans_of 0 others ++ span ∷ []) new' ∙ sym (spans-then others arg)))
 
 -- what `start_of` and the last place say
 pub last_starts : (bytes : List ℕ) (spans : List Span) (h : IsFramed bytes spans) (some : 0 < length spans) (args : Args) (start n : ℕ) → args_at bytes spans ≡ args → n ≡ length spans

@@ -10,10 +10,10 @@ use Rattle.resp_command.specs.declared.args_iter.Arg.TheVariants.{Simple, Cursor
 use Rattle.resp_command.specs.Command.{Command}
 use Rattle.resp_command.specs.Cursors.{AscendWithin, with_extended_arg}
 use Rattle.resp_command.specs.ShownArgs.{EndsInCursor}
-use Rattle.resp_command.specs.Pieces.{Keeps, Pieces, cursor_places, ordinary, sent, sent_args, text_of, woven}
+use Rattle.resp_command.specs.Pieces.{Keeps, Pieces, cursor_places, ordinary, sent, sent_args, text_of, interleaved}
 use Rattle.resp_command.proofs.FramedArgs.{extended-then}
 use Rattle.resp_command.proofs.CursorArgs.{ascend_room}
-use Rattle.resp_command.proofs.PiecesAgree.{ascends, ge-test, lt-test, ordinary-append, places-append, weaves, Weaves}
+use Rattle.resp_command.proofs.PiecesAgree.{ascends, ge-test, lt-test, ordinary-append, places-append, interleaves, Interleaves}
 
 -- pieces before the last one, and the last one
 record LastPiece (pieces : Pieces) : Type 0 where
@@ -79,21 +79,21 @@ pub record Grown (cursor : Option ℕ) (cursors : List ℕ) (args : Args) (more 
   pub places_are : cursors' ≡ filter (λ place. nat_lt place (length (sent_args cursor cursors args) - 1)) cursors
 
 module _ (cursor : Option ℕ) (cursors : List ℕ) (args : Args) (more : List ℕ) (k : Keeps cursor cursors args) (some : 0 < length (sent_args cursor cursors args)) where
-  counted : length (sent_args cursor cursors args) ≡ length (woven 0 cursors args)
-  counted = length-map (woven 0 cursors args) (sent (text_of cursor))
+  counted : length (sent_args cursor cursors args) ≡ length (interleaved 0 cursors args)
+  counted = length-map (interleaved 0 cursors args) (sent (text_of cursor))
 
-  split_up : LastPiece (woven 0 cursors args)
-  split_up = last_piece (woven 0 cursors args) (omega (arith, counted, some))
+  split_up : LastPiece (interleaved 0 cursors args)
+  split_up = last_piece (interleaved 0 cursors args) (omega (arith, counted, some))
 
-  module _ (init : Pieces) (last : Arg (List ℕ)) (split : woven 0 cursors args ≡ init ++ last ∷ []) where
+  module _ (init : Pieces) (last : Arg (List ℕ)) (split : interleaved 0 cursors args ≡ init ++ last ∷ []) where
     size : length (sent_args cursor cursors args) - 1 ≡ length init
     size = let n = ap length split in let m = length-append init (last ∷ []) in omega (arith, counted, n, m)
 
     places : cursors ≡ cursor_places 0 init ++ cursor_places (length init) (last ∷ [])
-    places = k.are_woven.cursors_are ∙ ap (cursor_places 0) split ∙ places-append 0 init (last ∷ []) ∙ ap (λ n. cursor_places 0 init ++ cursor_places n (last ∷ [])) (zero-add (length init))
+    places = k.are_interleaved.cursors_are ∙ ap (cursor_places 0) split ∙ places-append 0 init (last ∷ []) ∙ ap (λ n. cursor_places 0 init ++ cursor_places n (last ∷ [])) (zero-add (length init))
 
     ordinaries : args ≡ ordinary init ++ ordinary (last ∷ [])
-    ordinaries = k.are_woven.args_are ∙ ap ordinary split ∙ ordinary-append init (last ∷ [])
+    ordinaries = k.are_interleaved.args_are ∙ ap ordinary split ∙ ordinary-append init (last ∷ [])
 
     rises : AscendWithin 0 (length init) (cursor_places 0 init)
     rises = subst (λ end. AscendWithin 0 end (cursor_places 0 init)) (zero-add (length init)) (ascends 0 init)
@@ -106,16 +106,16 @@ module _ (cursor : Option ℕ) (cursors : List ℕ) (args : Args) (more : List �
         → MatchOption cursor (cursors' ≡ []) (λ c. Unit {0}) → Grown cursor cursors args more cursors' args'
     grown cursors' args' c a f unset =
         let text : List ℕ = sent (text_of cursor) last ++ more in
-        let w : Weaves cursors' args' (init ++ Simple text ∷ []) = weaves cursors' args' (init ++ Simple text ∷ [])
+        let w : Interleaves cursors' args' (init ++ Simple text ∷ []) = interleaves cursors' args' (init ++ Simple text ∷ [])
         (c ∙ sym (append-nil (cursor_places 0 init)) ∙ sym (places-append 0 init (Simple text ∷ [])))
         (a ∙ sym (ordinary-append init (Simple text ∷ []))) in
         record {
-          keeps = record { are_woven = w.are_woven; unset = unset };
+          keeps = record { are_interleaved = w.are_interleaved; unset = unset };
           sent_are = ap (map (sent (text_of cursor))) w.view ∙ map-append (sent (text_of cursor)) init (Simple text ∷ []) ∙ sym (ap (λ xs. extended xs more) sent_split ∙ extended-then (map (sent (text_of cursor)) init) (sent (text_of cursor) last) more);
           places_are = c ∙ sym f ∙ ap (λ n. filter (λ place. nat_lt place n) cursors) (sym size);
         }
 
-  ends_here : (init : Pieces) → woven 0 cursors args ≡ init ++ Cursor ∷ [] → slice_get cursors (length cursors - 1) ≡ Some (length (sent_args cursor cursors args) - 1)
+  ends_here : (init : Pieces) → interleaved 0 cursors args ≡ init ++ Cursor ∷ [] → slice_get cursors (length cursors - 1) ≡ Some (length (sent_args cursor cursors args) - 1)
   ends_here init split = ap (λ ps. slice_get ps (length ps - 1)) (places init Cursor split) ∙ last_of (cursor_places 0 init) (length init) ∙ ap Some (sym (size init Cursor split))
 
   pub grown_cursor : slice_get cursors (length cursors - 1) ≡ Some (length (sent_args cursor cursors args) - 1) → Grown cursor cursors args more (take (length cursors - 1) cursors) (args ++ (text_of cursor ++ more) ∷ [])
@@ -125,7 +125,7 @@ module _ (cursor : Option ℕ) (cursors : List ℕ) (args : Args) (more : List �
       unset None none = rw none refl
       unset (Some c) h = tt
 
-      by_last : (init : Pieces) (last : Arg (List ℕ)) → woven 0 cursors args ≡ init ++ last ∷ [] → Grown cursor cursors args more (take (length cursors - 1) cursors) (args ++ (text_of cursor ++ more) ∷ [])
+      by_last : (init : Pieces) (last : Arg (List ℕ)) → interleaved 0 cursors args ≡ init ++ last ∷ [] → Grown cursor cursors args more (take (length cursors - 1) cursors) (args ++ (text_of cursor ++ more) ∷ [])
       by_last init (Simple arg) split =
           let e : cursors ≡ cursor_places 0 init = places init (Simple arg) split ∙ append-nil (cursor_places 0 init) in
           let h : AscendWithin 0 (length init) cursors = subst (λ ps. AscendWithin 0 (length init) ps) (sym e) (rises init (Simple arg) split) in
@@ -141,14 +141,14 @@ module _ (cursor : Option ℕ) (cursors : List ℕ) (args : Args) (more : List �
   pub some_simple : (slice_get cursors (length cursors - 1) ≡ Some (length (sent_args cursor cursors args) - 1) → ⊥) → 0 < length args
   some_simple apart = by_last split_up.init split_up.last split_up.split
     where
-      by_last : (init : Pieces) (last : Arg (List ℕ)) → woven 0 cursors args ≡ init ++ last ∷ [] → 0 < length args
+      by_last : (init : Pieces) (last : Arg (List ℕ)) → interleaved 0 cursors args ≡ init ++ last ∷ [] → 0 < length args
       by_last init Cursor split = absurd (apart (ends_here init split))
       by_last init (Simple arg) split = let n = ap length (ordinaries init (Simple arg) split) in let m = length-append (ordinary init) (arg ∷ []) in omega (arith, n, m)
 
   pub grown_simple : (slice_get cursors (length cursors - 1) ≡ Some (length (sent_args cursor cursors args) - 1) → ⊥) → Grown cursor cursors args more cursors (extended args more)
   grown_simple apart = by_last split_up.init split_up.last split_up.split
     where
-      by_last : (init : Pieces) (last : Arg (List ℕ)) → woven 0 cursors args ≡ init ++ last ∷ [] → Grown cursor cursors args more cursors (extended args more)
+      by_last : (init : Pieces) (last : Arg (List ℕ)) → interleaved 0 cursors args ≡ init ++ last ∷ [] → Grown cursor cursors args more cursors (extended args more)
       by_last init Cursor split = absurd (apart (ends_here init split))
       by_last init (Simple arg) split =
           let e : cursors ≡ cursor_places 0 init = places init (Simple arg) split ∙ append-nil (cursor_places 0 init) in

@@ -6,10 +6,10 @@ use Rattle.resp_errors.specs.declared.kinds.FrameFault.{FrameFault}
 use Rattle.resp_parse.specs.declared.limits.Limits.{Limits}
 use Rattle.resp_parse.specs.Grammar.{Joined}
 use Rattle.resp_parse.specs.Limited as limited
-use Rattle.resp_parse.specs.Limited.{GoodWithin, ReadsWithin, HasValue, HasFault, Awaits, Found}
+use Rattle.resp_parse.specs.Limited.{WellFormedWithin, ReadsWithin, HasValue, HasFault, Awaits, Found}
 use Rattle.resp_parse.proofs.LimitedReadings.{one_reading, found}
 use Rattle.resp_command.specs.Taken.{as_push, pushes_in, replies_in, PrefixReads, Taking, took, met_fault, ended_early, TakesAll, TakesFewer, Taken, TakesOneThing}
-use Rattle.resp_command.proofs.PackedReadsBack.{good_some}
+use Rattle.resp_command.proofs.PackedReadsBack.{well_formed_some}
 use Rattle.resp_command.proofs.Values.{reads_nothing, reads_one, reads_both, count-append, ends_at_nothing}
 
 -- two readings of the same bytes: they are one, or one goes on where the other ends
@@ -23,10 +23,10 @@ one_more l vs ws r s v (same e f) = same (ap (λ z. v ∷ z) e) f
 one_more l vs ws r s v (first_shorter w after more e h) = first_shorter w after more (ap (λ z. v ∷ z) e) h
 one_more l vs ws r s v (second_shorter w after more e h) = second_shorter w after more (ap (λ z. v ∷ z) e) h
 
-begins : (l : Limits) (r x b c s : List ℕ) (w : Value) → r ≡ x ++ s → x ≡ b ++ c → GoodWithin l b w → HasValue l r w (c ++ s)
-begins l r x b c s w e f g = record { prefix = b; whole = e ∙ ap (λ z. z ++ s) f ∙ append_assoc b c s; good = g }
+begins : (l : Limits) (r x b c s : List ℕ) (w : Value) → r ≡ x ++ s → x ≡ b ++ c → WellFormedWithin l b w → HasValue l r w (c ++ s)
+begins l r x b c s w e f g = record { prefix = b; whole = e ∙ ap (λ z. z ++ s) f ∙ append_assoc b c s; well_formed = g }
 
-compare : (l : Limits) (x r y s : List ℕ) (vs ws : List Value) → x ++ r ≡ y ++ s → Joined (GoodWithin l) x vs → Joined (GoodWithin l) y ws → Compared l vs ws r s
+compare : (l : Limits) (x r y s : List ℕ) (vs ws : List Value) → x ++ r ≡ y ++ s → Joined (WellFormedWithin l) x vs → Joined (WellFormedWithin l) y ws → Compared l vs ws r s
 compare l x r y s [] [] e h k = same refl (rw (h, k) at e)
 compare l x r y s [] (w ∷ ws) e h k = first_shorter w ws (k.others ++ s) refl (begins l r y k.first k.others s w (rw h at e) k.whole k.first_is)
 compare l x r y s (v ∷ vs) [] e h k = second_shorter v vs (h.others ++ r) refl (begins l s x h.first h.others r v (sym (rw k at e)) h.whole h.first_is)
@@ -151,10 +151,10 @@ value_before l n m b rest v g count some (ended_early p) h = (
 
 -- a value takes a byte at least
 shorter : (l : Limits) (b rest : List ℕ) (v : Value) → HasValue l b v rest → length rest < length b
-shorter l b rest v h = by_prefix h.prefix h.whole h.good
+shorter l b rest v h = by_prefix h.prefix h.whole h.well_formed
   where
-    by_prefix : (x : List ℕ) → b ≡ x ++ rest → GoodWithin l x v → length rest < length b
-    by_prefix [] e g = absurd (good_some l.depth v g.good)
+    by_prefix : (x : List ℕ) → b ≡ x ++ rest → WellFormedWithin l x v → length rest < length b
+    by_prefix [] e g = absurd (well_formed_some l.depth v g.well_formed)
     by_prefix (c ∷ x) e g = let size = ap length e ∙ length-append (c ∷ x) rest in omega arith
 
 -- one value more, a reply or a push

@@ -16,7 +16,7 @@ use Rattle.resp_parse.specs.Reads.{Reads}
 use Rattle.resp_parse.specs.declared.type_byte.TypeByte.{TypeByte}
 use Rattle.resp_parse.specs.declared.type_byte.TypeByte.TheVariants as type_byte
 use Rattle.resp_parse.specs.TypeBytes.{byte_of}
-use Rattle.resp_parse.specs.Grammar.{Good, Header, Joined, announced, body, elements, with_valid, or_nil}
+use Rattle.resp_parse.specs.Grammar.{WellFormed, Header, Joined, announced, body, elements, with_valid, or_nil}
 use Rattle.resp_errors.specs.declared.kinds.FrameFault.TheVariants.{NotInteger}
 use Rattle.resp_command.specs.Packed.{length_line, bulk, packed, as_value}
 use Rattle.resp_command.specs.PackingLaw.{LawOfPacking}
@@ -51,8 +51,8 @@ array_announced : (len : ℕ) → len < 2 ^ 63 → announced type_byte.Array (de
 array_announced len small = ap (λ o. with_valid (elim o [ Some n ↦ Ok n | None ↦ Err NotInteger ]) (or_nil (λ k. elements k (λ values. Ok (Array values))))) (number-decimal len small)
 
 -- a bulk string spells its argument
-bulk_good : (d : ℕ) (arg : List ℕ) → length arg < 2 ^ 63 → Good (suc d) (bulk arg) (BulkString arg)
-bulk_good d arg small = record {
+bulk_well_formed : (d : ℕ) (arg : List ℕ) → length arg < 2 ^ 63 → WellFormed (suc d) (bulk arg) (BulkString arg)
+bulk_well_formed d arg small = record {
   kind = type_byte.BulkString;
   text = decimal (length arg);
   rest = arg ++ crlf;
@@ -66,13 +66,13 @@ abbrev AllShort : Args → Type 0
 AllShort [] = Unit {0}
 AllShort (arg ∷ args) = (length arg < 2 ^ 63) × AllShort args
 
-bulks_joined : (d : ℕ) (args : Args) → AllShort args → Joined (Good (suc d)) (flat_map bulk args) (map BulkString args)
+bulks_joined : (d : ℕ) (args : Args) → AllShort args → Joined (WellFormed (suc d)) (flat_map bulk args) (map BulkString args)
 bulks_joined d [] h = refl
 bulks_joined d (arg ∷ args) h = record {
   first = bulk arg;
   others = flat_map bulk args;
   whole = refl;
-  first_is = bulk_good d arg h.0;
+  first_is = bulk_well_formed d arg h.0;
   others_are = bulks_joined d args h.1;
 }
 
@@ -80,8 +80,8 @@ length-map : (args : Args) → length (map BulkString args) ≡ length args
 length-map [] = refl
 length-map (arg ∷ args) = ap suc (length-map args)
 
-packed_good : (d : ℕ) (args : Args) → length args < 2 ^ 63 → AllShort args → Good (suc (suc d)) (packed args) (as_value args)
-packed_good d args few short = record {
+packed_well_formed : (d : ℕ) (args : Args) → length args < 2 ^ 63 → AllShort args → WellFormed (suc (suc d)) (packed args) (as_value args)
+packed_well_formed d args few short = record {
   kind = type_byte.Array;
   text = decimal (length args);
   rest = flat_map bulk args;
@@ -104,18 +104,18 @@ short (arg ∷ args) h =
     let one = bulk_longer arg in
     (omega arith, short args (omega arith))
 
--- no good list is empty
-pub good_some : (d : ℕ) (v : Value) → Good d [] v → ⊥
-good_some zero v h = h
-good_some (suc d) v h = let e = h.header.bytes in cc
+-- no well-formed list is empty
+pub well_formed_some : (d : ℕ) (v : Value) → WellFormed d [] v → ⊥
+well_formed_some zero v h = h
+well_formed_some (suc d) v h = let e = h.header.bytes in cc
 
--- nor has an empty list a good prefix
-no_prefix : (d : ℕ) (x y : List ℕ) (v : Value) → x ++ y ≡ [] → Good d x v → ⊥
-no_prefix d [] y v e h = good_some d v h
+-- nor has an empty list a well-formed prefix
+no_prefix : (d : ℕ) (x y : List ℕ) (v : Value) → x ++ y ≡ [] → WellFormed d x v → ⊥
+no_prefix d [] y v e h = well_formed_some d v h
 no_prefix d (b ∷ x) y v e h = cc
 
 -- bytes read as one list of values only
-pub joined_once : (d : ℕ) (b : List ℕ) (vs ws : List Value) → Joined (Good d) b vs → Joined (Good d) b ws → vs ≡ ws
+pub joined_once : (d : ℕ) (b : List ℕ) (vs ws : List Value) → Joined (WellFormed d) b vs → Joined (WellFormed d) b ws → vs ≡ ws
 joined_once d b [] [] h k = refl
 joined_once d b [] (w ∷ ws) h k = absurd (no_prefix d k.first k.others w (sym k.whole ∙ h) k.first_is)
 joined_once d b (v ∷ vs) [] h k = absurd (no_prefix d h.first h.others v (sym h.whole ∙ k) h.first_is)
@@ -130,12 +130,12 @@ unfolding Reads
 packed_reads_only args small =
     let body = flat_map bulk args in
     let some : length body < 2 ^ 63 = omega (arith, length-append (length_line (byte_of type_byte.Array) (length args)) body) in
-    let good = packed_good 98 args (let n = few args in omega arith) (short args some) in
-    let reads : Joined (Good 100) (packed args) (as_value args ∷ []) = record {
+    let well_formed = packed_well_formed 98 args (let n = few args in omega arith) (short args some) in
+    let reads : Joined (WellFormed 100) (packed args) (as_value args ∷ []) = record {
       first = packed args;
       others = [];
       whole = sym (append-nil (packed args));
-      first_is = good;
+      first_is = well_formed;
       others_are = refl;
     } in
     record { reads = reads; only = λ vs h. joined_once 100 (packed args) vs (as_value args ∷ []) h reads }

@@ -8,7 +8,7 @@ use Rattle.resp_errors.specs.declared.parsing_error.ParsingError.TheVariants.{Fa
 use Rattle.resp_command.specs.Call.{Call, CommandCall, Refuses, broken_link, no_command, AnswersReply, Answers, needed}
 use Rattle.resp_command.specs.Command.{Command}
 use Rattle.resp_command.specs.CommandQuery.{CommandQuery}
-use Rattle.resp_command.specs.Connection.{Connection, incoming, Exchange, replied, faulty, early_end, sink_failed, source_failed, out_of_memory}
+use Rattle.resp_command.specs.Connection.{Connection, incoming, Exchange, replied, malformed, early_end, sink_failed, source_failed, out_of_memory}
 use Rattle.resp_command.specs.Packed.{packed}
 use Rattle.resp_command.proofs.PackedReadsBack.{packed_reads_only}
 use Rattle.resp_command.proofs.OneTaking.{takes_one_thing}
@@ -21,7 +21,7 @@ module _ {A B : Type 0} (old new : Connection) (q : List ℕ) (n : ℕ) (answers
   -- the same error, of another type of answers
   exchange_err : (e : RedisError) → ((replies : List Value) → answers replies → ⊥) → Exchange {A = A} old new q n (Err e) answers → Exchange {A = B} old new q n (Err e) answers'
   exchange_err e none (replied h) = absurd (none h.replies h.answer)
-  exchange_err e none (faulty h) = let i : e ≡ Parse (Fault h.frame_fault) = (let k = h.answer in cc) in faulty (record {
+  exchange_err e none (malformed h) = let i : e ≡ Parse (Fault h.frame_fault) = (let k = h.answer in cc) in malformed (record {
     frame_fault = h.frame_fault;
     pushes = h.pushes;
     sent = h.sent;
@@ -74,7 +74,7 @@ module _ {A B : Type 0} (old new : Connection) (q : List ℕ) (n : ℕ) (answers
     no_failure = h.no_failure;
     answer = turn h.replies h.enough h.answer;
   })
-  exchange_ok a r turn (faulty h) = absurd (let k = h.answer in cc)
+  exchange_ok a r turn (malformed h) = absurd (let k = h.answer in cc)
   exchange_ok a r turn (early_end h) = absurd (let k = h.answer in cc)
   exchange_ok a r turn (sink_failed h) = absurd h.answer
   exchange_ok a r turn (source_failed h) = absurd h.answer

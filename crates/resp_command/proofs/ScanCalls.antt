@@ -15,7 +15,7 @@ use Rattle.resp_command.specs.Command.{Command}
 use Rattle.resp_command.specs.Connection.{Connection, incoming}
 use Rattle.resp_command.specs.Cursors.{with_cursor}
 use Rattle.resp_command.specs.ScanReplies.{Given, IsBatch, IsFirstPage, IsListOf, IsPage, ReadsPage}
-use Rattle.resp_command.specs.Scans.{FirstRequest, LaterRequest, Sends, request}
+use Rattle.resp_command.specs.Scans.{FirstRequest, LaterRequest, SendsPacked, scan_request}
 use Rattle.resp_command.specs.declared.batch.Batch.{Batch}
 use Rattle.resp_command.proofs.OneTaking.{takes_one_thing}
 use Rattle.resp_command.proofs.PackedReadsBack.{packed_reads_only}
@@ -92,7 +92,7 @@ module _ {X : Type 0} (n : ℕ) (Of : Value → X → Type 0) (old new : Connect
   }
 
   module _ (u : ℕ) where
-    pub later_failed : (answer : Result Value RedisError) (e : RedisError) → answer ≡ Err e → Sends old new (request c u) answer → LaterRequest n Of old new c u (Err e)
+    pub later_failed : (answer : Result Value RedisError) (e : RedisError) → answer ≡ Err e → SendsPacked old new (scan_request c u) answer → LaterRequest n Of old new c u (Err e)
     later_failed answer e is h = record {
       answer = answer;
       reads_only = packed_reads_only (with_cursor u c).args;
@@ -101,7 +101,7 @@ module _ {X : Type 0} (n : ℕ) (Of : Value → X → Type 0) (old new : Connect
       gives = rw is refl;
     }
 
-    pub later_read : (answer : Result Value RedisError) (reply : Value) (given : Given X) → answer ≡ Ok reply → Sends old new (request c u) answer → ConvertsCall (ReadsPage n Of reply) given × (given ≢ Err OutOfMemory) → LaterRequest n Of old new c u given
+    pub later_read : (answer : Result Value RedisError) (reply : Value) (given : Given X) → answer ≡ Ok reply → SendsPacked old new (scan_request c u) answer → ConvertsCall (ReadsPage n Of reply) given × (given ≢ Err OutOfMemory) → LaterRequest n Of old new c u given
     later_read answer reply given is h read = record {
       answer = answer;
       reads_only = packed_reads_only (with_cursor u c).args;

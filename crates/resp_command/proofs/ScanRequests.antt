@@ -44,13 +44,13 @@ module _ {X : Type 0} (n : ℕ) (Of : Value → X → Type 0) where
   fits_one u g z (suc i) l = absurd (omega (arith, l))
 
   -- requests that gave no answer so far
-  pub record Seeking (old now : Connection) (c : Command) (u k cursor left : ℕ) : Type 0 where
+  pub record Fetching (old now : Connection) (c : Command) (u k cursor left : ℕ) : Type 0 where
     pub givens : List (Given X)
     pub asked : Asked n Of old now c u k cursor left givens
     pub none : answers_in givens ≡ []
 
-  pub seeking_first : (old : Connection) (c : Command) (u k : ℕ) → Seeking old old c u k u k
-  seeking_first old c u k = record {
+  pub fetching_first : (old : Connection) (c : Command) (u k : ℕ) → Fetching old old c u k u k
+  fetching_first old c u k = record {
     givens = [];
     asked = record {
       requests = refl;
@@ -62,7 +62,7 @@ module _ {X : Type 0} (n : ℕ) (Of : Value → X → Type 0) where
     none = refl;
   }
 
-  module _ (old now new : Connection) (c : Command) (u k cursor left : ℕ) (s : Seeking old now c u k cursor left) (go : cursor ≢ 0) (some : 0 < left) (g : Given X) (one : LaterRequest n Of now new c cursor g) where
+  module _ (old now new : Connection) (c : Command) (u k cursor left : ℕ) (s : Fetching old now c u k cursor left) (go : cursor ≢ 0) (some : 0 < left) (g : Given X) (one : LaterRequest n Of now new c cursor g) where
     pub asked_more : Asked n Of old new c u k (latest cursor (g ∷ [])) (left - 1) (s.givens ++ g ∷ [])
     asked_more = record {
       requests = requests_append old now new c u s.givens (g ∷ []) s.asked.requests (rw (← s.asked.latest_is) (new, one, refl));
@@ -77,8 +77,8 @@ module _ {X : Type 0} (n : ℕ) (Of : Value → X → Type 0) where
     pub its_answers : answers_in (s.givens ++ g ∷ []) ≡ answers_of g
     its_answers = answers_append s.givens (g ∷ []) ∙ ap (λ xs. xs ++ answers_in (g ∷ [])) s.none ∙ append-nil (answers_of g)
 
-    pub seeking_more : answers_of g ≡ [] → Seeking old new c u k (latest cursor (g ∷ [])) (left - 1)
-    seeking_more e = record {
+    pub fetching_more : answers_of g ≡ [] → Fetching old new c u k (latest cursor (g ∷ [])) (left - 1)
+    fetching_more e = record {
       givens = s.givens ++ g ∷ [];
       asked = asked_more;
       none = its_answers ∙ e;

@@ -5,7 +5,7 @@ use Rattle.resp_value.specs.declared.value.Value.{Value, Push, the_lemmas}
 use Rattle.resp_value.specs.declared.names.PushKind.{PushKind}
 use Rattle.resp_parse.specs.declared.limits.Limits.{Limits}
 use Rattle.resp_parse.specs.Grammar.{Joined}
-use Rattle.resp_parse.specs.Limited.{GoodWithin, ReadsWithin, HasValue}
+use Rattle.resp_parse.specs.Limited.{WellFormedWithin, ReadsWithin, HasValue}
 use Rattle.resp_command.specs.Taken.{as_push, replies_in, pushes_in, PrefixReads, EndsAtReply}
 
 -- a push is one
@@ -31,7 +31,7 @@ unfolding ReadsWithin
 reads_one l b rest v h = record {
   prefix = h.prefix;
   whole = h.whole;
-  reads = record { first = h.prefix; others = []; whole = sym (append-nil h.prefix); first_is = h.good; others_are = refl };
+  reads = record { first = h.prefix; others = []; whole = sym (append-nil h.prefix); first_is = h.well_formed; others_are = refl };
 }
 
 pub reads_both : (l : Limits) (b mid rest : List ℕ) (vs ws : List Value) → PrefixReads l b vs mid → PrefixReads l mid ws rest → PrefixReads l b (vs ++ ws) rest
@@ -39,7 +39,7 @@ unfolding ReadsWithin
 reads_both l b mid rest vs ws h k = record {
   prefix = h.prefix ++ k.prefix;
   whole = h.whole ∙ ap (λ s. h.prefix ++ s) k.whole ∙ sym (append_assoc h.prefix k.prefix rest);
-  reads = Joined-append (GoodWithin l) h.prefix k.prefix vs ws h.reads k.reads;
+  reads = Joined-append (WellFormedWithin l) h.prefix k.prefix vs ws h.reads k.reads;
 }
 
 pub replies_in-append : (vs ws : List Value) → replies_in (vs ++ ws) ≡ replies_in vs ++ replies_in ws

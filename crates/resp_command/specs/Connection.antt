@@ -139,13 +139,13 @@ pub record SinkFailed {A : Type 0} (old new : Connection) (q : List ℕ)
   pub answer : IsErrAnd result IsIo
 
 -- values that hold fewer than n replies were taken, with these pushes among them; all that was
--- received after them is unfinished
+-- received after them is incomplete
 pub record TookTooFew (n : ℕ) (old new : Connection) (pushes : List PushInfo) : Type 0 where
   pub values : List Value
   pub taken : PrefixReads old.limits (incoming old) values (incoming new)
   pub few : length (replies_in values) < n
   pub pushes_are : pushes ≡ pushes_in values
-  pub unfinished : Awaits old.limits new.received
+  pub incomplete : Awaits old.limits new.received
 
 -- the source failed: the request was sent, and too little was received for n replies
 pub record SourceFailed {A : Type 0} (old new : Connection) (q : List ℕ) (n : ℕ)
@@ -189,7 +189,7 @@ pub record RanOutOfMemory {A : Type 0} (old new : Connection) (q : List ℕ)
 pub data Exchange {A : Type 0} (old new : Connection) (q : List ℕ) (n : ℕ)
     (result : Result A RedisError) (answers : List Value → Type 0) : Type 0 where
   replied : Replied old new q n answers → Exchange old new q n result answers
-  faulty : FaultMet old new q n result → Exchange old new q n result answers
+  malformed : FaultMet old new q n result → Exchange old new q n result answers
   early_end : EndedEarly old new q n result → Exchange old new q n result answers
   sink_failed : SinkFailed old new q result → Exchange old new q n result answers
   source_failed : SourceFailed old new q n result → Exchange old new q n result answers

@@ -3,7 +3,7 @@ pub mod Command
 pub mod CommandQuery
 pub mod Connection
 pub mod Cursors
-pub mod Frames
+pub mod EncodedArgs
 pub mod Packed
 pub mod PackingLaw
 pub mod PageParts
@@ -12,6 +12,6 @@ pub mod ScanLaw
 pub mod ScanReplies
 pub mod ScanStates
 pub mod Scans
-pub mod Seeking
+pub mod Fetching
 pub mod ShownArgs
 pub mod Taken

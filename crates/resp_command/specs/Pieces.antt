@@ -22,18 +22,18 @@ cursor_places place (Simple arg ∷ pieces) = cursor_places (place + 1) pieces
 cursor_places place (Cursor ∷ pieces) = place ∷ cursor_places (place + 1) pieces
 
 -- ordinary arguments with cursors at these places, where the first one has this place
-abbrev pub woven : ℕ → List ℕ → Args → Pieces
-woven place [] args = map Simple args
-woven place (cursor ∷ cursors) [] = Cursor ∷ woven (place + 1) cursors []
-woven place (cursor ∷ cursors) (arg ∷ args) =
+abbrev pub interleaved : ℕ → List ℕ → Args → Pieces
+interleaved place [] args = map Simple args
+interleaved place (cursor ∷ cursors) [] = Cursor ∷ interleaved (place + 1) cursors []
+interleaved place (cursor ∷ cursors) (arg ∷ args) =
     if nat_lt place cursor
-    then Simple arg ∷ woven (place + 1) (cursor ∷ cursors) args
-    else Cursor ∷ woven (place + 1) cursors (arg ∷ args)
+    then Simple arg ∷ interleaved (place + 1) (cursor ∷ cursors) args
+    else Cursor ∷ interleaved (place + 1) cursors (arg ∷ args)
 
 -- the cursors are at their places, and all other arguments are ordinary
-pub record IsWoven (cursors : List ℕ) (args : Args) : Type 0 where
-  pub args_are : args ≡ ordinary (woven 0 cursors args)
-  pub cursors_are : cursors ≡ cursor_places 0 (woven 0 cursors args)
+pub record IsInterleaved (cursors : List ℕ) (args : Args) : Type 0 where
+  pub args_are : args ≡ ordinary (interleaved 0 cursors args)
+  pub cursors_are : cursors ≡ cursor_places 0 (interleaved 0 cursors args)
 
 -- what is sent of a piece, where this is the text of cursors
 abbrev pub sent : List ℕ → Arg (List ℕ) → List ℕ
@@ -47,9 +47,9 @@ text_of (Some cursor) = decimal cursor
 
 -- the arguments as they are sent
 abbrev pub sent_args : Option ℕ → List ℕ → Args → Args
-sent_args cursor cursors args = map (sent (text_of cursor)) (woven 0 cursors args)
+sent_args cursor cursors args = map (sent (text_of cursor)) (interleaved 0 cursors args)
 
 -- what is true of every command: there are cursor arguments only where a cursor was set
 pub record Keeps (cursor : Option ℕ) (cursors : List ℕ) (args : Args) : Type 0 where
-  pub are_woven : IsWoven cursors args
+  pub are_interleaved : IsInterleaved cursors args
   pub unset : MatchOption cursor (cursors ≡ []) (λ c. Unit {0})

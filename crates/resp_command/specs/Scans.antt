@@ -25,12 +25,12 @@ pub record ScanState (X : Type 0) : Type 0 where
   pub budget : Option ℕ
 
 -- the request with this cursor
-abbrev pub request : Command → ℕ → List ℕ
-request c cursor = packed_or_none (with_cursor cursor c).args
+abbrev pub scan_request : Command → ℕ → List ℕ
+scan_request c cursor = packed_or_none (with_cursor cursor c).args
 
 -- a packed command was sent and answered with this; or memory ran out before it
-abbrev pub Sends : Connection → Connection → List ℕ → Result Value RedisError → Type 0
-Sends old new q answer =
+abbrev pub SendsPacked : Connection → Connection → List ℕ → Result Value RedisError → Type 0
+SendsPacked old new q answer =
     PackedCall old new q answer ⊎ ((answer ≡ Err OutOfMemory) × (new ≡ old))
 
 -- the one refusal of a scan whose budget is used up
@@ -59,7 +59,7 @@ module _ {X : Type 0} (n : ℕ) (Of : Value → X → Type 0) where
     pub answer : Result Value RedisError
     pub reads_only : LawOfPacking (with_cursor cursor c).args
     pub takes_one : TakesOneThing old.limits 1 (incoming old)
-    pub sends : Sends old new (request c cursor) answer
+    pub sends : SendsPacked old new (scan_request c cursor) answer
     pub gives : Gives n Of answer given
 
   -- requests, one after another, each with the latest cursor

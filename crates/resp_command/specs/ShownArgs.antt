@@ -7,7 +7,7 @@ use Rattle.resp_command.specs.declared.args_iter.Arg.{Arg}
 use Rattle.resp_command.specs.declared.args_iter.Arg.TheVariants.{Simple, Cursor}
 use Rattle.resp_command.specs.declared.args_iter.ArgsIter.{ArgsIter}
 use Rattle.resp_command.specs.Packed.{bulk}
-use Rattle.resp_command.specs.Pieces.{Pieces, ordinary, woven}
+use Rattle.resp_command.specs.Pieces.{Pieces, ordinary, interleaved}
 
 -- arguments whose first one has this place: those at the cursors' places are shown as cursors
 abbrev pub shown_from : ℕ → Args → List ℕ → List (Arg (List ℕ))
@@ -22,7 +22,7 @@ shown_args args cursors = shown_from 0 args cursors
 -- the arguments that an iterator has left
 abbrev pub args_left : ArgsIter → Pieces
 args_left it =
-    woven (it.taken + it.passed) (drop it.passed it.cursors.now) (drop it.taken it.frames.now)
+    interleaved (it.taken + it.passed) (drop it.passed it.cursors.now) (drop it.taken it.encoded_args.now)
 
 -- the ordinary arguments, as they are shown, framed and joined
 abbrev pub framed_args : Args → List ℕ → List ℕ

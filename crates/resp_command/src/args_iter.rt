@@ -2,7 +2,7 @@
 
 ghost use Rattle.std.specs.Prelude.{◌≡◌, slice_get};
 
-use crate::frames::Frames;
+use crate::encoded_args::EncodedArgs;
 
 /// An argument of a command, as [`Cmd::args_iter`](crate::Cmd::args_iter) shows it.
 #[derive(Clone, Debug, PartialEq, Drop)]
@@ -17,7 +17,7 @@ pub enum Arg<D> {
 /// The arguments of a command, in order; made by [`Cmd::args_iter`](crate::Cmd::args_iter).
 #[derive(Clone, Drop)]
 pub struct ArgsIter<'a> {
-    frames: &'a Frames,
+    encoded_args: &'a EncodedArgs,
     taken: usize,
     cursors: &'a [usize],
     passed: usize,
@@ -27,15 +27,15 @@ impl<'a> ArgsIter<'a> {
     ghost use Rattle.std.specs.Prelude.{◌+◌, ◌<◌, ◌∷◌, [], ℕ, List, IsTrue, not, length};
     ghost use Rattle.std.specs.Prelude.{None, Some};
     ghost use Rattle.resp_command.specs.declared.args_iter.Arg.TheVariants.{Cursor, Simple};
-    ghost use Rattle.resp_command.specs.Pieces.{woven};
+    ghost use Rattle.resp_command.specs.Pieces.{interleaved};
     ghost use Rattle.resp_command.specs.ShownArgs.{args_left};
 
     /// These arguments, and cursors at these places.
-    pub(crate) fn over(frames: &'a Frames, cursors: &'a [usize]) -> ArgsIter<'a>
-        ensures { args_left result ≡ woven 0 cursors.now frames.now }
+    pub(crate) fn over(encoded_args: &'a EncodedArgs, cursors: &'a [usize]) -> ArgsIter<'a>
+        ensures { args_left result ≡ interleaved 0 cursors.now encoded_args.now }
     {
         ArgsIter {
-            frames,
+            encoded_args,
             taken: 0,
             cursors,
             passed: 0,
@@ -48,12 +48,12 @@ impl<'a> ArgsIter<'a> {
             × (args_left self.now
             ≡ Cursor ∷ args_left (record self.now { passed = self.now.passed + 1 })) }
         ensures simple { IsTrue (not result) → (arg : List ℕ)
-            → slice_get self.now.frames.now self.now.taken ≡ Some arg → args_left self.now
+            → slice_get self.now.encoded_args.now self.now.taken ≡ Some arg → args_left self.now
             ≡ Simple arg ∷ args_left (record self.now { taken = self.now.taken + 1 }) }
         ensures nothing { IsTrue (not result)
-            → slice_get self.now.frames.now self.now.taken ≡ None → args_left self.now ≡ [] }
+            → slice_get self.now.encoded_args.now self.now.taken ≡ None → args_left self.now ≡ [] }
     {
-        let has_arg = self.taken < self.frames.len();
+        let has_arg = self.taken < self.encoded_args.len();
         match place_at(self.cursors, self.passed) {
             Some(place) => !has_arg || place.saturating_sub(self.passed) <= self.taken,
             None => false,
@@ -89,7 +89,7 @@ impl<'a> Iterator for ArgsIter<'a> {
             self.passed += 1;
             return Some(Arg::Cursor);
         }
-        let arg = self.frames.get(self.taken)?;
+        let arg = self.encoded_args.get(self.taken)?;
         self.taken += 1;
         Some(Arg::Simple(arg))
     }
@@ -102,7 +102,7 @@ impl<'a> Iterator for ArgsIter<'a> {
         ensures least { result.0 ≡ length (args_left self.now) }
         ensures most { result.1 ≡ Some (length (args_left self.now)) }
     {
-        let left = self.frames.len().saturating_sub(self.taken)
+        let left = self.encoded_args.len().saturating_sub(self.taken)
             + self.cursors.len().saturating_sub(self.passed);
         (left, Some(left))
     }
@@ -111,7 +111,7 @@ impl<'a> Iterator for ArgsIter<'a> {
 impl<'a> ExactSizeIterator for ArgsIter<'a> {
     #[tactic(auto, using(crate::proofs::PiecesAgree::left_counted))]
     fn len(&self) -> usize {
-        self.frames.len().saturating_sub(self.taken)
+        self.encoded_args.len().saturating_sub(self.taken)
             + self.cursors.len().saturating_sub(self.passed)
     }
 }

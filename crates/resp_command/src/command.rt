@@ -13,12 +13,12 @@ ghost use Rattle.resp_command.specs.ShownArgs.{EndsInCursor, args_left, framed_a
 ghost use Rattle.resp_command.specs.Packed.{packed, packed_or_none};
 ghost use Rattle.resp_command.specs.Call.{Answers};
 ghost use Rattle.resp_command.specs.CommandQuery.{CommandQuery};
-ghost use Rattle.resp_command.specs.Scans.{CannotStart, FirstRequest, Starts, request};
+ghost use Rattle.resp_command.specs.Scans.{CannotStart, FirstRequest, Starts, scan_request};
 ghost use Rattle.resp_command.specs.ScanStates.{borrowed, scan_state, state_of};
 
 use crate::args_iter::ArgsIter;
 use crate::connection::ConnectionLike;
-use crate::frames::Frames;
+use crate::encoded_args::EncodedArgs;
 use crate::packing::{append_frames, append_pieces};
 use crate::progress::ScanProgress;
 use crate::scan::{Iter, Scan};
@@ -36,11 +36,11 @@ use std::mem;
 /// let visits: i64 = cmd(rt.alloc(), "INCR")?.arg("visits")?.query(&mut link)?;
 /// ```
 ///
-/// In `crates/uses_counter/src/main.rt`.
+/// In `crates/example_counter/src/main.rt`.
 #[derive(Drop)]
 pub struct Cmd {
     alloc: Global,
-    frames: Frames,
+    encoded_args: EncodedArgs,
     cursor: Option<u64>,
     cursors: Vec<usize>,
     no_response: bool,
@@ -53,13 +53,13 @@ impl Model for Cmd {
     ghost Value = { Command };
 
     ghost view = { λ c. record {
-      args = sent_args c.cursor c.cursors.items c.frames;
+      args = sent_args c.cursor c.cursors.items c.encoded_args;
       no_response = c.no_response;
       cursor = c.cursor;
       cursors = c.cursors.items;
     } };
 
-    ghost invariant = { λ c. Keeps c.cursor c.cursors.items c.frames };
+    ghost invariant = { λ c. Keeps c.cursor c.cursors.items c.encoded_args };
 }
 
 impl Cmd {
@@ -69,7 +69,7 @@ impl Cmd {
     {
         Cmd {
             alloc,
-            frames: Frames::new(alloc),
+            encoded_args: EncodedArgs::new(alloc),
             cursor: None,
             cursors: Vec::new(alloc),
             no_response: false,
@@ -83,7 +83,7 @@ impl Cmd {
         ensures memory { OnlyMemory result }
     {
         let mut command = Cmd::new(alloc);
-        command.frames.reserve(arg_count, size_of_data)?;
+        command.encoded_args.reserve(arg_count, size_of_data)?;
         Ok(command)
     }
 
@@ -112,10 +112,10 @@ impl Cmd {
         ensures failed { IfErr result (IsFailure (T.fails arg)) }
         ensures unchanged { OnErr result (self.new ≡ self.old) }
     {
-        let before = self.frames.len();
-        let written = arg.write_redis_args(&mut self.frames);
+        let before = self.encoded_args.len();
+        let written = arg.write_redis_args(&mut self.encoded_args);
         if written.is_err() {
-            self.frames.truncate(before);
+            self.encoded_args.truncate(before);
         }
         written
     }
@@ -166,7 +166,7 @@ impl Cmd {
         ensures count { length (args_left result) ≡ length self.now.args }
         ensures cursors { HoldsCursor self.now.args self.now.cursor self.now.cursors }
     {
-        ArgsIter::over(&self.frames, self.cursors.as_slice())
+        ArgsIter::over(&self.encoded_args, self.cursors.as_slice())
     }
 
     /// The frames of the ordinary arguments (`$`, the length, CR LF, the bytes, CR LF), joined in
@@ -174,7 +174,7 @@ impl Cmd {
     pub fn framed(&self) -> &[u8]
         ensures { result.now ≡ framed_args self.now.args self.now.cursors }
     {
-        self.frames.as_bytes()
+        self.encoded_args.as_bytes()
     }
 
     /// Takes all arguments and the cursor away, and waits for a reply again, as a new command does.
@@ -182,7 +182,7 @@ impl Cmd {
     pub fn clear(&mut self)
         ensures { self.new ≡ new_command }
     {
-        self.frames.clear();
+        self.encoded_args.clear();
         self.cursor = None;
         self.cursors.clear();
         self.no_response = false;
@@ -203,7 +203,7 @@ impl Cmd {
     {
         Ok(Cmd {
             alloc: self.alloc,
-            frames: self.frames.try_clone(self.alloc)?,
+            encoded_args: self.encoded_args.try_clone(self.alloc)?,
             cursor: self.cursor,
             cursors: Vec::from_slice(self.alloc, self.cursors.as_slice())?,
             no_response: self.no_response,
@@ -232,7 +232,7 @@ impl Cmd {
     fn count(&self) -> usize
         ensures { result ≡ length self.now.args }
     {
-        self.frames.len() + self.cursors.len()
+        self.encoded_args.len() + self.cursors.len()
     }
 
     /// The bytes that send the command, as [`pack_command`](crate::pack_command) gives them; no
@@ -246,7 +246,7 @@ impl Cmd {
 
     /// The bytes that send the command with this cursor. Fails only with `OutOfMemory`.
     pub(crate) fn get_packed_command_with_cursor(&self, cursor: u64) -> RedisResult<Vec<u8>>
-        ensures packed { IfOk result (λ bytes. bytes.items ≡ request self.now cursor) }
+        ensures packed { IfOk result (λ bytes. bytes.items ≡ scan_request self.now cursor) }
         ensures memory { OnlyMemory result }
     {
         let mut bytes = Vec::new(self.alloc);
@@ -265,11 +265,11 @@ impl Cmd {
         ensures prefix { take (length out.old.items) out.new.items ≡ out.old.items }
     {
         if self.cursors.is_empty() {
-            return append_frames(out, &self.frames);
+            return append_frames(out, &self.encoded_args);
         }
         let mut buffer = Buffer::new();
         let text = buffer.format(cursor).as_bytes();
-        append_pieces(out, &self.frames, self.cursors.as_slice(), text)
+        append_pieces(out, &self.encoded_args, self.cursors.as_slice(), text)
     }
 
     /// Appends the bytes that send the command; an empty command gives `*0` and CR LF. On
@@ -342,7 +342,7 @@ impl Cmd {
     /// }
     /// ```
     ///
-    /// In `crates/uses_scan/src/tests.rt`.
+    /// In `crates/example_scan/src/tests.rt`.
     pub fn iter<'a, T: FromRedisValue, C: ConnectionLike>(
         self,
         con: &'a mut C,
@@ -399,7 +399,7 @@ impl RedisWrite for Cmd {
         ensures memory { OnlyMemory result }
         ensures rest { self.new ≡ record self.old { args = self.new.args } }
     {
-        self.frames.push(arg)?;
+        self.encoded_args.push(arg)?;
         Ok(())
     }
 
@@ -409,7 +409,7 @@ impl RedisWrite for Cmd {
         ensures memory { OnlyMemory result }
         ensures rest { self.new ≡ record self.old { args = self.new.args } }
     {
-        self.frames.push(&[])?;
+        self.encoded_args.push(&[])?;
         Ok(())
     }
 
@@ -425,12 +425,12 @@ impl RedisWrite for Cmd {
         ensures unchanged { OnErr result (self.new ≡ self.old) }
     {
         if !self.ends_in_cursor() {
-            self.frames.extend_last(more)?;
+            self.encoded_args.extend_last(more)?;
             return Ok(());
         }
         let mut buffer = Buffer::new();
         let text = buffer.format(self.cursor.unwrap_or(0)).as_bytes();
-        self.frames.push_both(text, more)?;
+        self.encoded_args.push_both(text, more)?;
         self.cursors.pop();
         Ok(())
     }
@@ -445,6 +445,6 @@ impl RedisWrite for Cmd {
         ensures memory { OnlyMemory result }
         ensures rest { self.new ≡ self.old }
     {
-        self.frames.reserve_space_for_args(additional)
+        self.encoded_args.reserve_space_for_args(additional)
     }
 }

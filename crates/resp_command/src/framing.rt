@@ -3,7 +3,7 @@
 ghost use Rattle.std.specs.Prelude.{◌≡◌, ◌+◌, ◌-◌, ◌≤◌, ◌<◌, ◌^◌, ◌++◌, ℕ, is_ok, length};
 ghost use Rattle.std.specs.Prelude.{if◌then◌else◌, take, drop, decimal, OnOk, OnErr, IfOk, IsOk};
 ghost use Rattle.std.specs.Prelude.{vec_len, vec_capacity};
-ghost use Rattle.resp_command.specs.Frames.{longer};
+ghost use Rattle.resp_command.specs.EncodedArgs.{longer};
 ghost use Rattle.resp_command.specs.Packed.{bulk, length_line};
 
 use itoa::Buffer;
@@ -97,7 +97,7 @@ pub fn extend_frame(
     let mut buffer = Buffer::new();
     let text = buffer.format((to - from) + more.len()).as_bytes();
     bytes.reserve(more.len() + (text.len() - old))?;
-    mend(bytes, start, old, text)?;
+    replace_length(bytes, start, old, text)?;
     bytes.truncate(bytes.len() - 2);
     bytes.extend_from_slice(more)?;
     bytes.extend_from_slice(b"\r\n")?;
@@ -106,7 +106,12 @@ pub fn extend_frame(
 
 /// Puts a text in the place of the `old` bytes from `start` on, and moves what follows; refused,
 /// the bytes are as they were.
-fn mend(bytes: &mut Vec<u8>, start: usize, old: usize, text: &[u8]) -> Result<(), AllocError>
+fn replace_length(
+    bytes: &mut Vec<u8>,
+    start: usize,
+    old: usize,
+    text: &[u8],
+) -> Result<(), AllocError>
     requires place { start + old ≤ vec_len bytes.old }
     requires grows { old ≤ length text.now }
     ensures items { bytes.new.items ≡ (if is_ok result
@@ -118,12 +123,12 @@ fn mend(bytes: &mut Vec<u8>, start: usize, old: usize, text: &[u8]) -> Result<()
 {
     let gain = text.len() - old;
     bytes.extend_from_slice(&text[..gain])?;
-    mend_tail(&mut bytes[start..], gain, text);
+    overwrite_front(&mut bytes[start..], gain, text);
     Ok(())
 }
 
 /// Moves the last bytes to the front, and writes the text over the front.
-fn mend_tail(tail: &mut [u8], gain: usize, text: &[u8])
+fn overwrite_front(tail: &mut [u8], gain: usize, text: &[u8])
     requires gain { gain ≤ length text.now }
     requires room { length text.now ≤ length tail.old }
     ensures { tail.new

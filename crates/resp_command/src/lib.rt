@@ -6,14 +6,14 @@ mod batch;
 mod command;
 mod connection;
 mod copies;
-mod frames;
+mod encoded_args;
+mod fetching;
 mod framing;
 pub mod laws;
 mod packing;
 mod pages;
 mod progress;
 mod scan;
-mod seeking;
 mod start;
 
 pub use args_iter::{Arg, ArgsIter};

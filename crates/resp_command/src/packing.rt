@@ -4,9 +4,9 @@ ghost use Rattle.std.specs.Prelude.{◌≡◌, ◌++◌, length, map, take, IfOk
 ghost use Rattle.resp_errors.specs.Memory.{OnlyMemory};
 ghost use Rattle.resp_args.specs.Args.{args_of};
 ghost use Rattle.resp_command.specs.Packed.{packed};
-ghost use Rattle.resp_command.specs.Pieces.{IsWoven, sent, woven};
+ghost use Rattle.resp_command.specs.Pieces.{IsInterleaved, sent, interleaved};
 
-use crate::frames::Frames;
+use crate::encoded_args::EncodedArgs;
 use crate::framing::{FRAME, write_frame, write_length_line};
 use resp_value::RedisResult;
 use std::alloc::{AllocError, Global};
@@ -25,13 +25,13 @@ pub fn pack_command(alloc: Global, args: &[Vec<u8>]) -> RedisResult<Vec<u8>>
 }
 
 /// Appends a packed command of these arguments; refused, it leaves more behind the old bytes.
-pub fn append_frames(out: &mut Vec<u8>, frames: &Frames) -> Result<(), AllocError>
-    ensures written { OnOk result (out.new.items ≡ out.old.items ++ packed frames.now) }
+pub fn append_frames(out: &mut Vec<u8>, encoded_args: &EncodedArgs) -> Result<(), AllocError>
+    ensures written { OnOk result (out.new.items ≡ out.old.items ++ packed encoded_args.now) }
     ensures prefix { take (length out.old.items) out.new.items ≡ out.old.items }
 {
-    let bytes = frames.as_bytes();
+    let bytes = encoded_args.as_bytes();
     out.reserve(bytes.len().saturating_add(FRAME))?;
-    write_length_line(out, b'*', frames.len())?;
+    write_length_line(out, b'*', encoded_args.len())?;
     out.extend_from_slice(bytes)
 }
 
@@ -39,34 +39,34 @@ pub fn append_frames(out: &mut Vec<u8>, frames: &Frames) -> Result<(), AllocErro
 /// leaves more behind the old bytes.
 pub fn append_pieces(
     out: &mut Vec<u8>,
-    frames: &Frames,
+    encoded_args: &EncodedArgs,
     cursors: &[usize],
     text: &[u8],
 ) -> Result<(), AllocError>
-    requires { IsWoven cursors.now frames.now }
+    requires { IsInterleaved cursors.now encoded_args.now }
     ensures written { OnOk result (out.new.items ≡ out.old.items
-        ++ packed (map (sent text.now) (woven 0 cursors.now frames.now))) }
+        ++ packed (map (sent text.now) (interleaved 0 cursors.now encoded_args.now))) }
     ensures prefix { take (length out.old.items) out.new.items ≡ out.old.items }
 {
     let room = cursors.len().saturating_mul(text.len() + FRAME);
     out.reserve(
-        frames
+        encoded_args
             .as_bytes()
             .len()
             .saturating_add(room)
             .saturating_add(FRAME),
     )?;
-    write_length_line(out, b'*', frames.len() + cursors.len())?;
+    write_length_line(out, b'*', encoded_args.len() + cursors.len())?;
     let mut done = 0;
     let mut passed = 0;
     for place in cursors {
         let next = *place - passed;
-        out.extend_from_slice(frames.range(done, next))?;
+        out.extend_from_slice(encoded_args.range(done, next))?;
         write_frame(out, text)?;
         done = next;
         passed += 1;
     }
-    out.extend_from_slice(frames.range(done, frames.len()))?;
+    out.extend_from_slice(encoded_args.range(done, encoded_args.len()))?;
     Ok(())
 }
 

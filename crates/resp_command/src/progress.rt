@@ -9,7 +9,7 @@ ghost use Rattle.resp_command.specs.ScanStates.{answers_left, state_of};
 use crate::batch::Batch;
 use crate::command::Cmd;
 use crate::connection::ConnectionLike;
-use crate::seeking::{Found, seek};
+use crate::fetching::{FetchedPage, fetch};
 use resp_from::FromRedisValue;
 use resp_value::{ErrorKind, ParsingError, RedisError, RedisResult};
 use std::alloc::Global;
@@ -65,16 +65,16 @@ impl<T: FromRedisValue> ScanProgress<T> {
             return Some(as_answer(result));
         }
         let left = self.left?;
-        let sought = seek(self.alloc, con, &self.command, self.cursor, left);
-        self.cursor = sought.cursor;
-        self.left = Some(sought.left);
-        match sought.found {
-            Found::Results(results) => {
+        let fetched = fetch(self.alloc, con, &self.command, self.cursor, left);
+        self.cursor = fetched.cursor;
+        self.left = Some(fetched.left);
+        match fetched.page {
+            FetchedPage::Results(results) => {
                 self.waiting = results.into_iter();
                 Some(as_answer(self.waiting.next()?))
             }
-            Found::Failed(error) => Some(Err(error)),
-            Found::Nothing => {
+            FetchedPage::Failed(error) => Some(Err(error)),
+            FetchedPage::Nothing => {
                 if self.cursor == 0 {
                     return None;
                 }

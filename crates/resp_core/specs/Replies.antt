@@ -9,27 +9,27 @@ pub use Rattle.resp_fields.specs.Fields.{NamedValues, OfField, OfFieldOr, OfFiel
 pub use Rattle.resp_fields.specs.Fields.{without}
 pub use Rattle.resp_fields.specs.Rows.{OfRow, row_of}
 pub use Rattle.resp_fields.specs.Structs.{AnyOthers, Field, FieldOr, NoOthers}
-pub use Rattle.resp_from.specs.Conversion.{Converts, ConvertsCall, OfMade}
+pub use Rattle.resp_from.specs.Conversion.{Converts, ConvertsCall, OfVia}
 pub use Rattle.resp_from.specs.Lists.{OfArray, OfVec}
 pub use Rattle.resp_from.specs.Maps.{HoldsMap, HoldsSet, OfMap, OfSet}
-pub use Rattle.resp_laws.specs.Laws.{Agree, FitsUnsigned, GoesBySeen, IsSingleValued, ReadsBack}
-pub use Rattle.resp_laws.specs.Laws.{pair_seen, result_seen}
-pub use Rattle.resp_laws.specs.lemmas.Made.{one_made}
-pub use Rattle.resp_laws.specs.lemmas.Scalars.{one_signed, one_string, one_truth, one_unsigned}
-pub use Rattle.resp_laws.specs.lemmas.Tuples.{last_one, one_and, one_tuple}
-pub use Rattle.resp_keyed.specs.Keyed.{Keying, IsDeduplicated, IsMerged, hashed, sorted}
-pub use Rattle.resp_parse.specs.Grammar.{Good, Faulty}
-pub use Rattle.resp_parse.specs.Prefixes.{HasGoodPrefix, HasFaultyPrefix, FaultShownBy}
-pub use Rattle.resp_parse.specs.Prefixes.{IsUnfinished}
+pub use Rattle.resp_conversion_laws.specs.Laws.{Agree, FitsUnsigned, GoesBySeen, IsSingleValued, ReadsBack}
+pub use Rattle.resp_conversion_laws.specs.Laws.{pair_seen, result_seen}
+pub use Rattle.resp_conversion_laws.specs.lemmas.Made.{one_via}
+pub use Rattle.resp_conversion_laws.specs.lemmas.Scalars.{one_signed, one_string, one_truth, one_unsigned}
+pub use Rattle.resp_conversion_laws.specs.lemmas.Tuples.{last_one, one_and, one_tuple}
+pub use Rattle.resp_containers.specs.Keyed.{Keying, IsDeduplicated, IsMerged, hashed, sorted}
+pub use Rattle.resp_parse.specs.Grammar.{WellFormed, Malformed}
+pub use Rattle.resp_parse.specs.Prefixes.{HasWellFormedPrefix, HasMalformedPrefix, FaultShownBy}
+pub use Rattle.resp_parse.specs.Prefixes.{IsIncomplete}
 pub use Rattle.resp_parse.specs.Reads.{Reads}
 pub use Rattle.resp_parse.specs.State.{State, StandsAfter, FailedAfter, IsBetweenValues}
 pub use Rattle.resp_parse.specs.State.{KeepsFaultOffset}
 pub use Rattle.resp_parse.specs.Limits.{AreLimits, IsDepthLimit, IsSizeLimit, RefusesLimits}
 pub use Rattle.resp_parse.specs.Limits.{depth_refused, of_depth, size_refused, usual}
-pub use Rattle.resp_parse.specs.Limited.{Awaits, FaultShownAt, Found, GoodWithin, HasFault}
+pub use Rattle.resp_parse.specs.Limited.{Awaits, FaultShownAt, Found, WellFormedWithin, HasFault}
 pub use Rattle.resp_parse.specs.Limited.{HasValue, OneReading, PassesSize, ReadsWithin}
 pub use Rattle.resp_parse.specs.Limited.{first_bytes}
-pub use Rattle.resp_parse.specs.Tally.{Tally, nothing_done}
+pub use Rattle.resp_parse.specs.Counts.{Counts, nothing_done}
 pub use Rattle.resp_parse.specs.Built.{built}
 pub use Rattle.resp_parse.specs.Bounds.{not_looked_at, WorksWithin, Bounded, FedBy, OneCall}
 pub use Rattle.resp_parse.specs.Bounds.{CallsWithin}

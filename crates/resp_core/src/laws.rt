@@ -1,22 +1,14 @@
 //! The laws: functions that do nothing, and whose contracts are proved.
 
-ghost use Rattle.resp_core.specs.Pipeline.{Plan};
-ghost use Rattle.resp_core.specs.PipelineLaw.{LawOfPipelines};
-
 pub use resp_command::laws::{
     law_of_equal_arguments, law_of_packing, law_of_requests, law_of_scans, law_of_taking,
 };
-pub use resp_errors::laws::{law_of_equal_errors, law_of_error_texts};
-pub use resp_laws::{
+pub use resp_conversion_laws::{
     SingleKey, SingleValued, law_of_one_value, law_of_owned_and_borrowed, law_of_written_scalars,
 };
+pub use resp_errors::laws::{law_of_equal_errors, law_of_error_texts};
 pub use resp_parse::laws::{
     law_of_completion, law_of_levels, law_of_limits, law_of_prefixes, law_of_sizes,
 };
+pub use resp_pipeline::laws::law_of_pipelines;
 pub use resp_value::{ExactClone, StructuralEq, law_of_clones, law_of_equal_values};
-
-/// The bytes of a pipeline, up to 2^63 - 1 of them, are read by the grammar as the arrays of its
-/// commands, in order, and as nothing else.
-pub fn law_of_pipelines()
-    ensures { (p : Plan) → LawOfPipelines p }
-{}

@@ -8,17 +8,13 @@
 //! let visits: i64 = cmd(rt.alloc(), "INCR")?.arg("visits")?.query(&mut link)?;
 //! ```
 //!
-//! In `crates/uses_counter/src/main.rt`.
+//! In `crates/example_counter/src/main.rt`.
 //!
 //! This crate gives out the public names of the crates below it, so a user names it alone.
 #![tactic(auto)]
 
-mod attempts;
-mod composing;
 pub mod laws;
-mod pipeline;
 
-pub use pipeline::{Pipeline, pipe};
 pub use resp_args::{
     ArgList, ArgPart, ArgWriter, ExistenceCheck, ExpireOption, Expiry, FieldExistenceCheck, Joined,
     NumericBehavior, ProtocolVersion, RedisWrite, SetExpiry, ToRedisArgs, ToSingleRedisArg,
@@ -31,6 +27,7 @@ pub use resp_fields::{Fields, FromFields, from_redis_fields, from_redis_fields_b
 pub use resp_from::{FromRedisValue, from_redis_value, from_redis_value_by, from_redis_value_ref};
 pub use resp_link::{ByteLink, CommandSink, Writing};
 pub use resp_parse::{Limits, Parser, Reading, ReplySource, parse_redis_value};
+pub use resp_pipeline::{Pipeline, pipe};
 pub use resp_retry::{Attempt, retrying};
 pub use resp_types::{IncrexResult, InfoDict, IntegerReplyOrNoOp, ReplicaInfo, Role, ValueType};
 pub use resp_value::{

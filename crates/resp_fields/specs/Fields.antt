@@ -7,8 +7,8 @@ use Rattle.std.specs.declared.alloc.Global.{Global}
 use Rattle.resp_errors.specs.declared.parsing_error.ParsingError.{ParsingError}
 use Rattle.resp_errors.specs.declared.parsing_error.ParsingError.TheVariants as parsing
 use Rattle.resp_value.specs.declared.value.Value.{Value}
-use Rattle.resp_keyed.specs.Keyed.{sorted}
-use Rattle.resp_from.specs.Conversion.{OfMade}
+use Rattle.resp_containers.specs.Keyed.{sorted}
+use Rattle.resp_from.specs.Conversion.{OfVia}
 use Rattle.resp_from.specs.Maps.{OfMap}
 use Rattle.resp_from.specs.Texts.{OfText}
 
@@ -31,7 +31,7 @@ OfEntries reply entries = OfMap (sorted string_cmp) (λ key text. OfText key (st
 
 -- the reply has these fields, in the order of their names; of equal names the last value
 abbrev pub OfFields : Value → NamedValues → Type 0
-OfFields = OfMade OfEntries AreNamed
+OfFields = OfVia OfEntries AreNamed
 
 -- the value of the field of this name
 abbrev pub value_of : List ℕ → NamedValues → Option Value

@@ -3,7 +3,7 @@ use Rattle.std.specs.Prelude.{◌≡◌, ℕ, List, [], ◌∷◌, ◌++◌, map
 use Rattle.std.specs.Borrow.{Bor}
 use Rattle.resp_errors.specs.declared.parsing_error.ParsingError.{ParsingError}
 use Rattle.resp_value.specs.declared.value.Value.{Value, Array, Nil}
-use Rattle.resp_from.specs.Conversion.{OfMade, RefusesIf}
+use Rattle.resp_from.specs.Conversion.{OfVia, RefusesIf}
 use Rattle.resp_fields.specs.Fields.{NamedValues, value_of, without, OfFields, OfGiven}
 
 -- the texts that these refer to
@@ -43,7 +43,7 @@ row_of needed optional fields =
 abbrev pub OfRow : {X : Type 0} → List (List ℕ) → List (List ℕ) → (Value → X → Type 0) → Value → X
     → Type 0
 OfRow needed optional Of =
-    OfMade OfFields (λ fields x. OfGiven Of (row_of needed optional fields) x)
+    OfVia OfFields (λ fields x. OfGiven Of (row_of needed optional fields) x)
 
 -- finding values and adding them to a list: refused where one isn't there
 abbrev pub Finds : Option (List Value) → List Value → List Value

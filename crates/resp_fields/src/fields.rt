@@ -4,8 +4,8 @@ ghost use Rattle.std.specs.Prelude.{◌≡◌, ◌↔◌, [], IfErr, IsTrue, len
 ghost use Rattle.resp_from.specs.Conversion.{Converts};
 ghost use Rattle.resp_fields.specs.Fields.{field_is_missing, value_of, without, OfField, OfFieldOr};
 
+use resp_conversion_laws::SingleValued;
 use resp_from::{FromRedisValue, from_redis_value_by};
-use resp_laws::SingleValued;
 use resp_value::{ParsingError, Value};
 use std::alloc::Global;
 use std::collections::BTreeMap;

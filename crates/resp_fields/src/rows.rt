@@ -1,7 +1,7 @@
 //! Values that are made of some fields of a reply, in an order of one's own.
 
 ghost use Rattle.std.specs.Prelude.{◌≡◌, ◌++◌, OnOk};
-ghost use Rattle.resp_from.specs.Conversion.{Converts, OfMade};
+ghost use Rattle.resp_from.specs.Conversion.{Converts, OfVia};
 ghost use Rattle.resp_fields.specs.Fields.{OfGiven};
 ghost use Rattle.resp_fields.specs.Rows.{row_of, texts, values_of, values_or_nil, without_all};
 ghost use Rattle.resp_fields.specs.Rows.{Finds, FindsRow, OfRow};
@@ -61,7 +61,7 @@ fn from_row<T: FromRedisValue, X: From<T>>(
     needed: &[&str],
     optional: &[&str],
 ) -> Result<X, ParsingError>
-    ensures converts { Converts (OfGiven (OfMade T.of_value X.from_gives)
+    ensures converts { Converts (OfGiven (OfVia T.of_value X.from_gives)
         (row_of (texts needed.now) (texts optional.now) fields.old)) result }
 {
     let row = take_row(alloc, fields, needed, optional)?;
@@ -97,7 +97,7 @@ fn from_row<T: FromRedisValue, X: From<T>>(
 ///     const BYTES: bool = false;
 ///
 ///     ghost of_value = { OfRow (codes "name" ∷ codes "points" ∷ []) (codes "start" ∷ [])
-///         (OfMade ⟦<Row as FromRedisValue>⟧.of_value ⟦<Path as From<Row>>⟧.from_gives) };
+///         (OfVia ⟦<Row as FromRedisValue>⟧.of_value ⟦<Path as From<Row>>⟧.from_gives) };
 ///
 ///     fn from_redis_value(alloc: Global, value: Value) -> Result<Path, ParsingError> {
 ///         from_redis_fields_by::<Row, Path>(alloc, value, &["name", "points"], &["start"])
@@ -105,7 +105,7 @@ fn from_row<T: FromRedisValue, X: From<T>>(
 /// }
 /// ```
 ///
-/// In `crates/uses_fields/src/paths.rt`.
+/// In `crates/example_fields/src/paths.rt`.
 pub fn from_redis_fields_by<T: FromRedisValue, X: From<T>>(
     alloc: Global,
     value: Value,
@@ -113,7 +113,7 @@ pub fn from_redis_fields_by<T: FromRedisValue, X: From<T>>(
     optional: &[&str],
 ) -> Result<X, ParsingError>
     ensures converts { Converts (OfRow (texts needed.now) (texts optional.now)
-        (OfMade T.of_value X.from_gives) value) result }
+        (OfVia T.of_value X.from_gives) value) result }
 {
     let mut fields = Fields::from_redis_value(alloc, value)?;
     from_row::<T, X>(alloc, &mut fields, needed, optional)

@@ -1,6 +1,6 @@
 //! Structs that are made of the fields of a reply.
 
-ghost use Rattle.resp_from.specs.Conversion.{Converts, OfMade};
+ghost use Rattle.resp_from.specs.Conversion.{Converts, OfVia};
 ghost use Rattle.resp_fields.specs.Fields.{NamedValues, OfFields};
 
 use crate::fields::Fields;
@@ -36,7 +36,7 @@ use std::alloc::Global;
 ///
 ///     const BYTES: bool = false;
 ///
-///     ghost of_value = { OfMade OfFields ⟦<Point as FromFields>⟧.of_fields };
+///     ghost of_value = { OfVia OfFields ⟦<Point as FromFields>⟧.of_fields };
 ///
 ///     fn from_redis_value(alloc: Global, value: Value) -> Result<Point, ParsingError> {
 ///         from_redis_fields(alloc, value)
@@ -44,7 +44,7 @@ use std::alloc::Global;
 /// }
 /// ```
 ///
-/// In `crates/uses_fields/src/paths.rt`.
+/// In `crates/example_fields/src/paths.rt`.
 pub trait FromFields: Sized + Drop {
     // Holds of fields and each value that is made of them.
     ghost of_fields: { NamedValues → Self → Type 0 };
@@ -60,7 +60,7 @@ pub trait FromFields: Sized + Drop {
 ///
 /// Refused where the reply has no fields, or there is no value of them, or on `OutOfMemory`.
 pub fn from_redis_fields<X: FromFields>(alloc: Global, value: Value) -> Result<X, ParsingError>
-    ensures converts { Converts (OfMade OfFields X.of_fields value) result }
+    ensures converts { Converts (OfVia OfFields X.of_fields value) result }
 {
     let mut fields = Fields::from_redis_value(alloc, value)?;
     X::from_fields(alloc, &mut fields)

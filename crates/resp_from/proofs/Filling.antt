@@ -2,7 +2,7 @@
 use Rattle.std.proofs.Common.{◌≡◌, List, [], ◌∷◌, ◌++◌, subst}
 use Rattle.std.specs.List.{AllZip}
 use Rattle.resp_value.specs.declared.value.Value.{Value}
-use Rattle.resp_keyed.specs.Keyed.{Keying, IsMerged, IsDeduplicated}
+use Rattle.resp_containers.specs.Keyed.{Keying, IsMerged, IsDeduplicated}
 use Rattle.resp_from.specs.Maps.{OfPair, HoldsMap, HoldsSet}
 use Rattle.resp_from.proofs.Conversions.{AllZip-more}
 

@@ -34,11 +34,11 @@ ConvertsMaybe {X} Fits (Ok None) = (xs : List X) → Fits xs → ⊥
 ConvertsMaybe Fits (Err e) = e ≡ parsing.OutOfMemory
 
 -- the reply is a value of one type, and the other value may be made of it
-pub record OfMade {T X : Type 0} (Of : Value → T → Type 0) (FromGives : T → X → Type 0)
+pub record OfVia {T X : Type 0} (Of : Value → T → Type 0) (FromGives : T → X → Type 0)
     (reply : Value) (x : X) : Type 0 where
-  pub made_of : T
-  pub fits : Of reply made_of
-  pub from_gives : FromGives made_of x
+  pub via : T
+  pub fits : Of reply via
+  pub from_gives : FromGives via x
 
 -- what a conversion may answer that may take memory
 abbrev pub AnyError : Value → ParsingError → Type 0

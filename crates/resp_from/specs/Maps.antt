@@ -3,7 +3,7 @@ use Rattle.std.specs.Prelude.{◌≡◌, cond, List, [], Option, Some}
 use Rattle.std.specs.List.{AllZip}
 use Rattle.resp_value.specs.declared.value.Value.{Value, out-Value}
 use Rattle.resp_value.specs.Views.{pairs_of, sequence_of}
-use Rattle.resp_keyed.specs.Keyed.{Keying, IsMerged, IsDeduplicated}
+use Rattle.resp_containers.specs.Keyed.{Keying, IsMerged, IsDeduplicated}
 use Rattle.resp_from.specs.Attributes.{stripped}
 use Rattle.resp_from.specs.Wrappers.{is_nil}
 

@@ -4,7 +4,7 @@ ghost use Rattle.std.specs.Prelude.{◌≡◌, ℕ, Bool, false, IfErr, MatchRes
 ghost use Rattle.resp_value.specs.declared.value.Value.{Value};
 ghost use Rattle.resp_errors.specs.declared.parsing_error.ParsingError.{ParsingError};
 ghost use Rattle.resp_errors.specs.declared.parsing_error.ParsingError.TheVariants as parsing;
-ghost use Rattle.resp_from.specs.Conversion.{AnyError, OfMade, OrMemory, Converts, ConvertsList};
+ghost use Rattle.resp_from.specs.Conversion.{AnyError, OfVia, OrMemory, Converts, ConvertsList};
 ghost use Rattle.resp_from.specs.Conversion.{ConvertsMaybe};
 ghost use Rattle.resp_from.specs.Rules.{OfList, OfEach, OfBytes};
 
@@ -159,7 +159,7 @@ pub fn from_redis_value_ref<T: FromRedisValue>(
 ///
 ///     const BYTES: bool = false;
 ///
-///     ghost of_value = { OfMade ⟦<(i64, i64) as FromRedisValue>⟧.of_value
+///     ghost of_value = { OfVia ⟦<(i64, i64) as FromRedisValue>⟧.of_value
 ///         ⟦<Point as From<(i64, i64)>>⟧.from_gives };
 ///
 ///     fn from_redis_value(alloc: Global, value: Value) -> Result<Point, ParsingError> {
@@ -168,14 +168,14 @@ pub fn from_redis_value_ref<T: FromRedisValue>(
 /// }
 /// ```
 ///
-/// In `crates/uses_replies/src/own_types.rt`.
+/// In `crates/example_replies/src/own_types.rt`.
 pub fn from_redis_value_by<T: FromRedisValue, X: From<T>>(
     alloc: Global,
     value: Value,
 ) -> Result<X, ParsingError>
-    ensures converts { Converts (OfMade T.of_value X.from_gives value) result }
+    ensures converts { Converts (OfVia T.of_value X.from_gives value) result }
     ensures errors { IfErr result (T.error_of_value value) }
 {
-    let made_of = T::from_redis_value(alloc, value)?;
-    Ok(X::from(made_of))
+    let via = T::from_redis_value(alloc, value)?;
+    Ok(X::from(via))
 }

@@ -7,7 +7,7 @@ ghost use Rattle.resp_from.specs.Maps.{OfMap, OfPair, OfSet, HoldsMap, HoldsSet}
 use crate::attributes::strip_attribute;
 use crate::conversion::FromRedisValue;
 use crate::refusals::refuse;
-use resp_keyed::{FillMap, FillSet};
+use resp_containers::{FillMap, FillSet};
 use resp_value::{OwnedMapIter, ParsingError, Value};
 use std::alloc::Global;
 use std::collections::{BTreeMap, BTreeSet, HashMap, HashSet};
@@ -83,7 +83,7 @@ fn set_of<T: FromRedisValue, S: FillSet<T>>(alloc: Global, reply: Value) -> Resu
 /// A map is a map, an array of keys and values in turn, or nothing, which is empty; of equal keys
 /// the first stays, with the last value. At most one attribute is removed.
 impl<K: FromRedisValue + Ord, V: FromRedisValue> FromRedisValue for BTreeMap<K, V> {
-    ghost use Rattle.resp_keyed.specs.Keyed.{sorted};
+    ghost use Rattle.resp_containers.specs.Keyed.{sorted};
 
     const WIDTH: usize = 0;
 
@@ -99,7 +99,7 @@ impl<K: FromRedisValue + Ord, V: FromRedisValue> FromRedisValue for BTreeMap<K, 
 /// A map is a map, an array of keys and values in turn, or nothing, which is empty; of equal keys
 /// the first stays, with the last value. At most one attribute is removed.
 impl<K: FromRedisValue + Eq + Hash, V: FromRedisValue> FromRedisValue for HashMap<K, V> {
-    ghost use Rattle.resp_keyed.specs.Keyed.{hashed};
+    ghost use Rattle.resp_containers.specs.Keyed.{hashed};
 
     const WIDTH: usize = 0;
 
@@ -115,7 +115,7 @@ impl<K: FromRedisValue + Eq + Hash, V: FromRedisValue> FromRedisValue for HashMa
 /// A set is an array or a set, item by item, or nothing, which is empty; of equal members the first
 /// stays. At most one attribute is removed.
 impl<T: FromRedisValue + Ord> FromRedisValue for BTreeSet<T> {
-    ghost use Rattle.resp_keyed.specs.Keyed.{sorted};
+    ghost use Rattle.resp_containers.specs.Keyed.{sorted};
 
     const WIDTH: usize = 0;
 
@@ -131,7 +131,7 @@ impl<T: FromRedisValue + Ord> FromRedisValue for BTreeSet<T> {
 /// A set is an array or a set, item by item, or nothing, which is empty; of equal members the first
 /// stays. At most one attribute is removed.
 impl<T: FromRedisValue + Eq + Hash> FromRedisValue for HashSet<T> {
-    ghost use Rattle.resp_keyed.specs.Keyed.{hashed};
+    ghost use Rattle.resp_containers.specs.Keyed.{hashed};
 
     const WIDTH: usize = 0;
 

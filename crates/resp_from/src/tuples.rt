@@ -27,7 +27,7 @@ fn values_in_turn(alloc: Global, pairs: Items<(Value, Value)>) -> Result<Vec<Val
     Ok(values)
 }
 
-fn if_long(values: Vec<Value>, width: usize) -> Result<Vec<Value>, ParsingError>
+fn require_len(values: Vec<Value>, width: usize) -> Result<Vec<Value>, ParsingError>
     ensures finds { FindsValues (of_length width values.items) result }
 {
     if values.len() == width {
@@ -42,9 +42,9 @@ fn find_values(alloc: Global, width: usize, reply: Value) -> Result<Vec<Value>, 
     ensures finds { FindsValues (values_of_width width (out-Value (stripped reply))) result }
 {
     match strip_attribute(reply) {
-        Value::Array(items) => if_long(items.into_vec(), width),
-        Value::Set(items) => if_long(items.into_vec(), width),
-        Value::Map(pairs) => if_long(values_in_turn(alloc, pairs)?, width),
+        Value::Array(items) => require_len(items.into_vec(), width),
+        Value::Set(items) => require_len(items.into_vec(), width),
+        Value::Map(pairs) => require_len(values_in_turn(alloc, pairs)?, width),
         other => refuse(other, "Response type not tuple compatible"),
     }
 }

@@ -11,7 +11,7 @@ use Rattle.resp_link.specs.Linking.{connection_of, Exchanges}
 use Rattle.resp_link.specs.Sink.{Sink, SendsAll}
 use Rattle.resp_command.specs.Taken.{Taken, took, met_fault, ended_early, pushes_in, replies_in, PrefixReads, all, all_but_last}
 use Rattle.resp_command.proofs.Values.{reads_one, reads_both}
-use Rattle.resp_link.specs.Receiving.{Inflow, inflowing, ReadsOn, AwaitsMore, ReadsPush, StopsReceiving, Receives, CannotReceive, faulty, early_end, source_failed, out_of_memory, no_room}
+use Rattle.resp_link.specs.Receiving.{Inflow, inflowing, ReadsOn, AwaitsMore, ReadsPush, StopsReceiving, Receives, CannotReceive, malformed, early_end, source_failed, out_of_memory, no_room}
 use Rattle.resp_command.specs.Connection as connection
 use Rattle.resp_command.specs.Connection.{Connection, SameKind, Sent, Exchange, TookTooFew, TookSome, BrokenMidway}
 
@@ -34,7 +34,7 @@ module _ (n : ℕ) (i i' : Inflow) (e : RedisError) (r : CannotReceive n i i' e)
 
   taken_early : (r.at.observable ≡ true → Awaits r.at.limits (inflowing r.at)) → i.observable ≡ true → Taken i.limits n (inflowing i) (ended_early (pushes_in r.values))
   unfolding Taken
-  taken_early unfinished obs = record { values = r.values; rest = inflowing r.at; prefix = r.on.prefix obs; few = few; pushes_are = refl; follows = rw r.on.limits at unfinished (r.on.observable obs) }
+  taken_early incomplete obs = record { values = r.values; rest = inflowing r.at; prefix = r.on.prefix obs; few = few; pushes_are = refl; follows = rw r.on.limits at incomplete (r.on.observable obs) }
 
 -- what came in while nothing or everything was sent
 module _ (i i' : Inflow) (k k' : Sink) (b b' : Bool) where
@@ -42,7 +42,7 @@ module _ (i i' : Inflow) (k k' : Sink) (b b' : Bool) where
       TookTooFew n (connection_of i k b) (connection_of i' k' b') (pushes_in r.values)
   too_few n e r few awaits obs =
       let a = awaits (r.on.observable obs) in
-      record { values = r.values; taken = rw a.same at r.on.prefix obs; few = few; pushes_are = refl; unfinished = rw r.on.limits at a.unfinished }
+      record { values = r.values; taken = rw a.same at r.on.prefix obs; few = few; pushes_are = refl; incomplete = rw r.on.limits at a.incomplete }
 
   -- memory ran out once the request was sent
   midway : (n : ℕ) (q : List ℕ) (e : RedisError) → SendsAll k k' q (Ok tt) → (r : CannotReceive n i i' e) → b' ≡ true
@@ -116,7 +116,7 @@ replied i i' k k' b q n replies result answers sending r answer = record {
 
 missed : {A : Type 0} (i i' : Inflow) (k k' : Sink) (b : Bool) (q : List ℕ) (n : ℕ) (e : RedisError) (answers : List Value → Type 0) →
     SendsAll k k' q (Ok tt) → (r : CannotReceive n i i' e) → StopsReceiving (length (replies_in r.values) < n) r.at i' e → Exchange {A = A} (connection_of i k b) (connection_of i' k' true) q n (Err e) answers
-missed i i' k k' b q n e answers sending r (faulty f few is bad same) = connection.faulty (record {
+missed i i' k k' b q n e answers sending r (malformed f few is bad same) = connection.malformed (record {
   frame_fault = f;
   pushes = pushes_in r.values;
   sent = sent_whole i i' k k' b true q sending;
@@ -126,10 +126,10 @@ missed i i' k k' b q n e answers sending r (faulty f few is bad same) = connecti
   no_failure = record { source = same ∙ r.on.failures; sink = sending.failures };
   answer = ap Err is;
 })
-missed i i' k k' b q n e answers sending r (early_end few is unfinished same) = connection.early_end (record {
+missed i i' k k' b q n e answers sending r (early_end few is incomplete same) = connection.early_end (record {
   pushes = pushes_in r.values;
   sent = sent_whole i i' k k' b true q sending;
-  takes = λ obs. taken_early n i i' e r few unfinished (both_true i.observable k.observable obs).0;
+  takes = λ obs. taken_early n i i' e r few incomplete (both_true i.observable k.observable obs).0;
   listed = r.pushes ∙ r.on.pushes;
   broken = refl;
   no_failure = record { source = same ∙ r.on.failures; sink = sending.failures };

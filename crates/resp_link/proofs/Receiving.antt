@@ -7,7 +7,7 @@ use Rattle.resp_errors.specs.declared.redis_error.RedisError.{RedisError}
 use Rattle.resp_errors.specs.declared.redis_error.RedisError.TheVariants as form
 use Rattle.resp_parse.specs.Source.{Source}
 use Rattle.resp_parse.specs.State.{State, StandsAfter, IsBetweenValues}
-use Rattle.resp_parse.specs.Calls.{Parses, CannotParse, faulty, early_end, source_failed, out_of_memory}
+use Rattle.resp_parse.specs.Calls.{Parses, CannotParse, malformed, early_end, source_failed, out_of_memory}
 use Rattle.resp_parse.specs.Limited.{HasValue}
 use Rattle.resp_parse.proofs.ParserStates.{StandsAfter-from_since, StandsAfter-works, StandsAfter-since, FailedAfter-since, IsBetweenValues-same}
 use Rattle.resp_parse.proofs.LimitedReadings.{HasValue-whole, HasFault-whole, Awaits-whole}
@@ -36,22 +36,22 @@ pub received_nothing : (s : State) → IsBetweenValues s → s.unparsed ≡ [] �
 received_nothing s h none = IsBetweenValues-same s h ∙ none
 
 -- a value that was parsed, and what follows it
-good_since : (s t : Source) (was new : State) (v : Value) → new.limits ≡ was.limits → Parses was.since was new s t (Ok v) → s.observable ≡ true →
+well_formed_since : (s t : Source) (was new : State) (v : Value) → new.limits ≡ was.limits → Parses was.since was new s t (Ok v) → s.observable ≡ true →
     HasValue was.limits (was.since ++ s.bytes) v (new.since ++ t.bytes)
-good_since s t was new v same parsed obs =
+well_formed_since s t was new v same parsed obs =
     let value : HasValue was.limits (was.since ++ parsed.filled) v new.since = rw (IsBetweenValues-same new parsed.rest) (rw same at parsed.value) in
-    HasValue-whole was.limits was.since parsed.filled s t (parsed.came obs) v new.since value
+    HasValue-whole was.limits was.since parsed.filled s t (parsed.source_gave obs) v new.since value
 
 -- what was filled moved from the source to the bytes that were received
 moved : (s t : Source) (since filled : List ℕ) (new : State) → since ++ filled ≡ new.since → s.bytes ≡ filled ++ t.bytes → since ++ s.bytes ≡ new.since ++ t.bytes
-moved s t since filled new is came = ap (λ z. since ++ z) came ∙ sym (append_assoc since filled t.bytes) ∙ ap (λ z. z ++ t.bytes) is
+moved s t since filled new is source_gave = ap (λ z. since ++ z) source_gave ∙ sym (append_assoc since filled t.bytes) ∙ ap (λ z. z ++ t.bytes) is
 
 -- a value that was parsed, and set aside where it is a push
 on_value : (s t : Source) (was new : State) (p : List PushInfo) (v : Value) → (s.observable ≡ true → t.observable ≡ true) → new.limits ≡ was.limits → Parses was.since was new s t (Ok v) →
     ReadsOn (inflow_of was s p) (inflow_of new t (p ++ pushes_in (v ∷ []))) (v ∷ [])
 on_value s t was new p v observable same parsed = record {
   observable = observable;
-  prefix = λ obs. reads_one was.limits (was.since ++ s.bytes) (new.since ++ t.bytes) v (good_since s t was new v same parsed obs);
+  prefix = λ obs. reads_one was.limits (was.since ++ s.bytes) (new.since ++ t.bytes) v (well_formed_since s t was new v same parsed obs);
   limits = same;
   pushes = refl;
   failures = parsed.failures;
@@ -59,21 +59,21 @@ on_value s t was new p v observable same parsed = record {
 
 stops : (Needed : Type 0) (s t : Source) (was new : State) (p : List PushInfo) (e : RedisError) → Needed → new.limits ≡ was.limits → CannotParse was.since e was new s t →
     StopsReceiving Needed (inflow_of was s p) (inflow_of new t p) e
-stops Needed s t was new p e needed same (faulty f filled is bad failed) =
-    receiving.faulty f needed is (λ obs. HasFault-whole was.limits was.since filled s t (failed.came obs) f (rw same at bad)) failed.failures
-stops Needed s t was new p e needed same (early_end filled is unfinished nothing failed) =
-    receiving.early_end needed is (λ obs. Awaits-whole was.limits was.since filled s t (failed.came obs) (nothing obs) (rw same at unfinished)) failed.failures
+stops Needed s t was new p e needed same (malformed f filled is bad failed) =
+    receiving.malformed f needed is (λ obs. HasFault-whole was.limits was.since filled s t (failed.source_gave obs) f (rw same at bad)) failed.failures
+stops Needed s t was new p e needed same (early_end filled is incomplete nothing failed) =
+    receiving.early_end needed is (λ obs. Awaits-whole was.limits was.since filled s t (failed.source_gave obs) (nothing obs) (rw same at incomplete)) failed.failures
 stops Needed s t was new p e needed same (source_failed kind is midway) = receiving.source_failed kind needed is (λ obs. record {
-  same = moved s t was.since midway.filled new (StandsAfter-since new (was.since ++ midway.filled) midway.stands) (midway.came obs);
-  unfinished = rw (StandsAfter-since new (was.since ++ midway.filled) midway.stands, same) at midway.awaits;
+  same = moved s t was.since midway.filled new (StandsAfter-since new (was.since ++ midway.filled) midway.stands) (midway.source_gave obs);
+  incomplete = rw (StandsAfter-since new (was.since ++ midway.filled) midway.stands, same) at midway.awaits;
 }) midway.failures
 stops Needed s t was new p e needed same (out_of_memory filled is failed) =
-    receiving.out_of_memory is (λ obs. moved s t was.since filled new (FailedAfter-since new (was.since ++ filled) failed.failed) (failed.came obs)) failed.failures
+    receiving.out_of_memory is (λ obs. moved s t was.since filled new (FailedAfter-since new (was.since ++ filled) failed.failed) (failed.source_gave obs)) failed.failures
 
 -- a stop where more is needed still
 stops-needed : (Needed More : Type 0) (at now : Inflow) (e : RedisError) → (Needed → More) → StopsReceiving Needed at now e → StopsReceiving More at now e
-stops-needed Needed More at now e f (receiving.faulty fault n is bad same) = receiving.faulty fault (f n) is bad same
-stops-needed Needed More at now e f (receiving.early_end n is unfinished same) = receiving.early_end (f n) is unfinished same
+stops-needed Needed More at now e f (receiving.malformed fault n is bad same) = receiving.malformed fault (f n) is bad same
+stops-needed Needed More at now e f (receiving.early_end n is incomplete same) = receiving.early_end (f n) is incomplete same
 stops-needed Needed More at now e f (receiving.source_failed kind n is awaits counted) = receiving.source_failed kind (f n) is awaits counted
 stops-needed Needed More at now e f (receiving.out_of_memory is rest same) = receiving.out_of_memory is rest same
 stops-needed Needed More at now e f (receiving.no_room is push same) = receiving.no_room is push same
@@ -136,7 +136,7 @@ no_room old s t was new p v info so_far observable same parsed push = record {
   observable = observable;
   limits = same;
   pushes = refl;
-  stops = receiving.no_room refl (λ obs. record { push = v; prefix = good_since s t was new v same parsed obs; is_push = rw push refl }) parsed.failures;
+  stops = receiving.no_room refl (λ obs. record { push = v; prefix = well_formed_since s t was new v same parsed obs; is_push = rw push refl }) parsed.failures;
 }
 
 pub receives_none : (at : Inflow) → Receives 0 at at []

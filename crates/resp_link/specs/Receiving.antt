@@ -63,10 +63,10 @@ pub record ReadsOn (old new : Inflow) (values : List Value) : Type 0 where
   pub pushes : new.pushes ≡ old.pushes ++ pushes_in values
   pub failures : new.failures ≡ old.failures
 
--- no value was taken, and all that was received is unfinished
+-- no value was taken, and all that was received is incomplete
 pub record AwaitsMore (at now : Inflow) : Type 0 where
   pub same : inflowing at ≡ inflowing now
-  pub unfinished : Awaits at.limits now.received
+  pub incomplete : Awaits at.limits now.received
 
 -- a value was read that is a push
 pub record ReadsPush (at now : Inflow) : Type 0 where
@@ -77,7 +77,7 @@ pub record ReadsPush (at now : Inflow) : Type 0 where
 -- why no value comes next: a fault, the end of the bytes or a failure of the source, where more
 -- were needed; or out of memory, perhaps for the place of a push
 pub data StopsReceiving (Needed : Type 0) (at now : Inflow) (e : RedisError) : Type 0 where
-  faulty : (f : FrameFault) → Needed → e ≡ form.Parse (parsing.Fault f) →
+  malformed : (f : FrameFault) → Needed → e ≡ form.Parse (parsing.Fault f) →
       (at.observable ≡ true → HasFault at.limits (inflowing at) f) →
       now.failures ≡ at.failures → StopsReceiving Needed at now e
   early_end : Needed → e ≡ form.Io UnexpectedEof →

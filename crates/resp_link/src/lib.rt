@@ -4,8 +4,8 @@
 mod inbox;
 mod link;
 mod sink;
-mod writing;
+mod writer_sink;
 
 pub use link::ByteLink;
 pub use sink::CommandSink;
-pub use writing::Writing;
+pub use writer_sink::Writing;

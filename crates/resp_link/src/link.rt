@@ -12,7 +12,7 @@ ghost use Rattle.resp_link.specs.Linking.{BetweenUnless, Exchanges, connection_o
 
 use crate::inbox::Inbox;
 use crate::sink::{CommandSink, send_all};
-use crate::writing::Writing;
+use crate::writer_sink::Writing;
 use resp_command::{Cmd, ConnectionLike};
 use resp_parse::{Limits, Parser, Reading, ReplySource};
 use resp_value::{ErrorKind, PushInfo, RedisError, RedisResult, Value};

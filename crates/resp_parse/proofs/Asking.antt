@@ -35,7 +35,7 @@ module _ (old new : State) (b : List ℕ) (h : StandsAfter old b) where
   filled : (s t : Source) (before after : List ℕ) (n : ℕ) → new.failed ≡ old.failed → new.since ≡ old.since ++ take n after → Received (take n after) old new → Fills s t before after (Ok n) → Filled b old new s t
   filled s t before after n w e k f = record {
     filled = take n after;
-    came = λ obs. (f.bytes obs).0;
+    source_gave = λ obs. (f.bytes obs).0;
     received = k;
     stands = StandsAfter-fed old new b (take n after) h w e;
     failures = f.failures;

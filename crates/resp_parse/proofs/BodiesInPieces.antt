@@ -4,15 +4,15 @@ use Rattle.std.proofs.lemmas.List.{append-nil}
 use Rattle.std.proofs.lemmas.Grind.{common_steps}
 use Rattle.resp_value.specs.declared.value.Value.{Value}
 use Rattle.resp_errors.specs.declared.kinds.FrameFault.TheVariants.{BodyEnd}
-use Rattle.resp_parse.specs.declared.stop.Stop.{Stop}
-use Rattle.resp_parse.specs.declared.stop.Stop.TheVariants.{Memory, Fault}
+use Rattle.resp_parse.specs.declared.read_error.ReadError.{ReadError}
+use Rattle.resp_parse.specs.declared.read_error.ReadError.TheVariants.{Memory, Fault}
 use Rattle.resp_parse.specs.declared.machine.Body.{Body}
 use Rattle.resp_parse.specs.declared.machine.Machine.{Machine}
 use Rattle.resp_parse.specs.declared.machine.Step.TheVariants as step
-use Rattle.resp_parse.specs.PlainReading.{ReadOutcome, got, fault, unfinished, then, end_of_body, read_body, made}
+use Rattle.resp_parse.specs.PlainReading.{ReadOutcome, got, fault, incomplete, then, end_of_body, read_body, made}
 use Rattle.resp_parse.specs.Shapes.{body_value}
 use Rattle.resp_parse.specs.Computes.{Computes}
-use Rattle.resp_parse.specs.Resume.{value_of, place, resume, levels_left, IsScanned, EndsBody, FillsBody, Steps}
+use Rattle.resp_parse.specs.Resume.{value_of, place, resume, depth_left, IsScanned, EndsBody, FillsBody, Steps}
 
 pub drop-all : (n : ℕ) (xs : List ℕ) → length xs ≤ n → drop n xs ≡ []
 drop-all zero [] l = refl
@@ -30,7 +30,7 @@ one_more : (K : List ℕ → List ℕ → ReadOutcome Value) (bytes : List ℕ) 
     then (then o (λ x rest. got (b ∷ x) rest)) (λ x rest. K (bytes ++ x) rest) ≡ then o (λ x rest. K ((bytes ++ b ∷ []) ++ x) rest)
 one_more K bytes b (got x rest) = ap (λ s. K s rest) (sym (append_assoc bytes (b ∷ []) x))
 one_more K bytes b (fault f rest) = refl
-one_more K bytes b unfinished = refl
+one_more K bytes b incomplete = refl
 
 runs : (K : List ℕ → List ℕ → ReadOutcome Value) (n : ℕ) (bytes piece : List ℕ) → length piece ≤ n → (more : List ℕ) →
     in_body K bytes n (piece ++ more) ≡ in_body K (bytes ++ piece) (n - length piece) more
@@ -64,7 +64,7 @@ module _ (old new : Body) (bytes : List ℕ) (n : ℕ) (n_is : n ≡ min (length
   none_left l = drop-all n bytes (omega (arith, missing-is, n_is, l))
 
   -- with no CR LF the body waits
-  waits-missing : (k d : ℕ) → new.missing ≡ k → end_of_body (drop n bytes) ≡ unfinished → value_of d (Some new) (drop n bytes) ≡ unfinished
+  waits-missing : (k d : ℕ) → new.missing ≡ k → end_of_body (drop n bytes) ≡ incomplete → value_of d (Some new) (drop n bytes) ≡ incomplete
   waits-missing zero d e h = ap (λ k. in_body (λ x rest. made (body_value new.kind x) rest) new.bytes k (drop n bytes)) e ∙ rw h refl
   waits-missing (suc k) d e h =
       let none : drop n bytes ≡ [] = none_left (omega (arith, e)) in
@@ -88,8 +88,8 @@ module _ (old new : Body) (bytes : List ℕ) (n : ℕ) (n_is : n ≡ min (length
       ∙ ap (λ o. then o (λ x rest. made (body_value new.kind (new.bytes ++ x)) rest)) h
       ∙ ap (λ s. made (body_value new.kind s) (drop 2 (drop n bytes) ++ more)) (append-nil new.bytes)
 
-  faulty : (d j : ℕ) → EndsBody (drop n bytes) (Err j) → (more : List ℕ) → value_of d (Some new) (drop n bytes ++ more) ≡ fault BodyEnd (drop (n + j) bytes ++ more)
-  faulty d j h more =
+  malformed : (d j : ℕ) → EndsBody (drop n bytes) (Err j) → (more : List ℕ) → value_of d (Some new) (drop n bytes ++ more) ≡ fault BodyEnd (drop (n + j) bytes ++ more)
+  malformed d j h more =
       let z : new.missing ≡ 0 = none_missing new.missing j refl h in
       ap (λ k. in_body (λ x rest. made (body_value new.kind x) rest) new.bytes k (drop n bytes ++ more)) z
       ∙ ap (λ o. then o (λ x rest. made (body_value new.kind (new.bytes ++ x)) rest)) (h.1 more)
@@ -97,10 +97,10 @@ module _ (old new : Body) (bytes : List ℕ) (n : ℕ) (n_is : n ≡ min (length
 
 -- a machine in a body that took n bytes
 module _ (m : Machine) (old new : Body) (bytes : List ℕ) (n : ℕ) (body_is : m.body ≡ Some old) (h : FillsBody {E = Unit {0}} old bytes new (Ok n)) where
-  pub resumes : (more : List ℕ) → resume m (bytes ++ more) ≡ then (value_of (levels_left m.levels m.frames) (Some new) (drop n bytes ++ more)) (place m.levels m.frames)
+  pub resumes : (more : List ℕ) → resume m (bytes ++ more) ≡ then (value_of (depth_left m.depth m.open_aggregates) (Some new) (drop n bytes ++ more)) (place m.depth m.open_aggregates)
   resumes more =
-      ap (λ o. then (value_of (levels_left m.levels m.frames) o (bytes ++ more)) (place m.levels m.frames)) body_is
-      ∙ ap (λ o. then o (place m.levels m.frames)) (fills old new bytes n h.0 h.1 (levels_left m.levels m.frames) more)
+      ap (λ o. then (value_of (depth_left m.depth m.open_aggregates) o (bytes ++ more)) (place m.depth m.open_aggregates)) body_is
+      ∙ ap (λ o. then o (place m.depth m.open_aggregates)) (fills old new bytes n h.0 h.1 (depth_left m.depth m.open_aggregates) more)
 
   within : n ≤ length bytes
   within = omega (arith, h.0)
@@ -109,22 +109,22 @@ module _ (m : Machine) (old new : Body) (bytes : List ℕ) (n : ℕ) (body_is : 
   body-waits s e m' i = rw i (record {
     within = within;
     same = resumes;
-    waits = ap (λ o. then o (place m.levels m.frames)) (waits-missing old new bytes n h.0 h.1 new.missing (levels_left m.levels m.frames) refl e);
+    waits = ap (λ o. then o (place m.depth m.open_aggregates)) (waits-missing old new bytes n h.0 h.1 new.missing (depth_left m.depth m.open_aggregates) refl e);
     scanned = s;
     fresh = λ e. absurd (cc);
     begun = λ _. rw body_is refl;
   })
 
-  pub body-faulty : (m' : Machine) (j : ℕ) → m'.shown ≡ n + j → EndsBody (drop n bytes) (Err j) → Steps m bytes m' (Err (Fault BodyEnd))
-  body-faulty m' j i e =
+  pub body-malformed : (m' : Machine) (j : ℕ) → m'.shown ≡ n + j → EndsBody (drop n bytes) (Err j) → Steps m bytes m' (Err (Fault BodyEnd))
+  body-malformed m' j i e =
       let r : length (drop n bytes) ≡ length bytes - n = grind (arith, common_steps) in
       let l : j ≤ length (drop n bytes) = e.0 in
-      rw i (omega (arith, r, l, within), λ more. resumes more ∙ ap (λ o. then o (place m.levels m.frames)) (faulty old new bytes n h.0 h.1 (levels_left m.levels m.frames) j e more))
+      rw i (omega (arith, r, l, within), λ more. resumes more ∙ ap (λ o. then o (place m.depth m.open_aggregates)) (malformed old new bytes n h.0 h.1 (depth_left m.depth m.open_aggregates) j e more))
 
-  ended : EndsBody (drop n bytes) (Ok true) → (more : List ℕ) → resume m (bytes ++ more) ≡ then (made (body_value new.kind new.bytes) (drop 2 (drop n bytes) ++ more)) (place m.levels m.frames)
-  ended e more = resumes more ∙ ap (λ o. then o (place m.levels m.frames)) (whole old new bytes n h.0 h.1 (levels_left m.levels m.frames) more e.0 (e.1 more))
+  ended : EndsBody (drop n bytes) (Ok true) → (more : List ℕ) → resume m (bytes ++ more) ≡ then (made (body_value new.kind new.bytes) (drop 2 (drop n bytes) ++ more)) (place m.depth m.open_aggregates)
+  ended e more = resumes more ∙ ap (λ o. then o (place m.depth m.open_aggregates)) (whole old new bytes n h.0 h.1 (depth_left m.depth m.open_aggregates) more e.0 (e.1 more))
 
-  pub body-refused : EndsBody (drop n bytes) (Ok true) → (m' : Machine) (e : Stop) → m'.shown ≡ n + 2 → Computes (Err e) (body_value new.kind new.bytes) → Steps m bytes m' (Err e)
+  pub body-refused : EndsBody (drop n bytes) (Ok true) → (m' : Machine) (e : ReadError) → m'.shown ≡ n + 2 → Computes (Err e) (body_value new.kind new.bytes) → Steps m bytes m' (Err e)
   body-refused e m' Memory i c = tt
   body-refused e m' (Fault f) i c =
       let r : length (drop n bytes) ≡ length bytes - n = grind (arith, common_steps) in

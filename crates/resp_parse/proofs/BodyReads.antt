@@ -4,8 +4,8 @@ use Rattle.std.proofs.lemmas.Bool.Decides.{Decides-eqb}
 use Rattle.resp_errors.specs.declared.kinds.FrameFault.{FrameFault}
 use Rattle.resp_errors.specs.declared.kinds.FrameFault.TheVariants.{BodyEnd}
 use Rattle.resp_parse.specs.Lines.{crlf}
-use Rattle.resp_parse.specs.Grammar.{EndIsFaulty, no_cr, no_lf}
-use Rattle.resp_parse.specs.PlainReading.{ReadOutcome, got, fault, unfinished, end_of_body, read_body}
+use Rattle.resp_parse.specs.Grammar.{EndIsMalformed, no_cr, no_lf}
+use Rattle.resp_parse.specs.PlainReading.{ReadOutcome, got, fault, incomplete, end_of_body, read_body}
 use Rattle.resp_parse.proofs.ByteTests.{eq_true, eq_false}
 use Rattle.resp_parse.proofs.ReadingsInSequence.{then-got, then-fault, at_first, at_next}
 
@@ -30,7 +30,7 @@ body-no_lf : (x rest : List ℕ) (c : ℕ) → c ≢ 10 → read_body (length x)
 body-no_lf [] rest c n = rw (eq_false c 10 n) refl
 body-no_lf (b ∷ x) rest c n = rw (body-no_lf x rest c n) refl
 
-pub body-fails : (n : ℕ) (b rest : List ℕ) → EndIsFaulty n b → read_body n (b ++ rest) ≡ fault BodyEnd rest
+pub body-fails : (n : ℕ) (b rest : List ℕ) → EndIsMalformed n b → read_body n (b ++ rest) ≡ fault BodyEnd rest
 body-fails n b rest (no_cr x c l d e) =
     ap (λ k. read_body k (b ++ rest)) (sym l) ∙ ap (λ s. read_body (length x) (s ++ rest)) e
     ∙ ap (read_body (length x)) (append_assoc x (c ∷ []) rest) ∙ body-no_cr x rest c d
@@ -42,7 +42,7 @@ end-got : (bs x rest : List ℕ) → end_of_body bs ≡ got x rest → (x ≡ []
 end-got [] x rest e = absurd (cc)
 end-got (b ∷ []) x rest e = absurd (by_test (b == 13) e)
   where
-    by_test : (m : Bool) → cond m unfinished (fault BodyEnd []) ≡ got x rest → ⊥
+    by_test : (m : Bool) → cond m incomplete (fault BodyEnd []) ≡ got x rest → ⊥
     by_test true k = cc
     by_test false k = cc
 end-got (b ∷ c ∷ bs) x rest e = by_tests (b == 13) refl (c == 10) refl e
@@ -65,21 +65,21 @@ body-got (suc n) (b ∷ bs) x rest e =
     let er : p.mid ≡ rest = (let k = p.next in cc) in
     (ap length (sym ex) ∙ ap suc q.0, ap (λ s. b ∷ s) q.1 ∙ ap (λ s. s ++ (crlf ++ p.mid)) ex ∙ ap (λ s. x ++ (crlf ++ s)) er)
 
--- a prefix of the bytes is a body that has a faulty end, and the rest follows
-pub record FaultyBodyPrefix (n : ℕ) (bs : List ℕ) (f : FrameFault) (rest : List ℕ) : Type 0 where
+-- a prefix of the bytes is a body that has a malformed end, and the rest follows
+pub record MalformedBodyPrefix (n : ℕ) (bs : List ℕ) (f : FrameFault) (rest : List ℕ) : Type 0 where
   pub prefix : List ℕ
   pub whole : bs ≡ prefix ++ rest
   pub fault_is : f ≡ BodyEnd
-  pub bad_end : EndIsFaulty n prefix
+  pub bad_end : EndIsMalformed n prefix
 
-abbrev faulty_end : List ℕ → ReadOutcome (List ℕ)
-faulty_end rest = fault BodyEnd rest
+abbrev malformed_end : List ℕ → ReadOutcome (List ℕ)
+malformed_end rest = fault BodyEnd rest
 
-end-fault : (bs : List ℕ) (f : FrameFault) (rest : List ℕ) → end_of_body bs ≡ fault f rest → FaultyBodyPrefix 0 bs f rest
+end-fault : (bs : List ℕ) (f : FrameFault) (rest : List ℕ) → end_of_body bs ≡ fault f rest → MalformedBodyPrefix 0 bs f rest
 end-fault [] f rest e = absurd (cc)
 end-fault (b ∷ []) f rest e = by_test (b == 13) refl e
   where
-    by_test : (m : Bool) → (b == 13) ≡ m → cond m unfinished (faulty_end []) ≡ fault f rest → FaultyBodyPrefix 0 (b ∷ []) f rest
+    by_test : (m : Bool) → (b == 13) ≡ m → cond m incomplete (malformed_end []) ≡ fault f rest → MalformedBodyPrefix 0 (b ∷ []) f rest
     by_test true p k = absurd (cc)
     by_test false p k = record {
       prefix = b ∷ [];
@@ -89,7 +89,7 @@ end-fault (b ∷ []) f rest e = by_test (b == 13) refl e
     }
 end-fault (b ∷ c ∷ bs) f rest e = by_tests (b == 13) refl (c == 10) refl e
   where
-    by_tests : (m : Bool) → (b == 13) ≡ m → (n : Bool) → (c == 10) ≡ n → cond m (cond n (got [] bs) (faulty_end bs)) (faulty_end (c ∷ bs)) ≡ fault f rest → FaultyBodyPrefix 0 (b ∷ c ∷ bs) f rest
+    by_tests : (m : Bool) → (b == 13) ≡ m → (n : Bool) → (c == 10) ≡ n → cond m (cond n (got [] bs) (malformed_end bs)) (malformed_end (c ∷ bs)) ≡ fault f rest → MalformedBodyPrefix 0 (b ∷ c ∷ bs) f rest
     by_tests true p true q k = absurd (cc)
     by_tests true p false q k = record {
       prefix = 13 ∷ c ∷ [];
@@ -104,11 +104,11 @@ end-fault (b ∷ c ∷ bs) f rest e = by_tests (b == 13) refl (c == 10) refl e
       bad_end = no_cr [] b refl (λ e. absurd (let t = eq_true b 13 e in cc)) refl;
     }
 
-EndIsFaulty-cons : (n b : ℕ) (x : List ℕ) → EndIsFaulty n x → EndIsFaulty (suc n) (b ∷ x)
-EndIsFaulty-cons n b x (no_cr y c l d e) = no_cr (b ∷ y) c (ap suc l) d (ap (λ s. b ∷ s) e)
-EndIsFaulty-cons n b x (no_lf y c l d e) = no_lf (b ∷ y) c (ap suc l) d (ap (λ s. b ∷ s) e)
+EndIsMalformed-cons : (n b : ℕ) (x : List ℕ) → EndIsMalformed n x → EndIsMalformed (suc n) (b ∷ x)
+EndIsMalformed-cons n b x (no_cr y c l d e) = no_cr (b ∷ y) c (ap suc l) d (ap (λ s. b ∷ s) e)
+EndIsMalformed-cons n b x (no_lf y c l d e) = no_lf (b ∷ y) c (ap suc l) d (ap (λ s. b ∷ s) e)
 
-pub body-fault : (n : ℕ) (bs : List ℕ) (f : FrameFault) (rest : List ℕ) → read_body n bs ≡ fault f rest → FaultyBodyPrefix n bs f rest
+pub body-fault : (n : ℕ) (bs : List ℕ) (f : FrameFault) (rest : List ℕ) → read_body n bs ≡ fault f rest → MalformedBodyPrefix n bs f rest
 body-fault zero bs f rest e = end-fault bs f rest e
 body-fault (suc n) [] f rest e = absurd (cc)
 body-fault (suc n) (b ∷ bs) f rest e = elim (then-fault (read_body n bs) (λ u r. got (b ∷ u) r) f rest e) [
@@ -116,5 +116,5 @@ body-fault (suc n) (b ∷ bs) f rest e = elim (then-fault (read_body n bs) (λ u
   | at_next p ↦ absurd (let z = p.next in cc)
 ]
   where
-    more : FaultyBodyPrefix n bs f rest → FaultyBodyPrefix (suc n) (b ∷ bs) f rest
-    more h = record { prefix = b ∷ h.prefix; whole = ap (λ s. b ∷ s) h.whole; fault_is = h.fault_is; bad_end = EndIsFaulty-cons n b h.prefix h.bad_end }
+    more : MalformedBodyPrefix n bs f rest → MalformedBodyPrefix (suc n) (b ∷ bs) f rest
+    more h = record { prefix = b ∷ h.prefix; whole = ap (λ s. b ∷ s) h.whole; fault_is = h.fault_is; bad_end = EndIsMalformed-cons n b h.prefix h.bad_end }

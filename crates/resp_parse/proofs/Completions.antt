@@ -1,4 +1,4 @@
--- Unfinished bytes go on to where a fault shows.
+-- Incomplete bytes go on to where a fault shows.
 use Rattle.std.proofs.Common.{◌≡◌, ℕ, zero, suc, ◌+◌, Bool, true, false, cond, ◌&&◌, ◌==◌, List, [], ◌∷◌, ◌++◌, length, length-append, drop, Option, None, Some, Result, Ok, Err, refl, ap, sym, ◌∙◌, subst, append_assoc, arith}
 use Rattle.std.specs.Prelude.{get_or}
 use Rattle.std.specs.Str.{IsUtf8, chars, is_utf8}
@@ -11,14 +11,14 @@ use Rattle.resp_errors.specs.declared.kinds.FrameFault.TheVariants.{TooDeep, Unk
 use Rattle.resp_parse.specs.declared.type_byte.TypeByte.{TypeByte}
 use Rattle.resp_parse.specs.TypeBytes.{type_of}
 use Rattle.resp_parse.specs.Lines.{crlf}
-use Rattle.resp_parse.specs.Grammar.{Announcement, complete, body, elements, invalid, announced, Faulty}
-use Rattle.resp_parse.specs.PlainReading.{ReadOutcome, got, fault, unfinished, then, line, end_of_body, read_body, read_elements, made, read_announced, read_line, read_typed, read}
-use Rattle.resp_parse.specs.Prefixes.{IsUnfinished}
+use Rattle.resp_parse.specs.Grammar.{Announcement, complete, body, elements, invalid, announced, Malformed}
+use Rattle.resp_parse.specs.PlainReading.{ReadOutcome, got, fault, incomplete, then, line, end_of_body, read_body, read_elements, made, read_announced, read_line, read_typed, read}
+use Rattle.resp_parse.specs.Prefixes.{IsIncomplete}
 use Rattle.resp_parse.specs.Laws.{Completion}
 use Rattle.resp_parse.proofs.ByteTests.{not_true}
 use Rattle.resp_parse.proofs.LineReads.{line-got, line-later, line-reads}
-use Rattle.resp_parse.proofs.PrefixReads.{HasFaultyPrefix-from_read, HasGoodPrefix-from_read}
-use Rattle.resp_parse.proofs.ReadingMeetsGrammar.{good-reads, read-faulty, read-good}
+use Rattle.resp_parse.proofs.PrefixReads.{HasMalformedPrefix-from_read, HasWellFormedPrefix-from_read}
+use Rattle.resp_parse.proofs.ReadingMeetsGrammar.{well_formed-reads, read-malformed, read-well_formed}
 
 -- some bytes after these make a fault show, and are read to their end
 pub record Ends {A : Type 0} (R : List ℕ → ReadOutcome A) (bs : List ℕ) : Type 0 where
@@ -26,31 +26,31 @@ pub record Ends {A : Type 0} (R : List ℕ → ReadOutcome A) (bs : List ℕ) : 
   pub why : FrameFault
   pub shows : R (bs ++ more) ≡ fault why []
 
--- of two readings that are unfinished as a whole: the first, or the second where the first gave something
-data Unfinished {A B : Type 0} (o : ReadOutcome A) (next : A → List ℕ → ReadOutcome B) : Type 0 where
-  at_once : o ≡ unfinished → Unfinished o next
-  later : (x : A) (rest : List ℕ) → o ≡ got x rest → next x rest ≡ unfinished → Unfinished o next
+-- of two readings that are incomplete as a whole: the first, or the second where the first gave something
+data Incomplete {A B : Type 0} (o : ReadOutcome A) (next : A → List ℕ → ReadOutcome B) : Type 0 where
+  at_once : o ≡ incomplete → Incomplete o next
+  later : (x : A) (rest : List ℕ) → o ≡ got x rest → next x rest ≡ incomplete → Incomplete o next
 
-then-unfinished : {A B : Type 0} (o : ReadOutcome A) (next : A → List ℕ → ReadOutcome B) → then o next ≡ unfinished → Unfinished o next
-then-unfinished (got x rest) next e = later x rest refl e
-then-unfinished (fault f rest) next e = absurd (cc)
-then-unfinished unfinished next e = at_once refl
+then-incomplete : {A B : Type 0} (o : ReadOutcome A) (next : A → List ℕ → ReadOutcome B) → then o next ≡ incomplete → Incomplete o next
+then-incomplete (got x rest) next e = later x rest refl e
+then-incomplete (fault f rest) next e = absurd (cc)
+then-incomplete incomplete next e = at_once refl
 
-made-finished : (r : Result Value FrameFault) (rest : List ℕ) → made r rest ≡ unfinished → ⊥
+made-finished : (r : Result Value FrameFault) (rest : List ℕ) → made r rest ≡ incomplete → ⊥
 made-finished (Ok v) rest e = cc
 made-finished (Err f) rest e = cc
 
 -- ---- lines: a byte that isn't UTF-8 after one that ends whatever came before
 
-line-ends : (bs : List ℕ) → line bs ≡ unfinished → line (bs ++ 65 ∷ 255 ∷ 13 ∷ 10 ∷ []) ≡ got (bs ++ 65 ∷ 255 ∷ []) []
+line-ends : (bs : List ℕ) → line bs ≡ incomplete → line (bs ++ 65 ∷ 255 ∷ 13 ∷ 10 ∷ []) ≡ got (bs ++ 65 ∷ 255 ∷ []) []
 line-ends [] e = refl
 line-ends (b ∷ []) e = line-later b 65 (255 ∷ 13 ∷ 10 ∷ []) (65 ∷ 255 ∷ []) [] (λ _ q. absurd (let k : 65 ≡ 10 = q in omega arith)) refl
 line-ends (b ∷ c ∷ bs) e = by_test (line-ends (c ∷ bs)) ((b == 13) && (c == 10)) refl e
   where
-    by_test : (line (c ∷ bs) ≡ unfinished → line (c ∷ (bs ++ 65 ∷ 255 ∷ 13 ∷ 10 ∷ [])) ≡ got (c ∷ (bs ++ 65 ∷ 255 ∷ [])) []) → (m : Bool) → ((b == 13) && (c == 10)) ≡ m
-        → cond m (got [] bs) (then (line (c ∷ bs)) (λ text rest. got (b ∷ text) rest)) ≡ unfinished → line (b ∷ c ∷ (bs ++ 65 ∷ 255 ∷ 13 ∷ 10 ∷ [])) ≡ got (b ∷ c ∷ (bs ++ 65 ∷ 255 ∷ [])) []
+    by_test : (line (c ∷ bs) ≡ incomplete → line (c ∷ (bs ++ 65 ∷ 255 ∷ 13 ∷ 10 ∷ [])) ≡ got (c ∷ (bs ++ 65 ∷ 255 ∷ [])) []) → (m : Bool) → ((b == 13) && (c == 10)) ≡ m
+        → cond m (got [] bs) (then (line (c ∷ bs)) (λ text rest. got (b ∷ text) rest)) ≡ incomplete → line (b ∷ c ∷ (bs ++ 65 ∷ 255 ∷ 13 ∷ 10 ∷ [])) ≡ got (b ∷ c ∷ (bs ++ 65 ∷ 255 ∷ [])) []
     by_test later_ends true p k = absurd (cc)
-    by_test later_ends false p k = elim (then-unfinished (line (c ∷ bs)) (λ text rest. got (b ∷ text) rest) k) [
+    by_test later_ends false p k = elim (then-incomplete (line (c ∷ bs)) (λ text rest. got (b ∷ text) rest) k) [
       | at_once u ↦ let r = later_ends u in rw (p, r) refl
       | later x rest g u ↦ absurd (cc)
     ]
@@ -78,18 +78,18 @@ line-grows bs text rest more e =
 
 -- ---- bodies
 
-body-waits : (n : ℕ) → read_body n [] ≡ unfinished
+body-waits : (n : ℕ) → read_body n [] ≡ incomplete
 body-waits zero = refl
 body-waits (suc n) = refl
 
 abbrev after_x : ReadOutcome (List ℕ)
 after_x = fault BodyEnd []
 
-body-ends : (n : ℕ) (bs : List ℕ) → read_body n bs ≡ unfinished → Ends (read_body n) bs
+body-ends : (n : ℕ) (bs : List ℕ) → read_body n bs ≡ incomplete → Ends (read_body n) bs
 body-ends zero [] e = record { more = 120 ∷ []; why = BodyEnd; shows = refl }
 body-ends zero (b ∷ []) e = record { more = 120 ∷ []; why = BodyEnd; shows = by_test (b == 13) e }
   where
-    by_test : (m : Bool) → cond m (end_of_body []) (fault BodyEnd []) ≡ unfinished → cond m (fault BodyEnd []) (fault BodyEnd (120 ∷ [])) ≡ after_x
+    by_test : (m : Bool) → cond m (end_of_body []) (fault BodyEnd []) ≡ incomplete → cond m (fault BodyEnd []) (fault BodyEnd (120 ∷ [])) ≡ after_x
     by_test true k = refl
     by_test false k = absurd (cc)
 body-ends zero (b ∷ c ∷ bs) e = absurd (by_tests (b == 13) (c == 10) e)
@@ -99,31 +99,31 @@ body-ends zero (b ∷ c ∷ bs) e = absurd (by_tests (b == 13) (c == 10) e)
     by_tests true false k = cc
     by_tests false n k = cc
 body-ends (suc n) [] e = let r = body-ends n [] (body-waits n) in record { more = 120 ∷ r.more; why = r.why; shows = rw r.shows refl }
-body-ends (suc n) (b ∷ bs) e = elim (then-unfinished (read_body n bs) (λ x rest. got (b ∷ x) rest) e) [
+body-ends (suc n) (b ∷ bs) e = elim (then-incomplete (read_body n bs) (λ x rest. got (b ∷ x) rest) e) [
   | at_once u ↦ let r = body-ends n bs u in record { more = r.more; why = r.why; shows = rw r.shows refl }
   | later x rest g u ↦ absurd (cc)
 ]
 
 -- ---- elements, and what a header announces
 
-module _ (R : List ℕ → ReadOutcome Value) (grows : (bs rest more : List ℕ) (v : Value) → R bs ≡ got v rest → R (bs ++ more) ≡ got v (rest ++ more)) (ends : (bs : List ℕ) → R bs ≡ unfinished → Ends R bs) where
-  elements-end : (n : ℕ) (bs : List ℕ) → read_elements R n bs ≡ unfinished → Ends (read_elements R n) bs
+module _ (R : List ℕ → ReadOutcome Value) (grows : (bs rest more : List ℕ) (v : Value) → R bs ≡ got v rest → R (bs ++ more) ≡ got v (rest ++ more)) (ends : (bs : List ℕ) → R bs ≡ incomplete → Ends R bs) where
+  elements-end : (n : ℕ) (bs : List ℕ) → read_elements R n bs ≡ incomplete → Ends (read_elements R n) bs
   elements-end zero bs e = absurd (cc)
-  elements-end (suc n) bs e = elim (then-unfinished (R bs) (λ v rest. then (read_elements R n rest) (λ vs after. got (v ∷ vs) after)) e) [
+  elements-end (suc n) bs e = elim (then-incomplete (R bs) (λ v rest. then (read_elements R n rest) (λ vs after. got (v ∷ vs) after)) e) [
     | at_once u ↦ let r = ends bs u in record { more = r.more; why = r.why; shows = rw r.shows refl }
-    | later v rest g u ↦ elim (then-unfinished (read_elements R n rest) (λ vs after. got (v ∷ vs) after) u) [
+    | later v rest g u ↦ elim (then-incomplete (read_elements R n rest) (λ vs after. got (v ∷ vs) after) u) [
       | at_once w ↦ let r = elements-end n rest w in let k = grows bs rest r.more v g in record { more = r.more; why = r.why; shows = rw (k, r.shows) refl }
       | later vs after h w ↦ absurd (cc)
     ]
   ]
 
-  announced-ends : (a : Announcement) (bs : List ℕ) → read_announced R a bs ≡ unfinished → Ends (read_announced R a) bs
+  announced-ends : (a : Announcement) (bs : List ℕ) → read_announced R a bs ≡ incomplete → Ends (read_announced R a) bs
   announced-ends (complete v) bs e = absurd (cc)
-  announced-ends (body n make) bs e = elim (then-unfinished (read_body n bs) (λ x rest. made (make x) rest) e) [
+  announced-ends (body n make) bs e = elim (then-incomplete (read_body n bs) (λ x rest. made (make x) rest) e) [
     | at_once u ↦ let r = body-ends n bs u in record { more = r.more; why = r.why; shows = rw r.shows refl }
     | later x rest g u ↦ absurd (made-finished (make x) rest u)
   ]
-  announced-ends (elements n make) bs e = elim (then-unfinished (read_elements R n bs) (λ vs rest. made (make vs) rest) e) [
+  announced-ends (elements n make) bs e = elim (then-incomplete (read_elements R n bs) (λ vs rest. made (make vs) rest) e) [
     | at_once u ↦ let r = elements-end n bs u in record { more = r.more; why = r.why; shows = rw r.shows refl }
     | later vs rest g u ↦ absurd (made-finished (make vs) rest u)
   ]
@@ -133,41 +133,41 @@ module _ (R : List ℕ → ReadOutcome Value) (grows : (bs rest more : List ℕ)
 
 read-grows : (d : ℕ) (bs rest more : List ℕ) (v : Value) → read d bs ≡ got v rest → read d (bs ++ more) ≡ got v (rest ++ more)
 read-grows d bs rest more v e =
-    let h = read-good d bs rest v e in
-    ap (λ s. read d (s ++ more)) h.whole ∙ ap (read d) (append_assoc h.prefix rest more) ∙ good-reads d h.prefix (rest ++ more) v h.is
+    let h = read-well_formed d bs rest v e in
+    ap (λ s. read d (s ++ more)) h.whole ∙ ap (read d) (append_assoc h.prefix rest more) ∙ well_formed-reads d h.prefix (rest ++ more) v h.is
 
 no_type : type_of 120 ≡ None
 unfolding type_of
 no_type = refl
 
-read-ends : (d : ℕ) (bs : List ℕ) → read d bs ≡ unfinished → Ends (read d) bs
+read-ends : (d : ℕ) (bs : List ℕ) → read d bs ≡ incomplete → Ends (read d) bs
 read-ends zero [] e = record { more = 120 ∷ []; why = TooDeep; shows = refl }
 read-ends zero (c ∷ bs) e = absurd (cc)
 read-ends (suc d) [] e = record { more = 120 ∷ []; why = UnknownType; shows = rw no_type refl }
 read-ends (suc d) (c ∷ bs) e = by_type (read-ends d) (type_of c) refl e
   where
-    after_line : ((xs : List ℕ) → read d xs ≡ unfinished → Ends (read d) xs) → (kind : TypeByte) → type_of c ≡ Some kind → (text rest : List ℕ) → line bs ≡ got text rest → (u : Bool) → is_utf8 text ≡ u
-        → cond u (read_announced (read d) (announced kind text) rest) (fault LineNotUtf8 rest) ≡ unfinished → Ends (read (suc d)) (c ∷ bs)
+    after_line : ((xs : List ℕ) → read d xs ≡ incomplete → Ends (read d) xs) → (kind : TypeByte) → type_of c ≡ Some kind → (text rest : List ℕ) → line bs ≡ got text rest → (u : Bool) → is_utf8 text ≡ u
+        → cond u (read_announced (read d) (announced kind text) rest) (fault LineNotUtf8 rest) ≡ incomplete → Ends (read (suc d)) (c ∷ bs)
     after_line deeper kind t text rest l true u k =
         let r = announced-ends (read d) (read-grows d) deeper (announced kind text) rest k in
         let l' = line-grows bs text rest r.more l in
         record { more = r.more; why = r.why; shows = rw (t, l', u, r.shows) refl }
     after_line deeper kind t text rest l false u k = absurd (cc)
 
-    by_type : ((xs : List ℕ) → read d xs ≡ unfinished → Ends (read d) xs) → (t : Option TypeByte) → type_of c ≡ t → read_typed (read d) t bs ≡ unfinished → Ends (read (suc d)) (c ∷ bs)
-    by_type deeper (Some kind) t k = elim (then-unfinished (line bs) (read_line (read d) kind) k) [
+    by_type : ((xs : List ℕ) → read d xs ≡ incomplete → Ends (read d) xs) → (t : Option TypeByte) → type_of c ≡ t → read_typed (read d) t bs ≡ incomplete → Ends (read (suc d)) (c ∷ bs)
+    by_type deeper (Some kind) t k = elim (then-incomplete (line bs) (read_line (read d) kind) k) [
       | at_once w ↦ let l = line-ends bs w in let u = not_utf8 bs in record { more = 65 ∷ 255 ∷ 13 ∷ 10 ∷ []; why = LineNotUtf8; shows = rw (t, l, u) refl }
       | later text rest l w ↦ after_line deeper kind t text rest l (is_utf8 text) refl w
     ]
     by_type deeper None t k = absurd (cc)
 
-unfinished-read : (d : ℕ) (b : List ℕ) → IsUnfinished d b → (o : ReadOutcome Value) → read d b ≡ o → o ≡ unfinished
-unfinished-read d b h (got v rest) e = absurd (h.no_value v rest (HasGoodPrefix-from_read d b rest v e))
-unfinished-read d b h (fault f rest) e = absurd (h.no_fault f (HasFaultyPrefix-from_read d b rest f e))
-unfinished-read d b h unfinished e = refl
+incomplete-read : (d : ℕ) (b : List ℕ) → IsIncomplete d b → (o : ReadOutcome Value) → read d b ≡ o → o ≡ incomplete
+incomplete-read d b h (got v rest) e = absurd (h.no_value v rest (HasWellFormedPrefix-from_read d b rest v e))
+incomplete-read d b h (fault f rest) e = absurd (h.no_fault f (HasMalformedPrefix-from_read d b rest f e))
+incomplete-read d b h incomplete e = refl
 
-pub law_of_completion : (d : ℕ) (b : List ℕ) → IsUnfinished d b → Completion d b
+pub law_of_completion : (d : ℕ) (b : List ℕ) → IsIncomplete d b → Completion d b
 law_of_completion d b h =
-    let r = read-ends d b (unfinished-read d b h (read d b) refl) in
-    let p = read-faulty d (b ++ r.more) [] r.why r.shows in
-    record { more = r.more; fault = r.why; faulty = subst (λ s. Faulty d s r.why) (sym (p.whole ∙ append-nil p.prefix)) p.is }
+    let r = read-ends d b (incomplete-read d b h (read d b) refl) in
+    let p = read-malformed d (b ++ r.more) [] r.why r.shows in
+    record { more = r.more; fault = r.why; malformed = subst (λ s. Malformed d s r.why) (sym (p.whole ∙ append-nil p.prefix)) p.is }

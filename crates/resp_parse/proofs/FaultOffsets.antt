@@ -6,7 +6,7 @@ use Rattle.resp_parse.specs.Limited.{FaultShownAt, PassesSize, too_long}
 use Rattle.resp_parse.specs.State.{State, HasOffset}
 use Rattle.resp_parse.specs.Source.{Source}
 use Rattle.resp_parse.specs.Calls.{CannotFill, early_end, source_failed, out_of_memory}
-use Rattle.resp_parse.specs.Kept.{Placed, PassesLimit}
+use Rattle.resp_parse.specs.Invariant.{Placed, PassesLimit}
 use Rattle.resp_parse.proofs.LimitedReadings.{FaultShownAt-longer}
 
 -- no fault was met
@@ -36,6 +36,6 @@ Placed-passes l offset since e h (PassesLimit.out_of_memory i j) = Placed-none l
 
 -- a source that gave nothing makes no fault
 pub HasOffset-unfilled : (b : List ℕ) (e : RedisError) (new : State) (s t : Source) (offset : Option ℕ) → CannotFill b e new s t → offset ≡ None → HasOffset e offset
-HasOffset-unfilled b e new s t offset (early_end i came none failures failed) z = rw i z
-HasOffset-unfilled b e new s t offset (source_failed kind i came failures stands) z = rw i z
-HasOffset-unfilled b e new s t offset (out_of_memory i came failures failed) z = rw i z
+HasOffset-unfilled b e new s t offset (early_end i source_gave none failures failed) z = rw i z
+HasOffset-unfilled b e new s t offset (source_failed kind i source_gave failures stands) z = rw i z
+HasOffset-unfilled b e new s t offset (out_of_memory i source_gave failures failed) z = rw i z

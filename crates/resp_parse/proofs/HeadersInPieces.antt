@@ -3,8 +3,8 @@ use Rattle.std.proofs.Common.{◌≡◌, ℕ, zero, suc, ◌+◌, ◌-◌, ◌<�
 use Rattle.std.specs.Str.{is_utf8}
 use Rattle.resp_value.specs.declared.value.Value.{Value}
 use Rattle.resp_errors.specs.declared.kinds.FrameFault.TheVariants.{TooDeep, UnknownType, LineNotUtf8}
-use Rattle.resp_parse.specs.declared.stop.Stop.{Stop}
-use Rattle.resp_parse.specs.declared.stop.Stop.TheVariants.{Memory, Fault}
+use Rattle.resp_parse.specs.declared.read_error.ReadError.{ReadError}
+use Rattle.resp_parse.specs.declared.read_error.ReadError.TheVariants.{Memory, Fault}
 use Rattle.resp_parse.specs.declared.type_byte.TypeByte.{TypeByte}
 use Rattle.resp_parse.specs.declared.machine.Body.{Body}
 use Rattle.resp_parse.specs.declared.machine.Machine.{Machine}
@@ -13,22 +13,22 @@ use Rattle.resp_parse.specs.TypeBytes.{type_of}
 use Rattle.resp_parse.specs.Lines.{NoneBefore, Scanned}
 use Rattle.resp_parse.specs.Grammar.{announced, invalid}
 use Rattle.resp_parse.specs.Shapes.{announced_in_line}
-use Rattle.resp_parse.specs.PlainReading.{ReadOutcome, fault, unfinished, then, read_body, read_announced, read_line, read}
-use Rattle.resp_parse.specs.Resume.{value_of, place, resume, levels_left, levels_below, IsLooked, IsScanned, FindsLine, Goes, Steps}
+use Rattle.resp_parse.specs.PlainReading.{ReadOutcome, fault, incomplete, then, read_body, read_announced, read_line, read}
+use Rattle.resp_parse.specs.Resume.{value_of, place, resume, depth_left, depth_below, IsLooked, IsScanned, FindsLine, Goes, Steps}
 use Rattle.resp_parse.proofs.LineAt.{line-none}
 use Rattle.resp_parse.proofs.LineReads.{line-longer}
 
 -- nothing is read of no bytes
-body-nothing : (n : ℕ) → read_body n [] ≡ unfinished
+body-nothing : (n : ℕ) → read_body n [] ≡ incomplete
 body-nothing zero = refl
 body-nothing (suc n) = refl
 
-value-nothing : (d : ℕ) (b : Option Body) → value_of d b [] ≡ unfinished
+value-nothing : (d : ℕ) (b : Option Body) → value_of d b [] ≡ incomplete
 value-nothing d None = refl
 value-nothing d (Some b) = rw (body-nothing b.missing) refl
 
-pub resume-nothing : (m : Machine) → resume m [] ≡ unfinished
-resume-nothing m = rw (value-nothing (levels_left m.levels m.frames) m.body) refl
+pub resume-nothing : (m : Machine) → resume m [] ≡ incomplete
+resume-nothing m = rw (value-nothing (depth_left m.depth m.open_aggregates) m.body) refl
 
 pub Scanned-none : (bs : List ℕ) → Scanned bs 0
 Scanned-none bs = record { within = omega arith; none = λ k l. absurd (omega arith) }
@@ -64,20 +64,20 @@ line-announces P kind text bs = by_test (is_utf8 text)
 
 -- a machine before a value, whose type byte is c
 module _ (m : Machine) (c : ℕ) (after : List ℕ) (body_is : m.body ≡ None) where
-  before : (bs : List ℕ) → resume m bs ≡ then (read (levels_left m.levels m.frames) bs) (place m.levels m.frames)
-  before bs = ap (λ o. then (value_of (levels_left m.levels m.frames) o bs) (place m.levels m.frames)) body_is
+  before : (bs : List ℕ) → resume m bs ≡ then (read (depth_left m.depth m.open_aggregates) bs) (place m.depth m.open_aggregates)
+  before bs = ap (λ o. then (value_of (depth_left m.depth m.open_aggregates) o bs) (place m.depth m.open_aggregates)) body_is
 
-  pub too_deep : (m' : Machine) → m'.shown ≡ 1 → length m.frames ≡ m.levels → Steps m (c ∷ after) m' (Err (Fault TooDeep))
+  pub too_deep : (m' : Machine) → m'.shown ≡ 1 → length m.open_aggregates ≡ m.depth → Steps m (c ∷ after) m' (Err (Fault TooDeep))
   too_deep m' i l =
-      let z : levels_left m.levels m.frames ≡ 0 = omega arith in
-      rw i (omega arith, λ more. before (c ∷ (after ++ more)) ∙ ap (λ d. then (read d (c ∷ (after ++ more))) (place m.levels m.frames)) z)
+      let z : depth_left m.depth m.open_aggregates ≡ 0 = omega arith in
+      rw i (omega arith, λ more. before (c ∷ (after ++ more)) ∙ ap (λ d. then (read d (c ∷ (after ++ more))) (place m.depth m.open_aggregates)) z)
 
-  module _ (l : length m.frames < m.levels) where
-    level : levels_left m.levels m.frames ≡ suc (levels_below m.levels m.frames)
+  module _ (l : length m.open_aggregates < m.depth) where
+    level : depth_left m.depth m.open_aggregates ≡ suc (depth_below m.depth m.open_aggregates)
     level = omega arith
 
-    leveled : (bs : List ℕ) → resume m bs ≡ then (read (suc (levels_below m.levels m.frames)) bs) (place m.levels m.frames)
-    leveled bs = before bs ∙ ap (λ d. then (read d bs) (place m.levels m.frames)) level
+    leveled : (bs : List ℕ) → resume m bs ≡ then (read (suc (depth_below m.depth m.open_aggregates)) bs) (place m.depth m.open_aggregates)
+    leveled bs = before bs ∙ ap (λ d. then (read d bs) (place m.depth m.open_aggregates)) level
 
     pub unknown_type : (m' : Machine) → m'.shown ≡ 1 → type_of c ≡ None → Steps m (c ∷ after) m' (Err (Fault UnknownType))
     unknown_type m' i k = rw i (omega arith, λ more. leveled (c ∷ (after ++ more)) ∙ rw k refl)
@@ -100,7 +100,7 @@ module _ (m : Machine) (c : ℕ) (after : List ℕ) (body_is : m.body ≡ None) 
         rest : List ℕ
         rest = drop (len + 2) after
 
-        header-reads : (more : List ℕ) → resume m (c ∷ (after ++ more)) ≡ then (read_line (read (levels_below m.levels m.frames)) kind (take len after) (drop (len + 2) after ++ more)) (place m.levels m.frames)
+        header-reads : (more : List ℕ) → resume m (c ∷ (after ++ more)) ≡ then (read_line (read (depth_below m.depth m.open_aggregates)) kind (take len after) (drop (len + 2) after ++ more)) (place m.depth m.open_aggregates)
         header-reads more = leveled (c ∷ (after ++ more)) ∙ rw (kind_is, line-longer after more (take len after) (drop (len + 2) after) found.1) refl
 
         dropped : drop (len + 3) (c ∷ after) ≡ drop (len + 2) after
@@ -109,13 +109,13 @@ module _ (m : Machine) (c : ℕ) (after : List ℕ) (body_is : m.body ≡ None) 
         within : len + 3 ≤ length (c ∷ after)
         within = let l : len + 2 ≤ length after = found.0 in omega arith
 
-        announced-reads : (more : List ℕ) → resume m (c ∷ (after ++ more)) ≡ then (read_announced (read (levels_below m.levels m.frames)) (announced_in_line kind (take len after)) (drop (len + 2) after ++ more)) (place m.levels m.frames)
-        announced-reads more = header-reads more ∙ ap (λ o. then o (place m.levels m.frames)) (line-announces (read (levels_below m.levels m.frames)) kind (take len after) (drop (len + 2) after ++ more))
+        announced-reads : (more : List ℕ) → resume m (c ∷ (after ++ more)) ≡ then (read_announced (read (depth_below m.depth m.open_aggregates)) (announced_in_line kind (take len after)) (drop (len + 2) after ++ more)) (place m.depth m.open_aggregates)
+        announced-reads more = header-reads more ∙ ap (λ o. then o (place m.depth m.open_aggregates)) (line-announces (read (depth_below m.depth m.open_aggregates)) kind (take len after) (drop (len + 2) after ++ more))
 
         abbrev begins : List ℕ → ReadOutcome Value
-        begins more = then (read_announced (read (levels_below m.levels m.frames)) (announced_in_line kind (take len after)) more) (place m.levels m.frames)
+        begins more = then (read_announced (read (depth_below m.depth m.open_aggregates)) (announced_in_line kind (take len after)) more) (place m.depth m.open_aggregates)
 
-        pub header-stops : (m' end : Machine) (e : Stop) → end.shown ≡ len + 3 → Goes begins m' (Err e) → Steps m (c ∷ after) end (Err e)
+        pub header-stops : (m' end : Machine) (e : ReadError) → end.shown ≡ len + 3 → Goes begins m' (Err e) → Steps m (c ∷ after) end (Err e)
         header-stops m' end Memory i g = tt
         header-stops m' end (Fault f) i g = rw i (within, λ more. announced-reads more ∙ g (drop (len + 2) after ++ more) ∙ ap (λ x. fault f (x ++ more)) (sym dropped))
 
@@ -135,7 +135,7 @@ module _ (m : Machine) (c : ℕ) (after : List ℕ) (body_is : m.body ≡ None) 
           record {
             some = omega arith;
             within = within;
-            same = λ more. announced-reads more ∙ g.0 (drop (len + 2) after ++ more) ∙ ap (λ x. place m'.levels m'.frames v (x ++ more)) (sym dropped);
+            same = λ more. announced-reads more ∙ g.0 (drop (len + 2) after ++ more) ∙ ap (λ x. place m'.depth m'.open_aggregates v (x ++ more)) (sym dropped);
             scanned = s;
           },
           g.1,

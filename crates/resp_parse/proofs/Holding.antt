@@ -4,49 +4,49 @@ use Rattle.std.proofs.lemmas.List.{append-nil}
 use Rattle.std.proofs.lemmas.Grind.{common_steps}
 use Rattle.resp_value.specs.declared.value.Value.{Value}
 use Rattle.resp_errors.specs.declared.kinds.FrameFault.{FrameFault}
-use Rattle.resp_parse.specs.declared.stop.Stop.TheVariants.{Fault}
-use Rattle.resp_parse.specs.declared.frames.Frame.{Frame}
+use Rattle.resp_parse.specs.declared.read_error.ReadError.TheVariants.{Fault}
+use Rattle.resp_parse.specs.declared.open_aggregates.OpenAggregate.{OpenAggregate}
 use Rattle.resp_parse.specs.declared.machine.Body.{Body}
 use Rattle.resp_parse.specs.declared.machine.Machine.{Machine}
-use Rattle.resp_parse.specs.PlainReading.{ReadOutcome, got, fault, unfinished, then, read}
-use Rattle.resp_parse.specs.Prefixes.{HasGoodPrefix, HasFaultyPrefix, FaultShownBy, IsUnfinished}
-use Rattle.resp_parse.specs.Resume.{place, resume, fresh_of, IsScanned, Waits, Reads, Drives}
-use Rattle.resp_parse.specs.Weights.{weight}
-use Rattle.resp_parse.specs.Kept.{Resumes, Rests, Holds}
+use Rattle.resp_parse.specs.PlainReading.{ReadOutcome, got, fault, incomplete, then, read}
+use Rattle.resp_parse.specs.Prefixes.{HasWellFormedPrefix, HasMalformedPrefix, FaultShownBy, IsIncomplete}
+use Rattle.resp_parse.specs.Resume.{place, resume, fresh_of, IsScanned, Waits, Completes, Runs}
+use Rattle.resp_parse.specs.Costs.{least_bytes}
+use Rattle.resp_parse.specs.Invariant.{Resumes, Rests, Holds}
 use Rattle.resp_parse.proofs.LineAt.{Scanned-longer}
 use Rattle.resp_parse.proofs.BodiesInPieces.{drop-all}
 use Rattle.resp_parse.proofs.HeadersInPieces.{IsScanned-zero}
-use Rattle.resp_parse.proofs.PrefixReads.{HasGoodPrefix-from_read, HasFaultyPrefix-from_read, FaultShownBy-from_read, IsUnfinished-from_read}
+use Rattle.resp_parse.proofs.PrefixReads.{HasWellFormedPrefix-from_read, HasMalformedPrefix-from_read, FaultShownBy-from_read, IsIncomplete-from_read}
 
 then-nothing : (d : ℕ) (o : ReadOutcome Value) → o ≡ then o (place d [])
 then-nothing d (got v rest) = refl
 then-nothing d (fault f rest) = refl
-then-nothing d unfinished = refl
+then-nothing d incomplete = refl
 
 -- nothing is open
-pub record NothingOpen (b : Option Body) (fs : List Frame) : Type 0 where
+pub record NothingOpen (b : Option Body) (fs : List OpenAggregate) : Type 0 where
   pub no_body : b ≡ None
   pub no_frame : fs ≡ []
 
-pub nothing_open : (b : Option Body) (fs : List Frame) → fresh_of b fs ≡ true → NothingOpen b fs
+pub nothing_open : (b : Option Body) (fs : List OpenAggregate) → fresh_of b fs ≡ true → NothingOpen b fs
 nothing_open None [] e = record { no_body = refl; no_frame = refl }
 nothing_open None (f ∷ fs) e = absurd (cc)
 nothing_open (Some b) fs e = absurd (cc)
 
-resume-fresh : (m : Machine) → fresh_of m.body m.frames ≡ true → (bs : List ℕ) → read m.levels bs ≡ resume m bs
+resume-fresh : (m : Machine) → fresh_of m.body m.open_aggregates ≡ true → (bs : List ℕ) → read m.depth bs ≡ resume m bs
 resume-fresh m e bs =
-    let n = nothing_open m.body m.frames e in
-    let z : m.levels - 0 ≡ m.levels = omega arith in
-    rw (n.no_body, n.no_frame, z) (then-nothing m.levels (read m.levels bs))
+    let n = nothing_open m.body m.open_aggregates e in
+    let z : m.depth - 0 ≡ m.depth = omega arith in
+    rw (n.no_body, n.no_frame, z) (then-nothing m.depth (read m.depth bs))
 
 -- a machine that has read nothing
-pub Resumes-fresh : (m : Machine) (u : List ℕ) → fresh_of m.body m.frames ≡ true → m.scanned ≡ 0 → Resumes m u u
+pub Resumes-fresh : (m : Machine) (u : List ℕ) → fresh_of m.body m.open_aggregates ≡ true → m.scanned ≡ 0 → Resumes m u u
 Resumes-fresh m u e s = record {
   scanned = IsScanned-zero m.body m.scanned u s;
   reads = λ more. resume-fresh m e (u ++ more);
   fresh = λ _. refl;
   begun = λ k. absurd (let z : true ≡ false = sym e ∙ k in cc);
-  weighs = (let n = nothing_open m.body m.frames e in rw (n.no_body, n.no_frame) (omega arith));
+  built_within = (let n = nothing_open m.body m.open_aggregates e in rw (n.no_body, n.no_frame) (omega arith));
 }
 
 drop-append : (n : ℕ) (xs ys : List ℕ) → n ≤ length xs → drop n (xs ++ ys) ≡ drop n xs ++ ys
@@ -61,10 +61,10 @@ IsScanned-longer (Some b) n u more h = h
 pub Resumes-fed : (m : Machine) (u since bytes : List ℕ) → Resumes m u since → Resumes m (u ++ bytes) (since ++ bytes)
 Resumes-fed m u since bytes h = record {
   scanned = IsScanned-longer m.body m.scanned u bytes h.scanned;
-  reads = λ more. ap (read m.levels) (append_assoc since bytes more) ∙ h.reads (bytes ++ more) ∙ ap (resume m) (sym (append_assoc u bytes more));
+  reads = λ more. ap (read m.depth) (append_assoc since bytes more) ∙ h.reads (bytes ++ more) ∙ ap (resume m) (sym (append_assoc u bytes more));
   fresh = λ e. ap (λ x. x ++ bytes) (h.fresh e);
   begun = λ e. let l : length u < length since = h.begun e in grind (arith, common_steps);
-  weighs = (let l : length (u ++ bytes) ≡ length u + length bytes = grind (arith, common_steps) in let k : length (since ++ bytes) ≡ length since + length bytes = grind (arith, common_steps) in omega (arith, l, k, h.weighs));
+  built_within = (let l : length (u ++ bytes) ≡ length u + length bytes = grind (arith, common_steps) in let k : length (since ++ bytes) ≡ length since + length bytes = grind (arith, common_steps) in omega (arith, l, k, h.built_within));
 }
 
 length-zero : (xs : List ℕ) → length xs ≡ 0 → xs ≡ []
@@ -74,11 +74,11 @@ length-zero (x ∷ xs) e = absurd (omega arith)
 -- a parser that reads on can tell whether bytes stand after the last value
 progress : (m : Machine) (u since : List ℕ) → Resumes m u since → (since ≡ []) ↔ Rests m u
 progress m u since h = (
-  (λ e. by_fresh e (fresh_of m.body m.frames) refl),
+  (λ e. by_fresh e (fresh_of m.body m.open_aggregates) refl),
   (λ r. h.fresh r.fresh ∙ r.none),
 )
   where
-    by_fresh : since ≡ [] → (k : Bool) → fresh_of m.body m.frames ≡ k → Rests m u
+    by_fresh : since ≡ [] → (k : Bool) → fresh_of m.body m.open_aggregates ≡ k → Rests m u
     by_fresh e true k = record { fresh = k; none = sym (h.fresh k) ∙ e }
     by_fresh e false k = absurd (let l : length u < length since = h.begun k in let z : length since ≡ 0 = ap length e in omega arith)
 
@@ -108,7 +108,7 @@ in_progress-unparsed m buffer since consumed failed h l b u e =
 
 -- none are: some stand after it where the machine isn't fresh
 pub in_progress-machine : (m : Machine) (buffer since : List ℕ) (consumed : ℕ) (failed : Bool) → Holds m (drop consumed buffer) since failed → length buffer ≡ consumed → (b : List ℕ) → b ≡ since → (fresh : Bool) →
-    fresh ≡ fresh_of m.body m.frames → IsTrue (not fresh) ↔ (b ≢ [])
+    fresh ≡ fresh_of m.body m.open_aggregates → IsTrue (not fresh) ↔ (b ≢ [])
 in_progress-machine m buffer since consumed failed h l b u true e = (
   (λ t n. let z : false ≡ true = t in cc),
   (λ n. absurd (n (u ∙ h.progress.1 (record { fresh = sym e; none = drop-all consumed buffer (omega arith) })))),
@@ -120,44 +120,44 @@ in_progress-machine m buffer since consumed failed h l b u false e = (
 
 -- a machine that went on in the unparsed bytes
 module _ (m new : Machine) (u since : List ℕ) (h : Resumes m u since) where
-  at_end : read m.levels since ≡ resume m (u ++ [])
-  at_end = ap (read m.levels) (sym (append-nil since)) ∙ h.reads []
+  at_end : read m.depth since ≡ resume m (u ++ [])
+  at_end = ap (read m.depth) (sym (append-nil since)) ∙ h.reads []
 
-  pub good-from_reads : (n : ℕ) (v : Value) → Reads m u new n v → HasGoodPrefix m.levels since v (drop n u)
-  good-from_reads n v d = HasGoodPrefix-from_read m.levels since (drop n u) v (at_end ∙ d.same [] ∙ ap (λ r. got v r) (append-nil (drop n u)))
+  pub well_formed-from_reads : (n : ℕ) (v : Value) → Completes m u new n v → HasWellFormedPrefix m.depth since v (drop n u)
+  well_formed-from_reads n v d = HasWellFormedPrefix-from_read m.depth since (drop n u) v (at_end ∙ d.same [] ∙ ap (λ r. got v r) (append-nil (drop n u)))
 
-  read-fault : (f : FrameFault) → Drives m u new (Err (Fault f)) → read m.levels since ≡ fault f (drop new.shown u)
+  read-fault : (f : FrameFault) → Runs m u new (Err (Fault f)) → read m.depth since ≡ fault f (drop new.shown u)
   read-fault f d = at_end ∙ d.0.1 [] ∙ ap (λ r. fault f r) (append-nil (drop new.shown u))
 
-  pub faulty-from_drives : (f : FrameFault) → Drives m u new (Err (Fault f)) → HasFaultyPrefix m.levels since f
-  faulty-from_drives f d = HasFaultyPrefix-from_read m.levels since (drop new.shown u) f (read-fault f d)
+  pub malformed-from_runs : (f : FrameFault) → Runs m u new (Err (Fault f)) → HasMalformedPrefix m.depth since f
+  malformed-from_runs f d = HasMalformedPrefix-from_read m.depth since (drop new.shown u) f (read-fault f d)
 
-  pub shown-from_drives : (f : FrameFault) (count : ℕ) → Drives m u new (Err (Fault f)) → count + length u ≡ length since → FaultShownBy m.levels since (count + new.shown)
-  shown-from_drives f count d l =
+  pub shown-from_runs : (f : FrameFault) (count : ℕ) → Runs m u new (Err (Fault f)) → count + length u ≡ length since → FaultShownBy m.depth since (count + new.shown)
+  shown-from_runs f count d l =
       let w : new.shown ≤ length u = d.0.0 in
       let r : length (drop new.shown u) ≡ length u - new.shown = grind (arith, common_steps) in
-      FaultShownBy-from_read m.levels since (drop new.shown u) f (count + new.shown) (read-fault f d) (omega (arith, l, w, r))
+      FaultShownBy-from_read m.depth since (drop new.shown u) f (count + new.shown) (read-fault f d) (omega (arith, l, w, r))
 
-  pub unfinished-from_waits : (n : ℕ) → Waits m u new n → IsUnfinished m.levels since
-  unfinished-from_waits n d = IsUnfinished-from_read m.levels since (at_end ∙ d.same [] ∙ ap (resume new) (append-nil (drop n u)) ∙ d.waits)
+  pub incomplete-from_waits : (n : ℕ) → Waits m u new n → IsIncomplete m.depth since
+  incomplete-from_waits n d = IsIncomplete-from_read m.depth since (at_end ∙ d.same [] ∙ ap (resume new) (append-nil (drop n u)) ∙ d.waits)
 
-  pub Resumes-waits : (n : ℕ) → Waits m u new n → new.levels ≡ m.levels → weight new ≤ weight m + n → Resumes new (drop n u) since
+  pub Resumes-waits : (n : ℕ) → Waits m u new n → new.depth ≡ m.depth → least_bytes new ≤ least_bytes m + n → Resumes new (drop n u) since
   Resumes-waits n d same k = record {
     scanned = d.scanned;
     reads = λ more. ap (λ l. read l (since ++ more)) same ∙ h.reads more ∙ d.same more;
     fresh = λ e. let z : n ≡ 0 = d.fresh e in h.fresh (sym (d.begun z) ∙ e) ∙ ap (λ k. drop k u) (sym z);
-    begun = λ e. longer n d e (fresh_of m.body m.frames) refl;
-    weighs = (let w : n ≤ length u = d.within in let r : length (drop n u) ≡ length u - n = grind (arith, common_steps) in omega (arith, w, r, k, h.weighs));
+    begun = λ e. longer n d e (fresh_of m.body m.open_aggregates) refl;
+    built_within = (let w : n ≤ length u = d.within in let r : length (drop n u) ≡ length u - n = grind (arith, common_steps) in omega (arith, w, r, k, h.built_within));
   }
     where
-      longer : (n : ℕ) → Waits m u new n → fresh_of new.body new.frames ≡ false → (k : Bool) → fresh_of m.body m.frames ≡ k → length (drop n u) < length since
+      longer : (n : ℕ) → Waits m u new n → fresh_of new.body new.open_aggregates ≡ false → (k : Bool) → fresh_of m.body m.open_aggregates ≡ k → length (drop n u) < length since
       longer zero d e true k = absurd (let z : true ≡ false = sym k ∙ sym (d.begun refl) ∙ e in cc)
       longer zero d e false k = h.begun k
       longer (suc n) d e true k = let w : suc n ≤ length u = d.within in let s : length since ≡ length u = ap length (h.fresh k) in let r : length (drop (suc n) u) ≡ length u - suc n = grind (arith, common_steps) in omega arith
       longer (suc n) d e false k = let w : suc n ≤ length u = d.within in let s : length u < length since = h.begun k in let r : length (drop (suc n) u) ≡ length u - suc n = grind (arith, common_steps) in omega arith
 
 -- nothing is buffered
-pub Holds-new : (m : Machine) (buffer since : List ℕ) → buffer ≡ [] → since ≡ [] → fresh_of m.body m.frames ≡ true → m.scanned ≡ 0 → Holds m (drop 0 buffer) since false
+pub Holds-new : (m : Machine) (buffer since : List ℕ) → buffer ≡ [] → since ≡ [] → fresh_of m.body m.open_aggregates ≡ true → m.scanned ≡ 0 → Holds m (drop 0 buffer) since false
 Holds-new m buffer since e k f s = rw (e, k) (Holds-working m [] [] false (Resumes-fresh m [] f s))
 
 -- bytes were added to the buffer

@@ -4,7 +4,7 @@ use Rattle.std.proofs.lemmas.Bool.{and_parts, and_from}
 use Rattle.std.proofs.lemmas.Bool.Decides.{Decides-eqb}
 use Rattle.std.proofs.lemmas.Grind.{common_steps}
 use Rattle.resp_parse.specs.Lines.{NoneBefore, Scanned}
-use Rattle.resp_parse.specs.PlainReading.{got, unfinished, line}
+use Rattle.resp_parse.specs.PlainReading.{got, incomplete, line}
 use Rattle.resp_parse.specs.Resume.{FindsLine}
 use Rattle.resp_parse.proofs.ByteTests.{not_true, eq_true}
 
@@ -12,12 +12,12 @@ use Rattle.resp_parse.proofs.ByteTests.{not_true, eq_true}
 not_here : (b c : ℕ) (bs : List ℕ) (m : ℕ) → NoneBefore (b ∷ c ∷ bs) m → 1 < m → ((b == 13) && (c == 10)) ≡ false
 not_here b c bs m none l = not_true _ (λ t. let p = and_parts _ _ t in none 0 l ((Decides-eqb b 13).0 p.0) ((Decides-eqb c 10).0 p.1))
 
-pub line-none : (bs : List ℕ) → NoneBefore bs (length bs) → line bs ≡ unfinished
+pub line-none : (bs : List ℕ) → NoneBefore bs (length bs) → line bs ≡ incomplete
 line-none [] none = refl
 line-none (b ∷ []) none = refl
 line-none (b ∷ c ∷ bs) none =
     let here : ((b == 13) && (c == 10)) ≡ false = not_here b c bs (length (b ∷ c ∷ bs)) none (omega arith) in
-    let later : line (c ∷ bs) ≡ unfinished = line-none (c ∷ bs) (λ k l e. none (suc k) (omega arith) e) in
+    let later : line (c ∷ bs) ≡ incomplete = line-none (c ∷ bs) (λ k l e. none (suc k) (omega arith) e) in
     rw (here, later) refl
 
 line-found : (bs : List ℕ) (i : ℕ) → NoneBefore bs (suc i) → suc i < length bs → get_or bs i 0 ≡ 13 → get_or bs (suc i) 0 ≡ 10 → line bs ≡ got (take i bs) (drop (suc (suc i)) bs)

@@ -4,7 +4,7 @@ use Rattle.std.proofs.lemmas.Bool.{and_parts, and_from}
 use Rattle.std.proofs.lemmas.Bool.Decides.{Decides-eqb}
 use Rattle.resp_errors.specs.declared.kinds.FrameFault.{FrameFault}
 use Rattle.resp_parse.specs.Lines.{crlf, NoBreak}
-use Rattle.resp_parse.specs.PlainReading.{ReadOutcome, got, fault, unfinished, then, line}
+use Rattle.resp_parse.specs.PlainReading.{ReadOutcome, got, fault, incomplete, then, line}
 use Rattle.resp_parse.proofs.ByteTests.{not_true, eq_true}
 use Rattle.resp_parse.proofs.ReadingsInSequence.{then-fault, at_first, at_next}
 
@@ -53,7 +53,7 @@ line-got (b ∷ c ∷ bs) text rest e = by_test (λ u r. line-got (c ∷ bs) u r
           subst NoBreak et (NoBreak-cons b c bs u r here p.0 p.1),
         )
     from_rest (fault f r) later here k = absurd (cc)
-    from_rest unfinished later here k = absurd (cc)
+    from_rest incomplete later here k = absurd (cc)
 
     by_test : ((u r : List ℕ) → line (c ∷ bs) ≡ got u r → IsLine (c ∷ bs) u r) → (m : Bool) → ((b == 13) && (c == 10)) ≡ m → cond m (got [] bs) (then (line (c ∷ bs)) (λ u r. got (b ∷ u) r)) ≡ got text rest → IsLine (b ∷ c ∷ bs) text rest
     by_test later true here k =

@@ -6,7 +6,7 @@ use Rattle.resp_value.specs.declared.value.Value.{Value}
 use Rattle.resp_errors.specs.declared.redis_error.RedisError.{RedisError}
 use Rattle.resp_errors.specs.declared.redis_error.RedisError.TheVariants as form
 use Rattle.resp_parse.specs.State.{State, StandsAfter, FailedAfter}
-use Rattle.resp_parse.specs.Source.{Source, Came, source_of}
+use Rattle.resp_parse.specs.Source.{Source, SourceGave, source_of}
 use Rattle.resp_parse.specs.Calls.{Received, Takes, CannotTake, Filled, Asks, CannotFill, AsNeeded, Parses, ParsesReader, Parsed, Failed, CannotParse}
 
 -- what was filled since the parser was `old` and stood after b
@@ -16,33 +16,33 @@ pub record FilledAsNeeded (b : List ℕ) (old p : State) (s t : Source) : Type 0
 
 pub FilledAsNeeded-none : (b : List ℕ) (p : State) (s : Source) → StandsAfter p b → FilledAsNeeded b p p s s
 FilledAsNeeded-none b p s h = record {
-  more = record { filled = []; came = λ _. refl; received = omega arith; stands = subst (StandsAfter p) (sym (append-nil b)) h; failures = refl };
+  more = record { filled = []; source_gave = λ _. refl; received = omega arith; stands = subst (StandsAfter p) (sym (append-nil b)) h; failures = refl };
   needed = record { before = []; last = []; whole = refl; size = omega arith; awaited = λ some. absurd (some refl) };
 }
 
 -- after b, the source has filled some bytes, and the parser stands after them
 module _ (b : List ℕ) (old p : State) (s t : Source) (k : FilledAsNeeded b old p s t) where
   -- then nothing was received
-  Received-no_more : (new : State) → new.counts.came ≡ p.counts.came → Received k.more.filled old new
+  Received-no_more : (new : State) → new.counts.received ≡ p.counts.received → Received k.more.filled old new
   Received-no_more new e = e ∙ k.more.received
 
-  pub Parsed-taken : (new : State) (v : Value) → new.limits ≡ old.limits → new.counts.came ≡ p.counts.came → Takes (b ++ k.more.filled) new (Ok (Some v)) → Parsed b v old new s t
-  Parsed-taken new v d e w = record { filled = k.more.filled; came = k.more.came; received = Received-no_more new e; needed = rw d k.needed; value = w.0; rest = w.1; failures = k.more.failures }
+  pub Parsed-taken : (new : State) (v : Value) → new.limits ≡ old.limits → new.counts.received ≡ p.counts.received → Takes (b ++ k.more.filled) new (Ok (Some v)) → Parsed b v old new s t
+  Parsed-taken new v d e w = record { filled = k.more.filled; source_gave = k.more.source_gave; received = Received-no_more new e; needed = rw d k.needed; value = w.0; rest = w.1; failures = k.more.failures }
 
-  Failed-taken : (new : State) → new.limits ≡ old.limits → new.counts.came ≡ p.counts.came → FailedAfter new (b ++ k.more.filled) → Failed b k.more.filled old new s t
-  Failed-taken new d e h = record { came = k.more.came; received = Received-no_more new e; needed = rw d k.needed; failed = h; failures = k.more.failures }
+  Failed-taken : (new : State) → new.limits ≡ old.limits → new.counts.received ≡ p.counts.received → FailedAfter new (b ++ k.more.filled) → Failed b k.more.filled old new s t
+  Failed-taken new d e h = record { source_gave = k.more.source_gave; received = Received-no_more new e; needed = rw d k.needed; failed = h; failures = k.more.failures }
 
-  pub CannotParse-taken : (new : State) (e : RedisError) → new.limits ≡ old.limits → new.counts.came ≡ p.counts.came → Takes (b ++ k.more.filled) new (Err e) → CannotParse b e old new s t
-  CannotParse-taken new e d z (CannotTake.faulty f i w, h) = CannotParse.faulty f k.more.filled i w (Failed-taken new d z h)
+  pub CannotParse-taken : (new : State) (e : RedisError) → new.limits ≡ old.limits → new.counts.received ≡ p.counts.received → Takes (b ++ k.more.filled) new (Err e) → CannotParse b e old new s t
+  CannotParse-taken new e d z (CannotTake.malformed f i w, h) = CannotParse.malformed f k.more.filled i w (Failed-taken new d z h)
   CannotParse-taken new e d z (CannotTake.out_of_memory i, h) = CannotParse.out_of_memory k.more.filled i (Failed-taken new d z h)
 
-  -- what was filled is unfinished, and the source was asked once more
-  module _ (mid : State) (limits : mid.limits ≡ old.limits) (same : mid.counts.came ≡ p.counts.came) (w : Takes (b ++ k.more.filled) mid (Ok None)) (u : Source) (observable : s.observable ≡ true → t.observable ≡ true) where
-    Came-asked : (more : List ℕ) → Came t more u → Came s (k.more.filled ++ more) u
-    Came-asked more c = λ obs. k.more.came obs ∙ ap (λ z. k.more.filled ++ z) (c (observable obs)) ∙ sym (append_assoc k.more.filled more u.bytes)
+  -- what was filled is incomplete, and the source was asked once more
+  module _ (mid : State) (limits : mid.limits ≡ old.limits) (same : mid.counts.received ≡ p.counts.received) (w : Takes (b ++ k.more.filled) mid (Ok None)) (u : Source) (observable : s.observable ≡ true → t.observable ≡ true) where
+    SourceGave-asked : (more : List ℕ) → SourceGave t more u → SourceGave s (k.more.filled ++ more) u
+    SourceGave-asked more c = λ obs. k.more.source_gave obs ∙ ap (λ z. k.more.filled ++ z) (c (observable obs)) ∙ sym (append_assoc k.more.filled more u.bytes)
 
-    Came-none : Came t [] u → Came s k.more.filled u
-    Came-none c = λ obs. k.more.came obs ∙ ap (λ z. k.more.filled ++ z) (c (observable obs))
+    SourceGave-none : SourceGave t [] u → SourceGave s k.more.filled u
+    SourceGave-none c = λ obs. k.more.source_gave obs ∙ ap (λ z. k.more.filled ++ z) (c (observable obs))
 
     Received-asked : (new : State) (more : List ℕ) → Received more mid new → Received (k.more.filled ++ more) old new
     Received-asked new more r = let before = k.more.received in let both : length (k.more.filled ++ more) ≡ length k.more.filled + length more = grind (arith, common_steps) in omega (arith, r, same, before, both)
@@ -51,7 +51,7 @@ module _ (b : List ℕ) (old p : State) (s t : Source) (k : FilledAsNeeded b old
     FilledAsNeeded-asked new a = record {
       more = record {
         filled = k.more.filled ++ a.more.filled;
-        came = Came-asked a.more.filled a.more.came;
+        source_gave = SourceGave-asked a.more.filled a.more.source_gave;
         received = Received-asked new a.more.filled a.more.received;
         stands = subst (StandsAfter new) (append_assoc b k.more.filled a.more.filled) a.more.stands;
         failures = a.more.failures ∙ k.more.failures;
@@ -60,15 +60,15 @@ module _ (b : List ℕ) (old p : State) (s t : Source) (k : FilledAsNeeded b old
     }
 
     -- the source gave nothing
-    module _ (new : State) (kept : new.limits ≡ mid.limits) (none : new.counts.came ≡ mid.counts.came) where
-      Failed-asked : Came t [] u → u.failures ≡ t.failures → FailedAfter new (b ++ k.more.filled) → Failed b k.more.filled old new s u
-      Failed-asked c f h = record { came = Came-none c; received = Received-no_more new (none ∙ same); needed = rw (kept ∙ limits) k.needed; failed = h; failures = f ∙ k.more.failures }
+    module _ (new : State) (kept : new.limits ≡ mid.limits) (none : new.counts.received ≡ mid.counts.received) where
+      Failed-asked : SourceGave t [] u → u.failures ≡ t.failures → FailedAfter new (b ++ k.more.filled) → Failed b k.more.filled old new s u
+      Failed-asked c f h = record { source_gave = SourceGave-none c; received = Received-no_more new (none ∙ same); needed = rw (kept ∙ limits) k.needed; failed = h; failures = f ∙ k.more.failures }
 
       pub CannotParse-asked : (e : RedisError) → CannotFill (b ++ k.more.filled) e new t u → CannotParse b e old new s u
       CannotParse-asked e (CannotFill.early_end i c end f h) = CannotParse.early_end k.more.filled i (rw kept w.0) (λ obs. end (observable obs)) (Failed-asked c f h)
       CannotParse-asked e (CannotFill.source_failed kind i c f h) = CannotParse.source_failed kind i (record {
         filled = k.more.filled;
-        came = Came-none c;
+        source_gave = SourceGave-none c;
         received = Received-no_more new (none ∙ same);
         awaits = rw kept w.0;
         stands = h;
@@ -76,7 +76,7 @@ module _ (b : List ℕ) (old p : State) (s t : Source) (k : FilledAsNeeded b old
       })
       CannotParse-asked e (CannotFill.out_of_memory i c f h) = CannotParse.out_of_memory k.more.filled i (Failed-asked c f h)
 
-  pub CannotParse-failed : (new : State) (e : RedisError) → new.limits ≡ old.limits → new.counts.came ≡ p.counts.came → e ≡ form.OutOfMemory → FailedAfter new (b ++ k.more.filled) → CannotParse b e old new s t
+  pub CannotParse-failed : (new : State) (e : RedisError) → new.limits ≡ old.limits → new.counts.received ≡ p.counts.received → e ≡ form.OutOfMemory → FailedAfter new (b ++ k.more.filled) → CannotParse b e old new s t
   CannotParse-failed new e d z i h = CannotParse.out_of_memory k.more.filled i (Failed-taken new d z h)
 
 -- a reader that was used up, as the source that counted its failures

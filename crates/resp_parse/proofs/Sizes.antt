@@ -24,7 +24,7 @@ use Rattle.resp_parse.specs.Shapes.{body_value, elements_value, announced_in_lin
 use Rattle.resp_parse.specs.Built.{sum_of_pairs, first_built, built}
 use Rattle.std.proofs.lemmas.List.Sums.{sum_by-cons, sum-map}
 use Rattle.resp_parse.proofs.BuiltOf.{built_pair, built-Nil, built-Okay, built-Int, built-SimpleString, built-BulkString, built-ServerError, built-Boolean, built-Double, built-BigNumber, built-VerbatimString, built-Array, built-Set, built-Push, built-Map, built-Attribute}
-use Rattle.resp_parse.specs.Weights.{built_of}
+use Rattle.resp_parse.specs.Costs.{built_of}
 
 -- pairs are built of no more than the values that they join
 pairs-small : (vs : List Value) → sum_of_pairs (map built_pair (pairs vs)) ≤ built_of vs

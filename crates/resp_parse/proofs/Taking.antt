@@ -7,35 +7,35 @@ use Rattle.resp_errors.specs.declared.kinds.FrameFault.TheVariants.{TooLong}
 use Rattle.resp_errors.specs.declared.redis_error.RedisError.{RedisError}
 use Rattle.resp_errors.specs.declared.parsing_error.ParsingError.TheVariants as parsing
 use Rattle.resp_errors.specs.declared.redis_error.RedisError.TheVariants as form
-use Rattle.resp_parse.specs.declared.stop.Stop.{Stop}
-use Rattle.resp_parse.specs.declared.stop.Stop.TheVariants as stop
+use Rattle.resp_parse.specs.declared.read_error.ReadError.{ReadError}
+use Rattle.resp_parse.specs.declared.read_error.ReadError.TheVariants as record_fault
 use Rattle.resp_parse.specs.declared.machine.Machine.{Machine}
 use Rattle.resp_parse.specs.Limited.{HasFault, HasValue, Awaits, PassesSize, within, too_long}
 use Rattle.resp_parse.specs.State.{State}
 use Rattle.resp_parse.specs.Calls.{Takes, CannotTake}
-use Rattle.resp_parse.specs.Resume.{Drives, IsScanned, Waits}
-use Rattle.resp_parse.specs.Tally.{Tally}
-use Rattle.resp_parse.specs.Weights.{weight, DrivePays}
-use Rattle.resp_parse.specs.Kept.{Resumes, Holds, Counted, Spelled, Placed, PassesLimit, limits_of}
+use Rattle.resp_parse.specs.Resume.{Runs, IsScanned, Waits}
+use Rattle.resp_parse.specs.Counts.{Counts}
+use Rattle.resp_parse.specs.Costs.{least_bytes, RunCost}
+use Rattle.resp_parse.specs.Invariant.{Resumes, Holds, Counted, CountsTaken, Placed, PassesLimit, limits_of}
 use Rattle.resp_parse.proofs.Counting.{Counted-taken, Counted-stopped, scanned-within}
 use Rattle.resp_parse.proofs.BodiesInPieces.{drop-drop}
-use Rattle.resp_parse.proofs.Holding.{Resumes-fresh, Resumes-waits, Holds-working, Holds-failed, good-from_reads, faulty-from_drives, shown-from_drives, unfinished-from_waits}
+use Rattle.resp_parse.proofs.Holding.{Resumes-fresh, Resumes-waits, Holds-working, Holds-failed, well_formed-from_reads, malformed-from_runs, shown-from_runs, incomplete-from_waits}
 use Rattle.resp_parse.proofs.LimitedReadings.{first-value}
-use Rattle.resp_parse.proofs.Spelling.{Spelled-waits, Spelled-fresh, Resumes-front, same-later, front-size}
+use Rattle.resp_parse.proofs.CountingTaken.{CountsTaken-waits, CountsTaken-fresh, Resumes-front, same-later, front-size}
 use Rattle.resp_parse.proofs.FaultOffsets.{Placed-passes}
 use Rattle.resp_parse.proofs.ParserStates.{IsBetweenValues-from_same, StandsAfter-from_since, FailedAfter-from_since}
 
 -- the machine was in the front of these unparsed bytes, and is now `new`
 module _ (most count : ℕ) (buffer since : List ℕ) (consumed : ℕ) (failed : Bool) (m new : Machine) (within_buffer : consumed ≤ length buffer) (h : Holds m (drop consumed buffer) since failed) (w : failed ≡ false)
-    (spelled : Spelled most m (drop consumed buffer) since count) (u front later : List ℕ) (u_is : u ≡ drop consumed buffer) (front_is : front ≡ take (most - count) u) (later_is : later ≡ drop (most - count) u) (same : new.levels ≡ m.levels) where
+    (spelled : CountsTaken most m (drop consumed buffer) since count) (u front later : List ℕ) (u_is : u ≡ drop consumed buffer) (front_is : front ≡ take (most - count) u) (later_is : later ≡ drop (most - count) u) (same : new.depth ≡ m.depth) where
   parts : u ≡ front ++ later
   parts = sym (take-append-drop (most - count) u) ∙ ap (λ x. x ++ drop (most - count) u) (sym front_is) ∙ ap (λ x. front ++ x) (sym later_is)
 
   u-size : length u ≡ length front + length later
   u-size = ap length parts ∙ length-append front later
 
-  spelled-here : Spelled most m u since count
-  spelled-here = subst (λ x. Spelled most m x since count) (sym u_is) spelled
+  spelled-here : CountsTaken most m u since count
+  spelled-here = subst (λ x. CountsTaken most m x since count) (sym u_is) spelled
 
   resumes-front : Resumes m front (take most since)
   resumes-front = subst (λ x. Resumes m x (take most since)) (sym front_is) (Resumes-front most m u since count spelled-here)
@@ -59,7 +59,7 @@ module _ (most count : ℕ) (buffer since : List ℕ) (consumed : ℕ) (failed :
   scanned-front = resumes-front.scanned
 
   -- the value may have all bytes, and more are needed
-  module _ (n : ℕ) (none : later ≡ []) (d : Drives m front new (Ok (n, None))) where
+  module _ (n : ℕ) (none : later ≡ []) (d : Runs m front new (Ok (n, None))) where
     all : front ≡ u
     all = sym (parts ∙ ap (λ x. front ++ x) none ∙ append-nil front)
 
@@ -78,24 +78,24 @@ module _ (most count : ℕ) (buffer since : List ℕ) (consumed : ℕ) (failed :
     pub waits-fits : consumed + n ≤ length buffer
     waits-fits = fits n d.within
 
-    pub waits-holds : weight new ≤ weight m + n → Holds new (drop (consumed + n) buffer) since failed
+    pub waits-holds : least_bytes new ≤ least_bytes m + n → Holds new (drop (consumed + n) buffer) since failed
     waits-holds k = subst (λ x. Holds new x since failed) (dropped n) (Holds-working new (drop n u) since failed (Resumes-waits m new u since resumes n waits same k))
 
-    pub waits-counted : (c t e : Tally) → Counted m (drop consumed buffer) c failed → t ≡ record c { calls = c.calls + 1 } → DrivePays m new front t e (Ok (n, None)) → Counted new (drop (consumed + n) buffer) e failed
+    pub waits-counted : (c t e : Counts) → Counted m (drop consumed buffer) c failed → t ≡ record c { calls = c.calls + 1 } → RunCost m new front t e (Ok (n, None)) → Counted new (drop (consumed + n) buffer) e failed
     waits-counted c t e k i p = subst (λ x. Counted new x e failed) (dropped n) (Counted-taken m new u c t e failed n None waits.within (scanned-within new.body new.scanned (drop n u) waits.scanned) (subst (λ x. Counted m x c failed) (sym u_is) k) w i p)
 
-    pub waits-spelled : weight new ≤ weight m + n → Spelled most new (drop (consumed + n) buffer) since (count + n)
-    waits-spelled k = subst (λ x. Spelled most new x since (count + n)) (dropped n) (Spelled-waits most m new u since count n resumes (sym since-size) few waits same k)
+    pub waits-spelled : least_bytes new ≤ least_bytes m + n → CountsTaken most new (drop (consumed + n) buffer) since (count + n)
+    waits-spelled k = subst (λ x. CountsTaken most new x since (count + n)) (dropped n) (CountsTaken-waits most m new u since count n resumes (sym since-size) few waits same k)
 
     pub waits-takes : (s : State) → s.limits ≡ limits_of new most → s.failed ≡ failed → s.since ≡ since → (b : List ℕ) → b ≡ since → Takes b s (Ok None)
     waits-takes s l f k b e =
-        let here : Awaits (limits_of m most) since = record { few = few; unfinished = unfinished-from_waits m new u since resumes n waits } in
+        let here : Awaits (limits_of m most) since = record { few = few; incomplete = incomplete-from_waits m new u since resumes n waits } in
         (rw (l ∙ ap (λ x. record { depth = x; bytes = most }) same) (subst (Awaits (limits_of m most)) (sym e) here), StandsAfter-from_since s b (f ∙ w) (e ∙ sym k))
 
   -- a value was read
-  module _ (n : ℕ) (v : Value) (d : Drives m front new (Ok (n, Some v))) (now : List ℕ) (now_is : now ≡ drop (consumed + n) buffer) where
-    taken : n ≤ length u
-    taken = let l : n ≤ length front = d.within in omega (arith, l, u-size)
+  module _ (n : ℕ) (v : Value) (d : Runs m front new (Ok (n, Some v))) (now : List ℕ) (now_is : now ≡ drop (consumed + n) buffer) where
+    examined : n ≤ length u
+    examined = let l : n ≤ length front = d.within in omega (arith, l, u-size)
 
     rest : drop n front ++ drop most since ≡ drop (consumed + n) buffer
     rest = ap (λ x. drop n front ++ x) (sym later-since) ∙ sym (drop-append-le n front later d.within) ∙ ap (drop n) (sym parts) ∙ dropped n
@@ -106,46 +106,46 @@ module _ (most count : ℕ) (buffer since : List ℕ) (consumed : ℕ) (failed :
     pub value-holds : Holds new (drop (consumed + n) buffer) now failed
     value-holds = subst (λ x. Holds new (drop (consumed + n) buffer) x failed) (sym now_is) (Holds-working new (drop (consumed + n) buffer) (drop (consumed + n) buffer) failed (Resumes-fresh new (drop (consumed + n) buffer) d.fresh d.scanned))
 
-    pub value-counted : (c t e : Tally) → Counted m (drop consumed buffer) c failed → t ≡ record c { calls = c.calls + 1 } → DrivePays m new front t e (Ok (n, Some v)) → Counted new (drop (consumed + n) buffer) e failed
-    value-counted c t e k i p = subst (λ x. Counted new x e failed) (dropped n) (Counted-taken m new u c t e failed n (Some v) taken (omega (arith, d.scanned)) (subst (λ x. Counted m x c failed) (sym u_is) k) w i p)
+    pub value-counted : (c t e : Counts) → Counted m (drop consumed buffer) c failed → t ≡ record c { calls = c.calls + 1 } → RunCost m new front t e (Ok (n, Some v)) → Counted new (drop (consumed + n) buffer) e failed
+    value-counted c t e k i p = subst (λ x. Counted new x e failed) (dropped n) (Counted-taken m new u c t e failed n (Some v) examined (omega (arith, d.scanned)) (subst (λ x. Counted m x c failed) (sym u_is) k) w i p)
 
-    pub value-spelled : Spelled most new (drop (consumed + n) buffer) now 0
-    value-spelled = Spelled-fresh most new (drop (consumed + n) buffer) now d.fresh d.scanned (sym now_is)
+    pub value-spelled : CountsTaken most new (drop (consumed + n) buffer) now 0
+    value-spelled = CountsTaken-fresh most new (drop (consumed + n) buffer) now d.fresh d.scanned (sym now_is)
 
     pub value-takes : (s : State) → s.limits ≡ limits_of new most → s.failed ≡ failed → s.since ≡ now → s.unparsed ≡ drop (consumed + n) buffer → (b : List ℕ) → b ≡ since → Takes b s (Ok (Some v))
     value-takes s l f k x b e =
         let l' = limits_of m most in
-        let here : HasValue l' since v (drop n front ++ drop most since) = first-value l' since (drop n front) v (good-from_reads m new front (take most since) resumes-front n v d) in (
+        let here : HasValue l' since v (drop n front ++ drop most since) = first-value l' since (drop n front) v (well_formed-from_reads m new front (take most since) resumes-front n v d) in (
           rw (l ∙ ap (λ x. record { depth = x; bytes = most }) same) (subst (λ r. HasValue l' b v r) (rest ∙ sym x) (subst (λ y. HasValue l' y v (drop n front ++ drop most since)) (sym e) here)),
           IsBetweenValues-from_same s (f ∙ w) (k ∙ now_is ∙ sym x),
         )
 
   -- no value can be read
-  module _ (e : Stop) (d : Drives m front new (Err e)) where
+  module _ (e : ReadError) (d : Runs m front new (Err e)) where
     pub stops-holds : Holds new (drop consumed buffer) since true
     stops-holds = let l : 0 < length front = d.1 in Holds-failed m new (drop consumed buffer) since failed h (subst (λ (x : List ℕ). 0 < length x) u_is (omega (arith, l, u-size)))
 
-    pub stops-counted : (c t e' : Tally) → Counted m (drop consumed buffer) c failed → t ≡ record c { calls = c.calls + 1 } → DrivePays m new front t e' (Err e) → Counted new (drop consumed buffer) e' true
+    pub stops-counted : (c t e' : Counts) → Counted m (drop consumed buffer) c failed → t ≡ record c { calls = c.calls + 1 } → RunCost m new front t e' (Err e) → Counted new (drop consumed buffer) e' true
     stops-counted c t e' k i p =
-        let most-looked : e'.taken + m.scanned ≤ t.taken + length u = (let z = p.0.most in omega (arith, z, u-size)) in
+        let most-looked : e'.examined + m.scanned ≤ t.examined + length u = (let z = p.0.most in omega (arith, z, u-size)) in
         Counted-stopped m new u c t e' failed e (subst (λ y. Counted m y c failed) (sym u_is) k) w i (record { same = p.0.same; once = p.0.once; most = most-looked }, p.1) (drop consumed buffer)
 
-  pub stops-fault : (s : State) → s.limits ≡ limits_of new most → s.failed ≡ true → s.since ≡ since → (f : FrameFault) → Drives m front new (Err (stop.Fault f)) → (b : List ℕ) → b ≡ since → Takes b s (Err (form.Parse (parsing.Fault f)))
+  pub stops-fault : (s : State) → s.limits ≡ limits_of new most → s.failed ≡ true → s.since ≡ since → (f : FrameFault) → Runs m front new (Err (record_fault.Fault f)) → (b : List ℕ) → b ≡ since → Takes b s (Err (form.Parse (parsing.Fault f)))
   stops-fault s l k y f d b e =
-      let here : HasFault (limits_of m most) since f = within (faulty-from_drives m new front (take most since) resumes-front f d) in
-      (CannotTake.faulty f refl (rw (l ∙ ap (λ x. record { depth = x; bytes = most }) same) (subst (λ x. HasFault (limits_of m most) x f) (sym e) here)), FailedAfter-from_since s b k (e ∙ sym y))
+      let here : HasFault (limits_of m most) since f = within (malformed-from_runs m new front (take most since) resumes-front f d) in
+      (CannotTake.malformed f refl (rw (l ∙ ap (λ x. record { depth = x; bytes = most }) same) (subst (λ x. HasFault (limits_of m most) x f) (sym e) here)), FailedAfter-from_since s b k (e ∙ sym y))
 
-  pub stops-placed : (f : FrameFault) → Drives m front new (Err (stop.Fault f)) → Placed (limits_of new most) (Some (count + new.shown)) since true
+  pub stops-placed : (f : FrameFault) → Runs m front new (Err (record_fault.Fault f)) → Placed (limits_of new most) (Some (count + new.shown)) since true
   stops-placed f d = rw same (record {
     works = λ z. absurd (let y : true ≡ false = z in cc);
-    shows = within (shown-from_drives m new front (take most since) resumes-front f count d size);
+    shows = within (shown-from_runs m new front (take most since) resumes-front f count d size);
   })
 
   pub stops-memory : (s : State) → s.failed ≡ true → s.since ≡ since → (b : List ℕ) → b ≡ since → Takes b s (Err form.OutOfMemory)
   stops-memory s k y b e = (CannotTake.out_of_memory refl, FailedAfter-from_since s b k (e ∙ sym y))
 
   -- the value in progress is longer than one may be
-  module _ (n : ℕ) (some : later ≢ []) (d : Drives m front new (Ok (n, None))) where
+  module _ (n : ℕ) (some : later ≢ []) (d : Runs m front new (Ok (n, None))) where
     later-size : 0 < length later
     later-size = by_length later some
       where
@@ -156,20 +156,20 @@ module _ (most count : ℕ) (buffer since : List ℕ) (consumed : ℕ) (failed :
     passes : PassesSize (limits_of m most) since
     passes = record {
       more = (let l : length later ≡ length since - most = ap length later-since ∙ length-drop most since in omega (arith, l, later-size));
-      unfinished = unfinished-from_waits m new front (take most since) resumes-front n d;
+      incomplete = incomplete-from_waits m new front (take most since) resumes-front n d;
     }
 
     pub long-holds : Holds new (drop consumed buffer) since true
     long-holds = Holds-failed m new (drop consumed buffer) since failed h (subst (λ (x : List ℕ). 0 < length x) u_is (omega (arith, later-size, u-size)))
 
-    pub long-counted : (c t e : Tally) → Counted m (drop consumed buffer) c failed → t ≡ record c { calls = c.calls + 1 } → DrivePays m new front t e (Ok (n, None)) → Counted new (drop consumed buffer) e true
+    pub long-counted : (c t e : Counts) → Counted m (drop consumed buffer) c failed → t ≡ record c { calls = c.calls + 1 } → RunCost m new front t e (Ok (n, None)) → Counted new (drop consumed buffer) e true
     long-counted c t e k i p =
         let l : n ≤ length front = d.within in
         let s : new.scanned ≤ length (drop n front) = scanned-within new.body new.scanned (drop n front) d.scanned in
         let a : length (drop n front) ≡ length front - n = length-drop n front in
         let b : length (drop n u) ≡ length u - n = length-drop n u in
         let now = Counted-taken m new u c t e failed n None (omega (arith, l, u-size)) (omega (arith, l, s, a, b, u-size)) (subst (λ x. Counted m x c failed) (sym u_is) k) w i p in
-        record { turns = now.turns; looks = now.looks; taken = now.taken; works = λ z. absurd (let y : true ≡ false = z in cc) }
+        record { iterations = now.iterations; looks = now.looks; examined = now.examined; works = λ z. absurd (let y : true ≡ false = z in cc) }
 
     pub long-placed : (e : RedisError) (offset : Option ℕ) → PassesLimit most e offset → Placed (limits_of new most) offset since true
     long-placed e offset r = rw same (Placed-passes (limits_of m most) offset since e passes r)
@@ -177,5 +177,5 @@ module _ (most count : ℕ) (buffer since : List ℕ) (consumed : ℕ) (failed :
     pub long-takes : (s : State) (e : RedisError) (offset : Option ℕ) → s.limits ≡ limits_of new most → s.failed ≡ true → s.since ≡ since → PassesLimit most e offset → (b : List ℕ) → b ≡ since → Takes b s (Err e)
     long-takes s e offset l k y (PassesLimit.fault i j) b z =
         let here : HasFault (limits_of m most) since TooLong = too_long refl passes in
-        (CannotTake.faulty TooLong i (rw (l ∙ ap (λ x. record { depth = x; bytes = most }) same) (subst (λ x. HasFault (limits_of m most) x TooLong) (sym z) here)), FailedAfter-from_since s b k (z ∙ sym y))
+        (CannotTake.malformed TooLong i (rw (l ∙ ap (λ x. record { depth = x; bytes = most }) same) (subst (λ x. HasFault (limits_of m most) x TooLong) (sym z) here)), FailedAfter-from_since s b k (z ∙ sym y))
     long-takes s e offset l k y (PassesLimit.out_of_memory i j) b z = (CannotTake.out_of_memory i, FailedAfter-from_since s b k (z ∙ sym y))

@@ -1,6 +1,6 @@
 -- What a parser has done and built, bounded by the bytes that came.
 use Rattle.std.specs.Prelude.{◌≡◌, ◌≤◌, ◌+◌, ◌*◌, ℕ, false, List, length, drop, Result, Ok, Err}
-use Rattle.resp_parse.specs.Tally.{Tally}
+use Rattle.resp_parse.specs.Counts.{Counts}
 use Rattle.resp_parse.specs.State.{State}
 
 -- the buffered bytes that were not looked at
@@ -11,37 +11,37 @@ not_looked_at s = drop s.looked s.unparsed
 -- for the value in progress is at most the bytes of it that were looked at, whatever lengths are
 -- announced; and these are at most as many as may spell a value
 pub record WorksWithin (s : State) : Type 0 where
-  pub accounted : s.counts.taken + length (not_looked_at s) ≡ s.counts.came
+  pub accounted : s.counts.examined + length (not_looked_at s) ≡ s.counts.received
   pub built : 3 * s.built + length (not_looked_at s) ≤ length s.since
-  pub spelled : length s.since ≤ s.limits.bytes + length (not_looked_at s)
+  pub size : length s.since ≤ s.limits.bytes + length (not_looked_at s)
 
--- the turns are at most four for three bytes that were looked at and one for each call: where only
--- lines came, too few to look at each byte twice; of these, the looks at a byte of a line are at most
--- as many as the bytes looked at; at most as many frames are open as
--- levels are read. Only turns that the code counts are seen here: none is counted for copying
+-- the iterations are at most four for three bytes that were looked at and one for each call: where
+-- only lines came, too few to look at each byte twice; of these, the looks at a byte of a line are
+-- at most as many as the bytes looked at; at most as many aggregates are open as
+-- levels are read. Only iterations that the code counts are seen here: none is counted for copying
 -- bytes, or for making a value of a line or a body that is all there
 pub record Bounded (s : State) : Type 0 where
-  pub turns : 3 * s.counts.turns ≤ 4 * s.counts.taken + 3 * s.counts.calls
-  pub looks : s.counts.looks ≤ s.counts.taken
-  pub taken : s.counts.taken ≤ s.counts.came
-  pub frames : s.frames ≤ s.limits.depth
+  pub iterations : 3 * s.counts.iterations ≤ 4 * s.counts.examined + 3 * s.counts.calls
+  pub looks : s.counts.looks ≤ s.counts.examined
+  pub examined : s.counts.examined ≤ s.counts.received
+  pub open_aggregates : s.open_aggregates ≤ s.limits.depth
   pub works : s.failed ≡ false → WorksWithin s
 
 -- n bytes were fed by one call
-pub record FedBy (n : ℕ) (c d : Tally) : Type 0 where
+pub record FedBy (n : ℕ) (c d : Counts) : Type 0 where
   pub calls : d.calls ≡ c.calls + 1
-  pub came : d.came ≡ c.came + n
+  pub received : d.received ≡ c.received + n
 
 -- one call was made, and no byte came
-pub record OneCall (c d : Tally) : Type 0 where
+pub record OneCall (c d : Counts) : Type 0 where
   pub calls : d.calls ≡ c.calls + 1
-  pub came : d.came ≡ c.came
+  pub received : d.received ≡ c.received
 
 -- a call asked a source and counted one call, and one more at most for each byte that came
-abbrev pub CallsWithin : Tally → Tally → Type 0
-CallsWithin c d = d.calls + c.came ≤ c.calls + 1 + d.came
+abbrev pub CallsWithin : Counts → Counts → Type 0
+CallsWithin c d = d.calls + c.received ≤ c.calls + 1 + d.received
 
 -- asking a source counts no call; some bytes came, or none where it is refused
-abbrev pub AskedFor : {X E : Type 0} → Tally → Tally → Result X E → Type 0
-AskedFor c d (Ok x) = (d.calls ≡ c.calls) × (c.came + 1 ≤ d.came)
-AskedFor c d (Err e) = (d.calls ≡ c.calls) × (d.came ≡ c.came)
+abbrev pub AskedFor : {X E : Type 0} → Counts → Counts → Result X E → Type 0
+AskedFor c d (Ok x) = (d.calls ≡ c.calls) × (c.received + 1 ≤ d.received)
+AskedFor c d (Err e) = (d.calls ≡ c.calls) × (d.received ≡ c.received)

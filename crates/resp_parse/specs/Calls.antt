@@ -11,7 +11,7 @@ use Rattle.resp_errors.specs.declared.redis_error.RedisError.TheVariants as form
 use Rattle.resp_parse.specs.declared.limits.Limits.{Limits}
 use Rattle.resp_parse.specs.Limited.{HasValue, HasFault, Awaits}
 use Rattle.resp_parse.specs.State.{State, StandsAfter, FailedAfter, IsBetweenValues}
-use Rattle.resp_parse.specs.Source.{Source, Came, FailureCounted, source_of}
+use Rattle.resp_parse.specs.Source.{Source, SourceGave, FailureCounted, source_of}
 
 -- Feeding.
 
@@ -24,10 +24,10 @@ Feeds b bytes old new (Err e) = (e ≡ form.OutOfMemory) × (new ≡ old)
 
 -- why no value can be taken, now or later, within the limits
 pub data CannotTake (l : Limits) (b : List ℕ) (e : RedisError) : Type 0 where
-  faulty : (f : FrameFault) → e ≡ form.Parse (parsing.Fault f) → HasFault l b f → CannotTake l b e
+  malformed : (f : FrameFault) → e ≡ form.Parse (parsing.Fault f) → HasFault l b f → CannotTake l b e
   out_of_memory : e ≡ form.OutOfMemory → CannotTake l b e
 
--- the value at the start was taken; or it is unfinished; or the parser has failed
+-- the value at the start was taken; or it is incomplete; or the parser has failed
 abbrev pub Takes : List ℕ → State → Result (Option Value) RedisError → Type 0
 Takes b new (Ok (Some v)) = HasValue new.limits b v new.unparsed × IsBetweenValues new
 Takes b new (Ok None) = Awaits new.limits b × StandsAfter new b
@@ -37,23 +37,23 @@ Takes b new (Err e) = CannotTake new.limits b e × FailedAfter new b
 
 -- as many bytes more were received as these are
 abbrev pub Received : List ℕ → State → State → Type 0
-Received filled old new = new.counts.came ≡ old.counts.came + length filled
+Received filled old new = new.counts.received ≡ old.counts.received + length filled
 
 -- the parser stands after b and what was filled; the source counted no failure
 pub record Filled (b : List ℕ) (old new : State) (s t : Source) : Type 0 where
   pub filled : List ℕ
-  pub came : Came s filled t
+  pub source_gave : SourceGave s filled t
   pub received : Received filled old new
   pub stands : StandsAfter new (b ++ filled)
   pub failures : t.failures ≡ s.failures
 
 -- why nothing was filled
 pub data CannotFill (b : List ℕ) (e : RedisError) (new : State) (s t : Source) : Type 0 where
-  early_end : e ≡ form.Io UnexpectedEof → Came s [] t → (s.observable ≡ true → t.bytes ≡ []) →
+  early_end : e ≡ form.Io UnexpectedEof → SourceGave s [] t → (s.observable ≡ true → t.bytes ≡ []) →
       t.failures ≡ s.failures → FailedAfter new b → CannotFill b e new s t
-  source_failed : (kind : IoKind) → e ≡ form.Io kind → Came s [] t →
+  source_failed : (kind : IoKind) → e ≡ form.Io kind → SourceGave s [] t →
       FailureCounted s.failures t.failures → StandsAfter new b → CannotFill b e new s t
-  out_of_memory : e ≡ form.OutOfMemory → Came s [] t → t.failures ≡ s.failures →
+  out_of_memory : e ≡ form.OutOfMemory → SourceGave s [] t → t.failures ≡ s.failures →
       FailedAfter new b → CannotFill b e new s t
 
 -- some bytes were filled, at most 4,096
@@ -82,7 +82,7 @@ pub record AsNeeded (l : Limits) (b filled : List ℕ) : Type 0 where
 -- counted no failure
 pub record Parsed (b : List ℕ) (v : Value) (old new : State) (s t : Source) : Type 0 where
   pub filled : List ℕ
-  pub came : Came s filled t
+  pub source_gave : SourceGave s filled t
   pub received : Received filled old new
   pub needed : AsNeeded new.limits b filled
   pub value : HasValue new.limits (b ++ filled) v new.unparsed
@@ -91,7 +91,7 @@ pub record Parsed (b : List ℕ) (v : Value) (old new : State) (s t : Source) : 
 
 -- the parser has failed after b and what was filled; the source counted no failure
 pub record Failed (b filled : List ℕ) (old new : State) (s t : Source) : Type 0 where
-  pub came : Came s filled t
+  pub source_gave : SourceGave s filled t
   pub received : Received filled old new
   pub needed : AsNeeded new.limits b filled
   pub failed : FailedAfter new (b ++ filled)
@@ -100,7 +100,7 @@ pub record Failed (b filled : List ℕ) (old new : State) (s t : Source) : Type 
 -- the source failed: the parser stands after b and what was filled, after which more is awaited
 pub record StandsMidway (b : List ℕ) (old new : State) (s t : Source) : Type 0 where
   pub filled : List ℕ
-  pub came : Came s filled t
+  pub source_gave : SourceGave s filled t
   pub received : Received filled old new
   pub awaits : Awaits new.limits (b ++ filled)
   pub stands : StandsAfter new (b ++ filled)
@@ -109,7 +109,7 @@ pub record StandsMidway (b : List ℕ) (old new : State) (s t : Source) : Type 0
 -- why no value is parsed: a fault in b and what was filled; the end of the source before that of a
 -- value; its failure; out of memory
 pub data CannotParse (b : List ℕ) (e : RedisError) (old new : State) (s t : Source) : Type 0 where
-  faulty : (f : FrameFault) (filled : List ℕ) → e ≡ form.Parse (parsing.Fault f) →
+  malformed : (f : FrameFault) (filled : List ℕ) → e ≡ form.Parse (parsing.Fault f) →
       HasFault new.limits (b ++ filled) f → Failed b filled old new s t →
       CannotParse b e old new s t
   early_end : (filled : List ℕ) → e ≡ form.Io UnexpectedEof →

@@ -2,11 +2,11 @@
 -- nothing of the bytes.
 use Rattle.std.specs.Prelude.{◌≡◌, Result, Ok, Err}
 use Rattle.resp_errors.specs.declared.kinds.FrameFault.{FrameFault}
-use Rattle.resp_parse.specs.declared.stop.Stop.{Stop}
-use Rattle.resp_parse.specs.declared.stop.Stop.TheVariants.{Memory, Fault}
+use Rattle.resp_parse.specs.declared.read_error.ReadError.{ReadError}
+use Rattle.resp_parse.specs.declared.read_error.ReadError.TheVariants.{Memory, Fault}
 
 -- of something that is made: the same, or the same fault
-abbrev pub Computes : {X : Type 0} → Result X Stop → Result X FrameFault → Type 0
+abbrev pub Computes : {X : Type 0} → Result X ReadError → Result X FrameFault → Type 0
 Computes (Ok x) r = r ≡ Ok x
 Computes (Err Memory) r = Unit {0}
 Computes (Err (Fault f)) r = r ≡ Err f

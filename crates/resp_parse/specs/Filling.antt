@@ -2,32 +2,32 @@
 use Rattle.std.specs.Prelude.{◌≡◌, ◌+◌, ◌≤◌, ℕ, true, List, [], ◌++◌, length, Option, None, Some, Result, Ok, Err}
 use Rattle.resp_parse.specs.declared.machine.Body.{Body}
 use Rattle.resp_parse.specs.declared.machine.Machine.{Machine}
-use Rattle.resp_parse.specs.Tally.{Tally}
+use Rattle.resp_parse.specs.Counts.{Counts}
 use Rattle.resp_parse.specs.Resume.{resume, fresh_of, IsScanned}
-use Rattle.resp_parse.specs.Weights.{weight, credit}
+use Rattle.resp_parse.specs.Costs.{least_bytes, potential}
 
 -- how many bytes the open body lacks
 abbrev pub lacks_of : Option Body → ℕ
 lacks_of None = 0
 lacks_of (Some b) = b.missing
 
--- the bytes were taken into the open body, in one turn at most
-pub record Filled (old : Machine) (bytes : List ℕ) (new : Machine) (c d : Tally) : Type 0 where
+-- the bytes were taken into the open body, in one iteration at most
+pub record FilledOpenBody (old : Machine) (bytes : List ℕ) (new : Machine) (c d : Counts) : Type 0 where
   pub same : (more : List ℕ) → resume old (bytes ++ more) ≡ resume new more
-  pub levels : new.levels ≡ old.levels
-  pub frames : new.frames ≡ old.frames
+  pub depth : new.depth ≡ old.depth
+  pub open_aggregates : new.open_aggregates ≡ old.open_aggregates
   pub looked : new.scanned ≡ old.scanned
-  pub fresh : fresh_of new.body new.frames ≡ fresh_of old.body old.frames
-  pub none : fresh_of old.body old.frames ≡ true → bytes ≡ []
+  pub fresh : fresh_of new.body new.open_aggregates ≡ fresh_of old.body old.open_aggregates
+  pub none : fresh_of old.body old.open_aggregates ≡ true → bytes ≡ []
   pub scanned : (bs : List ℕ) → IsScanned old.body old.scanned bs →
       IsScanned new.body new.scanned bs
-  pub weighs : weight new ≡ weight old
-  pub saves : credit new ≡ credit old
-  pub counts : d ≡ record c { turns = d.turns; taken = c.taken + length bytes }
-  pub turns : d.turns ≤ c.turns + 1
+  pub built_within : least_bytes new ≡ least_bytes old
+  pub potential : potential new ≡ potential old
+  pub counts : d ≡ record c { iterations = d.iterations; examined = c.examined + length bytes }
+  pub iterations : d.iterations ≤ c.iterations + 1
 
 -- or memory ran out, and nothing changed
-abbrev pub Fills : {E : Type 0} → Machine → List ℕ → Machine → Tally → Tally →
+abbrev pub FillsOpenBody : {E : Type 0} → Machine → List ℕ → Machine → Counts → Counts →
     Result (Unit {0}) E → Type 0
-Fills old bytes new c d (Ok u) = Filled old bytes new c d
-Fills old bytes new c d (Err e) = (new ≡ old) × (d ≡ c)
+FillsOpenBody old bytes new c d (Ok u) = FilledOpenBody old bytes new c d
+FillsOpenBody old bytes new c d (Err e) = (new ≡ old) × (d ≡ c)

@@ -11,9 +11,9 @@ use Rattle.resp_parse.specs.Limited.{HasValue, HasFault, Awaits}
 
 -- why no value is read from all of the bytes
 pub data RefusesFirst (b : List ℕ) (e : RedisError) : Type 0 where
-  faulty : (f : FrameFault) → e ≡ form.Parse (parsing.Fault f) → HasFault usual b f →
+  malformed : (f : FrameFault) → e ≡ form.Parse (parsing.Fault f) → HasFault usual b f →
       RefusesFirst b e
-  unfinished : e ≡ form.Io UnexpectedEof → Awaits usual b → RefusesFirst b e
+  incomplete : e ≡ form.Io UnexpectedEof → Awaits usual b → RefusesFirst b e
   out_of_memory : e ≡ form.OutOfMemory → RefusesFirst b e
 
 -- the value at the start of the bytes, or why there is none

@@ -174,24 +174,24 @@ pub record Spelled (P : List ℕ → Value → Type 0) (b : List ℕ) (v : Value
   pub follows : Follows P (announced kind text) rest v
 
 -- the bytes spell the value, where d levels are left
-abbrev pub Good : ℕ → List ℕ → Value → Type 0
-Good zero b v = ⊥
-Good (suc d) b v = Spelled (Good d) b v
+abbrev pub WellFormed : ℕ → List ℕ → Value → Type 0
+WellFormed zero b v = ⊥
+WellFormed (suc d) b v = Spelled (WellFormed d) b v
 
 -- a body of n bytes, and then a byte that isn't CR, or CR and a byte that isn't LF
-pub data EndIsFaulty (n : ℕ) (rest : List ℕ) : Type 0 where
-  no_cr : (x : List ℕ) (c : ℕ) → length x ≡ n → c ≢ 13 → rest ≡ x ++ (c ∷ []) → EndIsFaulty n rest
+pub data EndIsMalformed (n : ℕ) (rest : List ℕ) : Type 0 where
+  no_cr : (x : List ℕ) (c : ℕ) → length x ≡ n → c ≢ 13 → rest ≡ x ++ (c ∷ []) → EndIsMalformed n rest
   no_lf : (x : List ℕ) (c : ℕ) → length x ≡ n → c ≢ 10 → rest ≡ x ++ (13 ∷ c ∷ []) →
-      EndIsFaulty n rest
+      EndIsMalformed n rest
 
--- a body of n bytes with a faulty end, or one of which the fault is made
-pub data BodyIsFaulty (n : ℕ) (make : List ℕ → Result Value FrameFault) (rest : List ℕ)
+-- a body of n bytes with a malformed end, or one of which the fault is made
+pub data BodyIsMalformed (n : ℕ) (make : List ℕ → Result Value FrameFault) (rest : List ℕ)
     (f : FrameFault) : Type 0 where
-  bad_end : f ≡ BodyEnd → EndIsFaulty n rest → BodyIsFaulty n make rest f
-  refused : BodyMakes n make rest (Err f) → BodyIsFaulty n make rest f
+  bad_end : f ≡ BodyEnd → EndIsMalformed n rest → BodyIsMalformed n make rest f
+  refused : BodyMakes n make rest (Err f) → BodyIsMalformed n make rest f
 
 -- fewer than n elements as P says, and then an element at fault as Q says
-pub record ElementIsFaulty (P : List ℕ → Value → Type 0) (Q : List ℕ → FrameFault → Type 0) (n : ℕ)
+pub record ElementIsMalformed (P : List ℕ → Value → Type 0) (Q : List ℕ → FrameFault → Type 0) (n : ℕ)
     (rest : List ℕ) (f : FrameFault) : Type 0 where
   pub values : List Value
   pub before : List ℕ
@@ -199,20 +199,20 @@ pub record ElementIsFaulty (P : List ℕ → Value → Type 0) (Q : List ℕ →
   pub fewer : length values < n
   pub whole : rest ≡ before ++ element
   pub joined : Joined P before values
-  pub faulty : Q element f
+  pub malformed : Q element f
 
--- a faulty element among the first n, or n elements of which the fault is made
-pub data ElementsAreFaulty (P : List ℕ → Value → Type 0) (Q : List ℕ → FrameFault → Type 0) (n : ℕ)
+-- a malformed element among the first n, or n elements of which the fault is made
+pub data ElementsAreMalformed (P : List ℕ → Value → Type 0) (Q : List ℕ → FrameFault → Type 0) (n : ℕ)
     (make : List Value → Result Value FrameFault) (rest : List ℕ) (f : FrameFault) : Type 0 where
-  bad_element : ElementIsFaulty P Q n rest f → ElementsAreFaulty P Q n make rest f
-  refused : ElementsMake P n make rest (Err f) → ElementsAreFaulty P Q n make rest f
+  bad_element : ElementIsMalformed P Q n rest f → ElementsAreMalformed P Q n make rest f
+  refused : ElementsMake P n make rest (Err f) → ElementsAreMalformed P Q n make rest f
 
 -- the bytes after a header end exactly where the fault shows
 abbrev pub FaultFollows : (List ℕ → Value → Type 0) → (List ℕ → FrameFault → Type 0) →
     Announcement → List ℕ → FrameFault → Type 0
 FaultFollows P Q (complete w) rest f = ⊥
-FaultFollows P Q (body n make) rest f = BodyIsFaulty n make rest f
-FaultFollows P Q (elements n make) rest f = ElementsAreFaulty P Q n make rest f
+FaultFollows P Q (body n make) rest f = BodyIsMalformed n make rest f
+FaultFollows P Q (elements n make) rest f = ElementsAreMalformed P Q n make rest f
 FaultFollows P Q (invalid g) rest f = (rest ≡ []) × (f ≡ g)
 
 -- the first byte of a value, where no level is left
@@ -231,7 +231,8 @@ pub data FaultShows (P : List ℕ → Value → Type 0) (Q : List ℕ → FrameF
   after_header : (kind : TypeByte) (text rest : List ℕ) → Header b kind text rest → IsUtf8 text →
       FaultFollows P Q (announced kind text) rest f → FaultShows P Q b f
 
--- the bytes are a faulty value's beginning, exactly up to where the fault shows; d levels are left
-abbrev pub Faulty : ℕ → List ℕ → FrameFault → Type 0
-Faulty zero b f = NoLevelLeft b f
-Faulty (suc d) b f = FaultShows (Good d) (Faulty d) b f
+-- the bytes are a malformed value's beginning, exactly up to where the fault shows; d levels are
+-- left
+abbrev pub Malformed : ℕ → List ℕ → FrameFault → Type 0
+Malformed zero b f = NoLevelLeft b f
+Malformed (suc d) b f = FaultShows (WellFormed d) (Malformed d) b f

@@ -5,17 +5,17 @@ use Rattle.resp_value.specs.declared.value.Value.{Value}
 use Rattle.resp_errors.specs.declared.kinds.FrameFault.{FrameFault}
 use Rattle.resp_errors.specs.declared.kinds.FrameFault.TheVariants.{TooLong}
 use Rattle.resp_parse.specs.declared.limits.Limits.{Limits}
-use Rattle.resp_parse.specs.Grammar.{Good, Joined}
-use Rattle.resp_parse.specs.Prefixes.{HasFaultyPrefix, FaultShownBy, IsUnfinished}
+use Rattle.resp_parse.specs.Grammar.{WellFormed, Joined}
+use Rattle.resp_parse.specs.Prefixes.{HasMalformedPrefix, FaultShownBy, IsIncomplete}
 
 -- the bytes spell the value, and are no more than it may have
-pub record GoodWithin (l : Limits) (b : List ℕ) (v : Value) : Type 0 where
-  pub good : Good l.depth b v
+pub record WellFormedWithin (l : Limits) (b : List ℕ) (v : Value) : Type 0 where
+  pub well_formed : WellFormed l.depth b v
   pub few : length b ≤ l.bytes
 
 -- the bytes spell the values, each within the limits, joined in order
 unfoldable pub ReadsWithin : Limits → List ℕ → List Value → Type 0
-ReadsWithin l b vs = Joined (GoodWithin l) b vs
+ReadsWithin l b vs = Joined (WellFormedWithin l) b vs
 
 -- the first bytes, as many as a value may have
 abbrev pub first_bytes : Limits → List ℕ → List ℕ
@@ -25,16 +25,16 @@ first_bytes l b = take l.bytes b
 pub record HasValue (l : Limits) (b : List ℕ) (v : Value) (rest : List ℕ) : Type 0 where
   pub prefix : List ℕ
   pub whole : b ≡ prefix ++ rest
-  pub good : GoodWithin l prefix v
+  pub well_formed : WellFormedWithin l prefix v
 
--- there are more bytes than a value may have, and those that it may have are unfinished
+-- there are more bytes than a value may have, and those that it may have are incomplete
 pub record PassesSize (l : Limits) (b : List ℕ) : Type 0 where
   pub more : l.bytes < length b
-  pub unfinished : IsUnfinished l.depth (first_bytes l b)
+  pub incomplete : IsIncomplete l.depth (first_bytes l b)
 
 -- among the bytes that a value may have the grammar's fault shows, or the value passes the limit
 pub data HasFault (l : Limits) (b : List ℕ) (f : FrameFault) : Type 0 where
-  within : HasFaultyPrefix l.depth (first_bytes l b) f → HasFault l b f
+  within : HasMalformedPrefix l.depth (first_bytes l b) f → HasFault l b f
   too_long : f ≡ TooLong → PassesSize l b → HasFault l b f
 
 -- the first n bytes end where a fault shows: that of a value that passes the limit, at the byte
@@ -46,7 +46,7 @@ pub data FaultShownAt (l : Limits) (b : List ℕ) (n : ℕ) : Type 0 where
 -- no prefix spells a value, none ends in a fault, and a value may have more: more bytes are awaited
 pub record Awaits (l : Limits) (b : List ℕ) : Type 0 where
   pub few : length b ≤ l.bytes
-  pub unfinished : IsUnfinished l.depth b
+  pub incomplete : IsIncomplete l.depth b
 
 -- what is found at the start of bytes
 pub data Found (l : Limits) (b : List ℕ) : Type 0 where

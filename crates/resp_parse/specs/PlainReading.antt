@@ -13,26 +13,26 @@ use Rattle.resp_parse.specs.Grammar.{Announcement, complete, body, elements, inv
 pub data ReadOutcome (A : Type 0) : Type 0 where
   got : A → List ℕ → ReadOutcome A
   fault : FrameFault → List ℕ → ReadOutcome A
-  unfinished : ReadOutcome A
+  incomplete : ReadOutcome A
 
 -- one reading after another
 abbrev pub then : {A B : Type 0} → ReadOutcome A → (A → List ℕ → ReadOutcome B) → ReadOutcome B
 then (got x rest) more = more x rest
 then (fault f rest) more = fault f rest
-then unfinished more = unfinished
+then incomplete more = incomplete
 
 -- the text up to the first CR LF
 abbrev pub line : List ℕ → ReadOutcome (List ℕ)
-line [] = unfinished
-line (b ∷ []) = unfinished
+line [] = incomplete
+line (b ∷ []) = incomplete
 line (b ∷ c ∷ bs) = cond ((b == 13) && (c == 10))
     (got [] bs)
     (then (line (c ∷ bs)) (λ text rest. got (b ∷ text) rest))
 
 -- the CR LF of a body
 abbrev pub end_of_body : List ℕ → ReadOutcome (List ℕ)
-end_of_body [] = unfinished
-end_of_body (b ∷ []) = cond (b == 13) unfinished (fault BodyEnd [])
+end_of_body [] = incomplete
+end_of_body (b ∷ []) = cond (b == 13) incomplete (fault BodyEnd [])
 end_of_body (b ∷ c ∷ bs) = cond (b == 13)
     (cond (c == 10) (got [] bs) (fault BodyEnd bs))
     (fault BodyEnd (c ∷ bs))
@@ -40,7 +40,7 @@ end_of_body (b ∷ c ∷ bs) = cond (b == 13)
 -- a body of n bytes, its CR LF included
 abbrev pub read_body : ℕ → List ℕ → ReadOutcome (List ℕ)
 read_body zero bs = end_of_body bs
-read_body (suc n) [] = unfinished
+read_body (suc n) [] = incomplete
 read_body (suc n) (b ∷ bs) = then (read_body n bs) (λ x rest. got (b ∷ x) rest)
 
 -- n elements
@@ -73,6 +73,6 @@ read_typed P None bs = fault UnknownType bs
 
 -- a value, where d levels are left
 abbrev pub read : ℕ → List ℕ → ReadOutcome Value
-read d [] = unfinished
+read d [] = incomplete
 read zero (c ∷ bs) = fault TooDeep bs
 read (suc d) (c ∷ bs) = read_typed (read d) (type_of c) bs

@@ -3,30 +3,31 @@
 use Rattle.std.specs.Prelude.{◌≡◌, ℕ, suc, ◌+◌, ◌-◌, ◌<◌, ◌≤◌, Bool, true, false, List, [], ◌∷◌, ◌++◌, length, take, drop, min, Option, None, Some, Result, Ok, Err}
 use Rattle.resp_value.specs.declared.value.Value.{Value}
 use Rattle.resp_errors.specs.declared.kinds.FrameFault.TheVariants.{BodyEnd}
-use Rattle.resp_parse.specs.declared.stop.Stop.{Stop}
-use Rattle.resp_parse.specs.declared.stop.Stop.TheVariants.{Memory, Fault}
-use Rattle.resp_parse.specs.declared.frames.Frame.{Frame}
+use Rattle.resp_parse.specs.declared.read_error.ReadError.{ReadError}
+use Rattle.resp_parse.specs.declared.read_error.ReadError.TheVariants.{Memory, Fault}
+use Rattle.resp_parse.specs.declared.open_aggregates.OpenAggregate.{OpenAggregate}
 use Rattle.resp_parse.specs.declared.machine.Body.{Body}
 use Rattle.resp_parse.specs.declared.machine.Machine.{Machine}
 use Rattle.resp_parse.specs.declared.machine.Step.{Step}
 use Rattle.resp_parse.specs.declared.machine.Step.TheVariants as step
 use Rattle.resp_parse.specs.Lines.{NoneBefore, Scanned}
 use Rattle.resp_parse.specs.Shapes.{body_value, elements_value}
-use Rattle.resp_parse.specs.PlainReading.{ReadOutcome, got, fault, unfinished, then, line, end_of_body, read_body, read_elements, made, read}
+use Rattle.resp_parse.specs.PlainReading.{ReadOutcome, got, fault, incomplete, then, line, end_of_body, read_body, read_elements, made, read}
 
--- how many of d levels are left inside these frames
-abbrev pub levels_left : ℕ → List Frame → ℕ
-levels_left d frames = d - length frames
+-- how many of d levels are left inside these aggregates
+abbrev pub depth_left : ℕ → List OpenAggregate → ℕ
+depth_left d open_aggregates = d - length open_aggregates
 
--- how many are left inside one frame more
-abbrev pub levels_below : ℕ → List Frame → ℕ
-levels_below d frames = d - suc (length frames)
+-- how many are left inside one aggregate more
+abbrev pub depth_below : ℕ → List OpenAggregate → ℕ
+depth_below d open_aggregates = d - suc (length open_aggregates)
 
--- where values are read down to d levels, a value is whole inside these frames, the innermost first
-abbrev pub place : ℕ → List Frame → Value → List ℕ → ReadOutcome Value
+-- where values are read down to d levels, a value is whole inside these aggregates, the innermost
+-- first
+abbrev pub place : ℕ → List OpenAggregate → Value → List ℕ → ReadOutcome Value
 place d [] v rest = got v rest
 place d (f ∷ fs) v rest =
-    then (read_elements (read (levels_below d fs)) f.after rest)
+    then (read_elements (read (depth_below d fs)) f.after rest)
     (λ vs after. then (made (elements_value f.kind (f.elements ++ (v ∷ vs))) after) (place d fs))
 
 -- the value in progress, where d levels are left
@@ -37,10 +38,10 @@ value_of d (Some b) more =
 
 abbrev pub resume : Machine → List ℕ → ReadOutcome Value
 resume m more =
-    then (value_of (levels_left m.levels m.frames) m.body more) (place m.levels m.frames)
+    then (value_of (depth_left m.depth m.open_aggregates) m.body more) (place m.depth m.open_aggregates)
 
--- no body and no frame is open
-abbrev pub fresh_of : Option Body → List Frame → Bool
+-- no body and no aggregate is open
+abbrev pub fresh_of : Option Body → List OpenAggregate → Bool
 fresh_of None [] = true
 fresh_of None (f ∷ fs) = false
 fresh_of (Some b) fs = false
@@ -55,31 +56,31 @@ IsScanned None n bytes = IsLooked bytes n
 IsScanned (Some b) n bytes = n ≡ 0
 
 -- reading is at fault at once, whatever bytes come; memory aside
-abbrev pub FaultsAtOnce : (List ℕ → ReadOutcome Value) → Stop → Type 0
+abbrev pub FaultsAtOnce : (List ℕ → ReadOutcome Value) → ReadError → Type 0
 FaultsAtOnce before Memory = Unit {0}
 FaultsAtOnce before (Fault f) = (more : List ℕ) → before more ≡ fault f more
 
 -- the first n bytes show a fault, whatever bytes come after; memory aside
-abbrev pub FaultsWithin : (List ℕ → ReadOutcome Value) → List ℕ → ℕ → Stop → Type 0
+abbrev pub FaultsWithin : (List ℕ → ReadOutcome Value) → List ℕ → ℕ → ReadError → Type 0
 FaultsWithin before bytes n Memory = Unit {0}
 FaultsWithin before bytes n (Fault f) = (n ≤ length bytes)
     × ((more : List ℕ) → before (bytes ++ more) ≡ fault f (drop n bytes ++ more))
 
--- from `before`, by the bytes that come, the machine has come to `new`, and a body or a frame is
--- open; with Some, the value in progress is whole
-abbrev pub Goes : (List ℕ → ReadOutcome Value) → Machine → Result (Option Value) Stop → Type 0
+-- from `before`, by the bytes that come, the machine has come to `new`, and a body or an aggregate
+-- is open; with Some, the value in progress is whole
+abbrev pub Goes : (List ℕ → ReadOutcome Value) → Machine → Result (Option Value) ReadError → Type 0
 Goes before new (Ok None) =
-    ((more : List ℕ) → before more ≡ resume new more) × (fresh_of new.body new.frames ≡ false)
+    ((more : List ℕ) → before more ≡ resume new more) × (fresh_of new.body new.open_aggregates ≡ false)
 Goes before new (Ok (Some v)) =
-    ((more : List ℕ) → before more ≡ place new.levels new.frames v more) × (new.body ≡ None)
+    ((more : List ℕ) → before more ≡ place new.depth new.open_aggregates v more) × (new.body ≡ None)
 Goes before new (Err e) = FaultsAtOnce before e
 
 -- the same, with Some where the outermost value is whole
-abbrev pub Ends : (List ℕ → ReadOutcome Value) → Machine → Result (Option Value) Stop → Type 0
+abbrev pub Ends : (List ℕ → ReadOutcome Value) → Machine → Result (Option Value) ReadError → Type 0
 Ends before new (Ok None) =
-    ((more : List ℕ) → before more ≡ resume new more) × (fresh_of new.body new.frames ≡ false)
+    ((more : List ℕ) → before more ≡ resume new more) × (fresh_of new.body new.open_aggregates ≡ false)
 Ends before new (Ok (Some v)) =
-    ((more : List ℕ) → before more ≡ got v more) × (fresh_of new.body new.frames ≡ true)
+    ((more : List ℕ) → before more ≡ got v more) × (fresh_of new.body new.open_aggregates ≡ true)
 Ends before new (Err e) = FaultsAtOnce before e
 
 -- the length of the first line's text, or none
@@ -92,7 +93,7 @@ FindsLine bs None = NoneBefore bs (length bs)
 abbrev pub EndsBody : List ℕ → Result Bool ℕ → Type 0
 EndsBody bs (Ok true) =
     (2 ≤ length bs) × ((more : List ℕ) → end_of_body (bs ++ more) ≡ got [] (drop 2 bs ++ more))
-EndsBody bs (Ok false) = end_of_body bs ≡ unfinished
+EndsBody bs (Ok false) = end_of_body bs ≡ incomplete
 EndsBody bs (Err n) = (n ≤ length bs)
     × ((more : List ℕ) → end_of_body (bs ++ more) ≡ fault BodyEnd (drop n bs ++ more))
 
@@ -106,13 +107,13 @@ FillsBody old bytes new (Err e) = new ≡ old
 pub record Waits (old : Machine) (bytes : List ℕ) (new : Machine) (n : ℕ) : Type 0 where
   pub within : n ≤ length bytes
   pub same : (more : List ℕ) → resume old (bytes ++ more) ≡ resume new (drop n bytes ++ more)
-  pub waits : resume new (drop n bytes) ≡ unfinished
+  pub waits : resume new (drop n bytes) ≡ incomplete
   pub scanned : IsScanned new.body new.scanned (drop n bytes)
-  pub fresh : fresh_of new.body new.frames ≡ true → n ≡ 0
-  pub begun : n ≡ 0 → fresh_of new.body new.frames ≡ fresh_of old.body old.frames
+  pub fresh : fresh_of new.body new.open_aggregates ≡ true → n ≡ 0
+  pub begun : n ≡ 0 → fresh_of new.body new.open_aggregates ≡ fresh_of old.body old.open_aggregates
 
 -- n bytes were taken, one at least
-pub record Takes (old : Machine) (bytes : List ℕ) (new : Machine)
+pub record Consumes (old : Machine) (bytes : List ℕ) (new : Machine)
     (after : List ℕ → ReadOutcome Value) (n : ℕ) : Type 0 where
   pub some : 0 < n
   pub within : n ≤ length bytes
@@ -120,24 +121,24 @@ pub record Takes (old : Machine) (bytes : List ℕ) (new : Machine)
   pub scanned : new.scanned ≡ 0
 
 -- what one step does
-abbrev pub Steps : Machine → List ℕ → Machine → Result Step Stop → Type 0
+abbrev pub Steps : Machine → List ℕ → Machine → Result Step ReadError → Type 0
 Steps old bytes new (Ok (step.Waits n)) = Waits old bytes new n
 Steps old bytes new (Ok (step.Goes n)) =
-    Takes old bytes new (resume new) n × (fresh_of new.body new.frames ≡ false)
+    Consumes old bytes new (resume new) n × (fresh_of new.body new.open_aggregates ≡ false)
 Steps old bytes new (Ok (step.Whole n v)) =
-    Takes old bytes new (place new.levels new.frames v) n × (new.body ≡ None)
+    Consumes old bytes new (place new.depth new.open_aggregates v) n × (new.body ≡ None)
 Steps old bytes new (Err e) = FaultsWithin (resume old) bytes new.shown e
 
 -- a value was read, and n bytes taken
-pub record Reads (old : Machine) (bytes : List ℕ) (new : Machine) (n : ℕ) (v : Value) : Type 0 where
+pub record Completes (old : Machine) (bytes : List ℕ) (new : Machine) (n : ℕ) (v : Value) : Type 0 where
   pub within : n ≤ length bytes
   pub same : (more : List ℕ) → resume old (bytes ++ more) ≡ got v (drop n bytes ++ more)
-  pub fresh : fresh_of new.body new.frames ≡ true
+  pub fresh : fresh_of new.body new.open_aggregates ≡ true
   pub scanned : new.scanned ≡ 0
 
 -- what all steps do until a value is whole or more bytes are needed
-abbrev pub Drives : Machine → List ℕ → Machine → Result (ℕ × Option Value) Stop → Type 0
-Drives old bytes new (Ok (n, Some v)) = Reads old bytes new n v
-Drives old bytes new (Ok (n, None)) = Waits old bytes new n
-Drives old bytes new (Err e) =
+abbrev pub Runs : Machine → List ℕ → Machine → Result (ℕ × Option Value) ReadError → Type 0
+Runs old bytes new (Ok (n, Some v)) = Completes old bytes new n v
+Runs old bytes new (Ok (n, None)) = Waits old bytes new n
+Runs old bytes new (Err e) =
     FaultsWithin (resume old) bytes new.shown e × (0 < length bytes)

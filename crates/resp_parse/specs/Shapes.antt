@@ -11,8 +11,8 @@ use Rattle.resp_parse.specs.declared.shape.ElementsKind.{ElementsKind}
 use Rattle.resp_parse.specs.declared.shape.ElementsKind.TheVariants as elements_kind
 use Rattle.resp_parse.specs.declared.shape.Shape.{Shape}
 use Rattle.resp_parse.specs.declared.shape.Shape.TheVariants.{Whole, Body, Elements}
-use Rattle.resp_parse.specs.declared.stop.Stop.{Stop}
-use Rattle.resp_parse.specs.declared.stop.Stop.TheVariants.{Memory, Fault}
+use Rattle.resp_parse.specs.declared.read_error.ReadError.{ReadError}
+use Rattle.resp_parse.specs.declared.read_error.ReadError.TheVariants.{Memory, Fault}
 use Rattle.resp_parse.specs.Grammar.{Announcement, complete, body, elements, invalid, bulk_error, verbatim, attribute, push, announced}
 use Rattle.resp_value.specs.Views.{pairs}
 
@@ -41,7 +41,7 @@ abbrev pub announced_in_line : TypeByte → List ℕ → Announcement
 announced_in_line kind line = cond (is_utf8 line) (announced kind line) (invalid LineNotUtf8)
 
 -- the shape is what the line announces, or the fault is; memory aside
-abbrev pub Announces : Result Shape Stop → Announcement → Type 0
+abbrev pub Announces : Result Shape ReadError → Announcement → Type 0
 Announces (Ok shape) a = a ≡ announcement_of shape
 Announces (Err Memory) a = Unit {0}
 Announces (Err (Fault f)) a = a ≡ invalid f

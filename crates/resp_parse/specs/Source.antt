@@ -17,8 +17,8 @@ source_of known count = record {
 }
 
 -- these are the source's next bytes, and it has the others left, where it is observable
-abbrev pub Came : Source → List ℕ → Source → Type 0
-Came s taken t = s.observable ≡ true → s.bytes ≡ taken ++ t.bytes
+abbrev pub SourceGave : Source → List ℕ → Source → Type 0
+SourceGave s taken t = s.observable ≡ true → s.bytes ≡ taken ++ t.bytes
 
 -- one more failure, up to the greatest number of 64 bits
 abbrev pub FailureCounted : ℕ → ℕ → Type 0

@@ -1,7 +1,7 @@
 -- What a parser holds.
 use Rattle.std.specs.Prelude.{◌≡◌, ℕ, Bool, true, false, List, codes, Option, None, IsSome, Result, Ok, Err}
 use Rattle.std.proofs.Props.{props}
-use Rattle.resp_parse.specs.Tally.{Tally}
+use Rattle.resp_parse.specs.Counts.{Counts}
 use Rattle.resp_parse.specs.declared.limits.Limits.{Limits}
 use Rattle.resp_errors.specs.declared.parsing_error.ParsingError.TheVariants as parsing
 use Rattle.resp_errors.specs.declared.redis_error.RedisError.{RedisError}
@@ -9,9 +9,9 @@ use Rattle.resp_errors.specs.declared.redis_error.RedisError.TheVariants as form
 
 -- the limits on what is read as a value; the bytes that are buffered and not yet parsed, and how
 -- many of them were looked at; those since the last value that was handed out; whether the parser
--- has failed, and after how many of these bytes a fault showed, if one was answered; how many frames
--- are open, of aggregates whose header was read and whose elements aren't all there; of how many
--- values these elements are built; and what the parser has done
+-- has failed, and after how many of these bytes a fault showed, if one was answered; how many
+-- aggregates are open, of aggregates whose header was read and whose elements aren't all there; of
+-- how many values these elements are built; and what the parser has done
 pub record State : Type 0 where
   pub limits : Limits
   pub unparsed : List ℕ
@@ -19,9 +19,9 @@ pub record State : Type 0 where
   pub since : List ℕ
   pub failed : Bool
   pub fault_offset : Option ℕ
-  pub frames : ℕ
+  pub open_aggregates : ℕ
   pub built : ℕ
-  pub counts : Tally
+  pub counts : Counts
 
 -- the parser works, and b are the bytes since the last value that it handed out
 unfoldable pub StandsAfter : State → List ℕ → Type 0

@@ -3,11 +3,11 @@
 ghost use Rattle.std.specs.Prelude.{ℕ, List, length, ◌*◌, ◌≤◌};
 ghost use Rattle.resp_value.specs.declared.value.Value.{Value};
 ghost use Rattle.resp_parse.specs.Built.{built};
-ghost use Rattle.resp_parse.specs.Grammar.{Good};
+ghost use Rattle.resp_parse.specs.Grammar.{WellFormed};
 ghost use Rattle.resp_parse.specs.declared.limits.Limits.{Limits};
 ghost use Rattle.resp_parse.specs.Limited.{Found, OneReading};
 ghost use Rattle.resp_parse.specs.Laws.{Completion, LawOfPrefixes, MoreLevels};
-ghost use Rattle.resp_parse.specs.Prefixes.{IsUnfinished};
+ghost use Rattle.resp_parse.specs.Prefixes.{IsIncomplete};
 
 /// Bytes have at most one reading, however they go on.
 ///
@@ -17,16 +17,16 @@ pub fn law_of_prefixes()
     ensures law { (d : ℕ) (a x b y : List ℕ) → LawOfPrefixes d a x b y }
 {}
 
-/// Unfinished bytes never stay unfinished whatever follows: of any that are, at each number of
+/// Incomplete bytes never stay incomplete whatever follows: of any that are, at each number of
 /// levels, some go on to where a fault shows. So a parser that waits for more waits for something.
 pub fn law_of_completion()
-    ensures law { (d : ℕ) (b : List ℕ) → IsUnfinished d b → Completion d b }
+    ensures law { (d : ℕ) (b : List ℕ) → IsIncomplete d b → Completion d b }
 {}
 
 /// A value is built of at most one third as many values as it has bytes, itself and the first
 /// elements of pushes among them, whatever lengths its headers announce.
 pub fn law_of_sizes()
-    ensures law { (d : ℕ) (b : List ℕ) (v : Value) → Good d b v → 3 * built v ≤ length b }
+    ensures law { (d : ℕ) (b : List ℕ) (v : Value) → WellFormed d b v → 3 * built v ≤ length b }
 {}
 
 /// What is read within a limit on the levels, and isn't too deep, is read the same within a higher.

@@ -1,26 +1,26 @@
 #![tactic(auto)]
 //! Reading replies of a RESP server (RESP2 and RESP3) from bytes.
 
-mod counts;
+mod bytes_since_value;
+mod counter;
 mod double;
-mod frames;
 pub mod laws;
 mod limits;
 mod line;
 mod machine;
 mod number;
+mod open_aggregates;
 mod parser;
 mod prefix;
-mod reading;
+mod read_error;
+mod reader_source;
 mod shape;
-mod since;
 mod source;
-mod stop;
 mod type_byte;
 mod value_of;
 
 pub use limits::Limits;
 pub use parser::Parser;
 pub use prefix::parse_redis_value;
-pub use reading::Reading;
+pub use reader_source::Reading;
 pub use source::ReplySource;

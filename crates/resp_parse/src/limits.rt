@@ -8,10 +8,10 @@ ghost use Rattle.resp_parse.specs.Limits.{AreLimits, RefusesLimits, usual};
 use resp_value::{ErrorKind, ExactClone, RedisError, RedisResult, StructuralEq};
 
 /// The limit on the depth where none is chosen.
-pub(crate) const LEVELS: usize = 100;
+pub(crate) const USUAL_DEPTH: usize = 100;
 
 /// The greatest limit on the depth.
-const MOST_LEVELS: usize = 1000;
+const MOST_DEPTH: usize = 1000;
 
 /// The greatest limit on the size, and the one where none is chosen.
 pub(crate) const LONGEST: usize = isize::MAX as usize;
@@ -19,8 +19,8 @@ pub(crate) const LONGEST: usize = isize::MAX as usize;
 /// How deep and how long a value may be that is read.
 ///
 /// A peer that goes on sending makes a parser hold the value in progress, in more memory than it
-/// has bytes: a null takes three bytes to send and as many to keep as a [`Value`](resp_value::Value) has. So whoever
-/// reads from strangers chooses limits.
+/// has bytes: a null takes three bytes to send and as many to keep as a
+/// [`Value`](resp_value::Value) has. So whoever reads from strangers chooses limits.
 #[derive(Clone, Copy, PartialEq, Eq, Debug)]
 pub struct Limits {
     /// How many levels of values inside values are read, the outermost being the first: 1 to 1,000.
@@ -37,7 +37,7 @@ impl Default for Limits {
         ensures { result ≡ usual }
     {
         Limits {
-            depth: LEVELS,
+            depth: USUAL_DEPTH,
             bytes: LONGEST,
         }
     }
@@ -49,7 +49,7 @@ impl Limits {
         ensures accepts { IsOk result ↔ AreLimits self }
         ensures error { IfErr result (RefusesLimits self) }
     {
-        if self.depth == 0 || self.depth > MOST_LEVELS {
+        if self.depth == 0 || self.depth > MOST_DEPTH {
             return Err(RedisError::from((
                 ErrorKind::InvalidClientConfig,
                 "depth limit must be 1 to 1000",

@@ -2,12 +2,12 @@
 
 ghost use Rattle.resp_parse.specs.Lines.{Scanned};
 ghost use Rattle.resp_parse.specs.Resume.{FindsLine, EndsBody};
-ghost use Rattle.resp_parse.specs.Weights.{LooksAt};
+ghost use Rattle.resp_parse.specs.Costs.{LooksAt};
 
-use crate::counts::Counts;
+use crate::counter::Counter;
 
 /// The length of the text up to the first CR LF, where the first `scanned` bytes hold none.
-pub(crate) fn line_end(bytes: &[u8], scanned: usize, counts: &mut Counts) -> Option<usize>
+pub(crate) fn line_end(bytes: &[u8], scanned: usize, counts: &mut Counter) -> Option<usize>
     requires scanned { Scanned bytes.now scanned }
     ensures line { FindsLine bytes.now result }
     ensures looks { LooksAt scanned bytes.now counts.old counts.new result }

@@ -1,23 +1,23 @@
 //! The reading of a value, which stops where the bytes end and goes on from there.
 
 ghost use Rattle.std.specs.Prelude.{◌≡◌, ◌<◌, ◌≤◌, ◌+◌, ◌*◌, [], length, true, IfOk};
-ghost use Rattle.resp_parse.specs.declared.stop.Stop.{Stop};
+ghost use Rattle.resp_parse.specs.declared.read_error.ReadError.{ReadError};
 ghost use Rattle.std.specs.Prelude.{None};
 ghost use Rattle.resp_parse.specs.PlainReading.{then, read_announced, read};
 ghost use Rattle.resp_parse.specs.Shapes.{announced_in_line, body_value};
 ghost use Rattle.resp_parse.specs.Computes.{Computes};
 ghost use Rattle.resp_parse.specs.Resume.{place, resume, fresh_of, IsScanned, Goes, Ends, Steps};
-ghost use Rattle.resp_parse.specs.Resume.{Drives, FillsBody, levels_below};
-ghost use Rattle.resp_parse.specs.Filling.{lacks_of, Fills};
+ghost use Rattle.resp_parse.specs.Resume.{Runs, FillsBody, depth_below};
+ghost use Rattle.resp_parse.specs.Filling.{lacks_of, FillsOpenBody};
 ghost use Rattle.resp_parse.specs.Built.{built};
-ghost use Rattle.resp_parse.specs.Weights.{weight, Weighs, StepWeighs, DriveWeighs, Places, Begins};
-ghost use Rattle.resp_parse.specs.Weights.{HeaderPays, StepPays, DrivePays};
+ghost use Rattle.resp_parse.specs.Costs.{least_bytes, BuiltWithin, StepBuiltWithin, RunBuiltWithin, Places, Begins};
+ghost use Rattle.resp_parse.specs.Costs.{HeaderCost, StepCost, RunCost};
 
-use crate::counts::Counts;
-use crate::frames::{Added, Frame, Frames};
+use crate::counter::Counter;
 use crate::line::{body_ends, line_end};
+use crate::open_aggregates::{Added, OpenAggregate, OpenAggregates};
+use crate::read_error::ReadError;
 use crate::shape::{BodyKind, Shape, shape_of};
-use crate::stop::Stop;
 use crate::type_byte::TypeByte;
 use resp_value::{FrameFault, Items, Value};
 use std::alloc::{AllocError, Global};
@@ -44,7 +44,7 @@ impl Body {
     }
 
     /// The value of the body, which hands out its bytes.
-    fn value(&mut self, alloc: Global) -> Result<Value, Stop>
+    fn value(&mut self, alloc: Global) -> Result<Value, ReadError>
         ensures value { Computes result (body_value self.old.kind self.old.bytes) }
     {
         let bytes = mem::replace(&mut self.bytes, Items::new(alloc));
@@ -82,8 +82,8 @@ pub(crate) enum Step {
 #[derive(Drop)]
 pub(crate) struct Machine {
     /// How many levels of values inside values are read.
-    pub(crate) levels: usize,
-    pub(crate) frames: Frames,
+    pub(crate) depth: usize,
+    pub(crate) open_aggregates: OpenAggregates,
     pub(crate) body: Option<Body>,
     /// How many bytes of the line in progress were looked at; they hold no CR LF.
     pub(crate) scanned: usize,
@@ -93,14 +93,14 @@ pub(crate) struct Machine {
 
 impl Machine {
     /// Nothing was read. Takes no memory.
-    pub(crate) fn new(alloc: Global, levels: usize) -> Machine
-        ensures limit { result.levels ≡ levels }
-        ensures fresh { fresh_of result.body result.frames ≡ true }
+    pub(crate) fn new(alloc: Global, depth: usize) -> Machine
+        ensures limit { result.depth ≡ depth }
+        ensures fresh { fresh_of result.body result.open_aggregates ≡ true }
         ensures scanned { result.scanned ≡ 0 }
     {
         Machine {
-            levels,
-            frames: Frames::new(alloc),
+            depth,
+            open_aggregates: OpenAggregates::new(alloc),
             body: None,
             scanned: 0,
             shown: 0,
@@ -109,13 +109,13 @@ impl Machine {
 
     /// Whether no value is in progress, but for a line's beginning that wasn't taken.
     pub(crate) fn is_fresh(&self) -> bool
-        ensures { result ≡ fresh_of self.now.body self.now.frames }
+        ensures { result ≡ fresh_of self.now.body self.now.open_aggregates }
     {
-        self.body.is_none() && self.frames.len() == 0
+        self.body.is_none() && self.open_aggregates.len() == 0
     }
 
     /// Says why reading stops, and keeps how many bytes show it.
-    fn stop(&mut self, why: Stop, shown: usize) -> Stop
+    fn record_fault(&mut self, why: ReadError, shown: usize) -> ReadError
         ensures why { result ≡ why }
         ensures shown { self.new ≡ record self.old { shown = shown } }
     {
@@ -131,20 +131,20 @@ impl Machine {
         kind: TypeByte,
         line: &[u8],
         at_hand: usize,
-        counts: &mut Counts,
-    ) -> Result<Option<Value>, Stop>
+        counts: &mut Counter,
+    ) -> Result<Option<Value>, ReadError>
         requires no_body { self.old.body ≡ None }
-        requires level { length self.old.frames < self.old.levels }
+        requires level { length self.old.open_aggregates < self.old.depth }
         ensures goes { Goes (λ more. then (read_announced
-            (read (levels_below self.old.levels self.old.frames))
+            (read (depth_below self.old.depth self.old.open_aggregates))
             (announced_in_line kind line.now) more)
-            (place self.old.levels self.old.frames)) self.new result }
-        ensures limit { self.new.levels ≡ self.old.levels }
-        ensures levels { length self.new.frames ≤ self.new.levels }
+            (place self.old.depth self.old.open_aggregates)) self.new result }
+        ensures limit { self.new.depth ≡ self.old.depth }
+        ensures depth { length self.new.open_aggregates ≤ self.new.depth }
         ensures scanned { self.new.scanned ≡ self.old.scanned }
-        ensures weighs { Weighs self.new (3 + weight self.old) result }
+        ensures built_within { BuiltWithin self.new (3 + least_bytes self.old) result }
         ensures begins { Begins self.old self.new counts.old counts.new result }
-        ensures turns { counts.new ≡ record counts.old { turns = counts.new.turns } }
+        ensures iterations { counts.new ≡ record counts.old { iterations = counts.new.iterations } }
     {
         match shape_of(alloc, kind, line)? {
             Shape::Whole(value) => Ok(Some(value)),
@@ -158,7 +158,7 @@ impl Machine {
             }
             Shape::Elements(kind, 0) => { Ok(Some(kind.value(alloc, Items::new(alloc), counts)?)) }
             Shape::Elements(kind, count) => {
-                self.frames.push(Frame {
+                self.open_aggregates.push(OpenAggregate {
                     kind,
                     after: count - 1,
                     elements: room_for(alloc, count, at_hand)?,
@@ -169,67 +169,75 @@ impl Machine {
     }
 
     /// Reads the header at the start of the bytes.
-    fn header(&mut self, alloc: Global, bytes: &[u8], counts: &mut Counts) -> Result<Step, Stop>
+    fn header(
+        &mut self,
+        alloc: Global,
+        bytes: &[u8],
+        counts: &mut Counter,
+    ) -> Result<Step, ReadError>
         requires no_body { self.old.body ≡ None }
-        requires levels { length self.old.frames ≤ self.old.levels }
+        requires depth { length self.old.open_aggregates ≤ self.old.depth }
         requires scanned { IsScanned self.old.body self.old.scanned bytes.now }
         ensures steps { Steps self.old bytes.now self.new result }
-        ensures limit { self.new.levels ≡ self.old.levels }
-        ensures levels { length self.new.frames ≤ self.new.levels }
-        ensures weighs { StepWeighs self.old self.new result }
-        ensures pays { HeaderPays self.old self.new bytes.now counts.old counts.new result }
+        ensures limit { self.new.depth ≡ self.old.depth }
+        ensures depth { length self.new.open_aggregates ≤ self.new.depth }
+        ensures built_within { StepBuiltWithin self.old self.new result }
+        ensures cost { HeaderCost self.old self.new bytes.now counts.old counts.new result }
     {
         let Some((first, after)) = bytes.split_first() else {
             return Ok(Step::Waits(0));
         };
-        if self.frames.len() == self.levels {
-            return Err(self.stop(Stop::Fault(FrameFault::TooDeep), 1));
+        if self.open_aggregates.len() == self.depth {
+            return Err(self.record_fault(ReadError::Fault(FrameFault::TooDeep), 1));
         }
         let Some(kind) = TypeByte::from_byte(*first) else {
-            return Err(self.stop(Stop::Fault(FrameFault::UnknownType), 1));
+            return Err(self.record_fault(ReadError::Fault(FrameFault::UnknownType), 1));
         };
         let Some(len) = line_end(after, self.scanned.saturating_sub(1), counts) else {
-            counts.take(bytes.len() - self.scanned);
+            counts.examine(bytes.len() - self.scanned);
             self.scanned = bytes.len();
             return Ok(Step::Waits(0));
         };
-        counts.take(len + 3 - self.scanned);
+        counts.examine(len + 3 - self.scanned);
         self.scanned = 0;
         let at_hand = after.len() - (len + 2);
         match self.begin(alloc, kind, &after[..len], at_hand, counts) {
             Ok(Some(value)) => Ok(Step::Whole(len + 3, value)),
             Ok(None) => Ok(Step::Goes(len + 3)),
-            Err(why) => Err(self.stop(why, len + 3)),
+            Err(why) => Err(self.record_fault(why, len + 3)),
         }
     }
 
     /// Takes a header, or goes on in a body.
-    fn step(&mut self, alloc: Global, bytes: &[u8], counts: &mut Counts) -> Result<Step, Stop>
-        requires levels { length self.old.frames ≤ self.old.levels }
+    fn step(&mut self, alloc: Global, bytes: &[u8], counts: &mut Counter) -> Result<Step, ReadError>
+        requires depth { length self.old.open_aggregates ≤ self.old.depth }
         requires scanned { IsScanned self.old.body self.old.scanned bytes.now }
         ensures steps { Steps self.old bytes.now self.new result }
-        ensures limit { self.new.levels ≡ self.old.levels }
-        ensures levels { length self.new.frames ≤ self.new.levels }
-        ensures weighs { StepWeighs self.old self.new result }
-        ensures pays { StepPays self.old self.new bytes.now counts.old counts.new result }
+        ensures limit { self.new.depth ≡ self.old.depth }
+        ensures depth { length self.new.open_aggregates ≤ self.new.depth }
+        ensures built_within { StepBuiltWithin self.old self.new result }
+        ensures cost { StepCost self.old self.new bytes.now counts.old counts.new result }
     {
-        counts.turn();
+        counts.iterate();
         let Some(body) = &mut self.body else {
             return self.header(alloc, bytes, counts);
         };
         let taken = body.fill(bytes)?;
-        counts.take(taken);
+        counts.examine(taken);
         match body_ends(&bytes[taken..]) {
             Ok(true) => {}
             Ok(false) => return Ok(Step::Waits(taken)),
-            Err(shown) => return Err(self.stop(Stop::Fault(FrameFault::BodyEnd), taken + shown)),
+            Err(shown) => return Err(self.record_fault(
+                ReadError::Fault(FrameFault::BodyEnd),
+                taken + shown,
+            )),
         }
-        counts.take(2);
+        counts.examine(2);
         let value = body.value(alloc);
         self.body = None;
         match value {
             Ok(value) => Ok(Step::Whole(taken + 2, value)),
-            Err(why) => Err(self.stop(why, taken + 2)),
+            Err(why) => Err(self.record_fault(why, taken + 2)),
         }
     }
 
@@ -244,9 +252,9 @@ impl Machine {
     }
 
     /// Takes bytes that the open body lacks.
-    pub(crate) fn fill(&mut self, bytes: &[u8], counts: &mut Counts) -> Result<(), AllocError>
+    pub(crate) fn fill(&mut self, bytes: &[u8], counts: &mut Counter) -> Result<(), AllocError>
         requires lacks { length bytes.now ≤ lacks_of self.old.body }
-        ensures fills { Fills self.old bytes.now self.new counts.old counts.new result }
+        ensures fills { FillsOpenBody self.old bytes.now self.new counts.old counts.new result }
     {
         if bytes.is_empty() {
             return Ok(());
@@ -255,53 +263,53 @@ impl Machine {
             return Ok(());
         };
         let taken = body.fill(bytes)?;
-        counts.turn();
-        counts.take(taken);
+        counts.iterate();
+        counts.examine(taken);
         Ok(())
     }
 
-    /// Puts a whole value where it belongs; Some is one that stands in no frame.
-    fn settle(
+    /// Puts a whole value where it belongs; Some is one that stands in no aggregate.
+    fn attach(
         &mut self,
         alloc: Global,
         value: Value,
-        counts: &mut Counts,
-    ) -> Result<Option<Value>, Stop>
+        counts: &mut Counter,
+    ) -> Result<Option<Value>, ReadError>
         requires no_body { self.old.body ≡ None }
-        requires levels { length self.old.frames ≤ self.old.levels }
-        ensures ends { Ends (place self.old.levels self.old.frames value) self.new result }
-        ensures limit { self.new.levels ≡ self.old.levels }
-        ensures levels { length self.new.frames ≤ self.new.levels }
+        requires depth { length self.old.open_aggregates ≤ self.old.depth }
+        ensures ends { Ends (place self.old.depth self.old.open_aggregates value) self.new result }
+        ensures limit { self.new.depth ≡ self.old.depth }
+        ensures depth { length self.new.open_aggregates ≤ self.new.depth }
         ensures scanned { self.new.scanned ≡ self.old.scanned }
-        ensures weighs { Weighs self.new (weight self.old + 3 * built value) result }
+        ensures built_within { BuiltWithin self.new (least_bytes self.old + 3 * built value) result }
         ensures places { Places self.old self.new counts.old counts.new result }
-        ensures turns { counts.new ≡ record counts.old { turns = counts.new.turns } }
+        ensures iterations { counts.new ≡ record counts.old { iterations = counts.new.iterations } }
     {
         let mut value = value;
         loop {
-            counts.turn();
-            match self.frames.add(alloc, value)? {
+            counts.iterate();
+            match self.open_aggregates.add(alloc, value)? {
                 Added::Outermost(value) => return Ok(Some(value)),
-                Added::Kept => return Ok(None),
+                Added::StillOpen => return Ok(None),
                 Added::Closed(kind, elements) => value = kind.value(alloc, elements, counts)?,
             }
         }
     }
 
     /// Goes on until a value is whole or more bytes are needed; answers how many it took.
-    pub(crate) fn drive(
+    pub(crate) fn run(
         &mut self,
         alloc: Global,
         bytes: &[u8],
-        counts: &mut Counts,
-    ) -> Result<(usize, Option<Value>), Stop>
-        requires levels { length self.old.frames ≤ self.old.levels }
+        counts: &mut Counter,
+    ) -> Result<(usize, Option<Value>), ReadError>
+        requires depth { length self.old.open_aggregates ≤ self.old.depth }
         requires scanned { IsScanned self.old.body self.old.scanned bytes.now }
-        ensures drives { Drives self.old bytes.now self.new result }
-        ensures limit { self.new.levels ≡ self.old.levels }
-        ensures levels { length self.new.frames ≤ self.new.levels }
-        ensures weighs { DriveWeighs self.old self.new result }
-        ensures pays { DrivePays self.old self.new bytes.now counts.old counts.new result }
+        ensures runs { Runs self.old bytes.now self.new result }
+        ensures limit { self.new.depth ≡ self.old.depth }
+        ensures depth { length self.new.open_aggregates ≤ self.new.depth }
+        ensures built_within { RunBuiltWithin self.old self.new result }
+        ensures cost { RunCost self.old self.new bytes.now counts.old counts.new result }
     {
         let mut at = 0;
         while at < bytes.len() {
@@ -310,16 +318,16 @@ impl Machine {
                 Ok(Step::Goes(taken)) => at += taken,
                 Ok(Step::Whole(taken, value)) => {
                     at += taken;
-                    match self.settle(alloc, value, counts) {
+                    match self.attach(alloc, value, counts) {
                         Ok(Some(value)) => return Ok((at, Some(value))),
                         Ok(None) => {}
-                        Err(why) => return Err(self.stop(why, at)),
+                        Err(why) => return Err(self.record_fault(why, at)),
                     }
                 }
-                Err(Stop::Memory) => return Err(Stop::Memory),
-                Err(Stop::Fault(fault)) => {
+                Err(ReadError::Memory) => return Err(ReadError::Memory),
+                Err(ReadError::Fault(fault)) => {
                     let shown = at + self.shown;
-                    return Err(self.stop(Stop::Fault(fault), shown));
+                    return Err(self.record_fault(ReadError::Fault(fault), shown));
                 }
             }
         }

@@ -7,18 +7,18 @@ ghost use Rattle.resp_parse.specs.State.{KeepsFaultOffset};
 ghost use Rattle.resp_parse.specs.Limits.{AreLimits, IsDepthLimit, IsSizeLimit, RefusesLimits};
 ghost use Rattle.resp_parse.specs.Limits.{depth_refused, of_depth, usual};
 ghost use Rattle.resp_parse.specs.Limited.{FaultShownAt};
-ghost use Rattle.resp_parse.specs.Kept.{PassesLimit};
+ghost use Rattle.resp_parse.specs.Invariant.{PassesLimit};
 ghost use Rattle.resp_parse.specs.Calls.{Feeds, Takes, Asks, Parses, ParsesReader};
 ghost use Rattle.resp_parse.specs.Bounds.{Bounded, FedBy, OneCall, CallsWithin, AskedFor};
-ghost use Rattle.resp_parse.specs.Tally.{nothing_done};
+ghost use Rattle.resp_parse.specs.Counts.{nothing_done};
 
-use crate::counts::Counts;
+use crate::bytes_since_value::BytesSinceValue;
+use crate::counter::Counter;
 use crate::limits::{LONGEST, Limits};
 use crate::machine::Machine;
-use crate::reading::Reading;
-use crate::since::Since;
+use crate::read_error::ReadError;
+use crate::reader_source::Reading;
 use crate::source::ReplySource;
-use crate::stop::Stop;
 use resp_value::{FrameFault, IoKind, ParsingError, RedisError, RedisResult, Value};
 use std::alloc::Global;
 use std::io::Read;
@@ -34,7 +34,7 @@ const CHUNK: usize = 4096;
 /// how the bytes are cut: the values are those of the pieces joined.
 ///
 /// Nor does it matter for the work: the parser goes on where it stopped. Its loops make at most
-/// four turns for three bytes that it has looked at and one for each call, at most as many
+/// four iterations for three bytes that it has looked at and one for each call, at most as many
 /// aggregates are open as levels are read, and of the value in progress it has built at most one
 /// value for each three bytes looked at, whatever lengths are announced. Contracts see these
 /// numbers in its state.
@@ -55,20 +55,20 @@ pub struct Parser {
     /// How many bytes may spell a value.
     size_limit: usize,
     /// How many bytes of the value in progress the machine took.
-    spelled: usize,
+    taken: usize,
     machine: Machine,
     failed: bool,
     /// How many bytes since the last value show the fault that was answered.
     fault_offset: Option<usize>,
-    since: Since,
-    counts: Counts,
+    since: BytesSinceValue,
+    counts: Counter,
 }
 
 impl Model for Parser {
     ghost use Rattle.std.specs.Prelude.{drop, length};
     ghost use Rattle.resp_parse.specs.State.{State};
-    ghost use Rattle.resp_parse.specs.Weights.{built_in};
-    ghost use Rattle.resp_parse.specs.Kept.{Kept, limits_of};
+    ghost use Rattle.resp_parse.specs.Costs.{built_in};
+    ghost use Rattle.resp_parse.specs.Invariant.{Invariant, limits_of};
 
     ghost Value = { State };
 
@@ -79,12 +79,12 @@ impl Model for Parser {
       since = p.since;
       failed = p.failed;
       fault_offset = p.fault_offset;
-      frames = length p.machine.frames;
-      built = built_in p.machine.frames;
+      open_aggregates = length p.machine.open_aggregates;
+      built = built_in p.machine.open_aggregates;
       counts = p.counts;
     } };
 
-    ghost invariant = { Kept };
+    ghost invariant = { Invariant };
 }
 
 impl Parser {
@@ -114,7 +114,7 @@ impl Parser {
     /// let mut parser = Parser::with_limits(alloc, limits)?;
     /// ```
     ///
-    /// In `crates/resp_tests_objects/src/parsers.rt`.
+    /// In `crates/resp_tests_public_calls/src/parsers.rt`.
     pub fn with_limits(alloc: Global, limits: Limits) -> RedisResult<Parser>
         ensures accepts { IsOk result ↔ AreLimits limits }
         ensures limits { IfOk result (λ parser. parser.limits ≡ limits) }
@@ -162,12 +162,12 @@ impl Parser {
             buffer: Vec::new(alloc),
             consumed: 0,
             size_limit: limits.bytes,
-            spelled: 0,
+            taken: 0,
             machine: Machine::new(alloc, limits.depth),
             failed: false,
             fault_offset: None,
-            since: Since::new(),
-            counts: Counts::new(),
+            since: BytesSinceValue::new(),
+            counts: Counter::new(),
         }
     }
 
@@ -177,7 +177,7 @@ impl Parser {
         ensures valid { AreLimits result }
     {
         Limits {
-            depth: self.machine.levels,
+            depth: self.machine.depth,
             bytes: self.size_limit,
         }
     }
@@ -188,7 +188,7 @@ impl Parser {
         ensures limit { result ≡ self.now.limits.depth }
         ensures valid { IsDepthLimit result }
     {
-        self.machine.levels
+        self.machine.depth
     }
 
     /// Adds bytes after those that were fed before. On `OutOfMemory` the parser stays as
@@ -209,19 +209,19 @@ impl Parser {
         self.compact();
         let taken_all = self.consumed == self.buffer.len();
         let lacking = if taken_all { self.machine.lacks() } else { 0 };
-        let room = self.size_limit - self.spelled;
+        let room = self.size_limit - self.taken;
         let (direct, rest) = bytes.split_at(lacking.min(room).min(bytes.len()));
         self.buffer.reserve(rest.len())?;
         self.machine.fill(direct, &mut self.counts)?;
         self.buffer.extend_from_slice(rest)?;
-        self.spelled += direct.len();
+        self.taken += direct.len();
         self.since.append(bytes);
         self.counts.call();
-        self.counts.come(bytes.len());
+        self.counts.receive(bytes.len());
         Ok(())
     }
 
-    /// The next value; None while the bytes since the last one are unfinished.
+    /// The next value; None while the bytes since the last one are incomplete.
     ///
     /// Bytes that can't begin a value are refused as [`RedisError::Parse`] with their
     /// [`FrameFault`]; values before them are still handed out. Values are read within
@@ -241,13 +241,13 @@ impl Parser {
         self.counts.call();
         let alloc = *self.buffer.allocator();
         let unparsed = &self.buffer[self.consumed..];
-        let room = self.size_limit - self.spelled;
+        let room = self.size_limit - self.taken;
         let (bytes, later) = unparsed.split_at(room.min(unparsed.len()));
         let passes = !later.is_empty();
-        match self.machine.drive(alloc, bytes, &mut self.counts) {
+        match self.machine.run(alloc, bytes, &mut self.counts) {
             Ok((taken, Some(value))) => {
                 self.consumed += taken;
-                self.spelled = 0;
+                self.taken = 0;
                 self.since.restart(&self.buffer[self.consumed..]);
                 Ok(Some(value))
             }
@@ -259,15 +259,15 @@ impl Parser {
                     return Err(why);
                 }
                 self.consumed += taken;
-                self.spelled += taken;
+                self.taken += taken;
                 Ok(None)
             }
-            Err(Stop::Fault(fault)) => {
+            Err(ReadError::Fault(fault)) => {
                 self.failed = true;
-                self.fault_offset = Some(self.spelled + self.machine.shown);
+                self.fault_offset = Some(self.taken + self.machine.shown);
                 Err(RedisError::Parse(ParsingError::Fault(fault)))
             }
-            Err(Stop::Memory) => {
+            Err(ReadError::Memory) => {
                 self.failed = true;
                 Err(RedisError::OutOfMemory)
             }
@@ -281,7 +281,7 @@ impl Parser {
     /// is refused as [`IoKind::UnexpectedEof`], and the parser has failed. A failure of the source
     /// is refused as [`RedisError::Io`] with its kind; the parser then holds what came before it,
     /// and the call may be repeated. The source is asked for at most 4,096 bytes at a time, and
-    /// only while the bytes in the buffer are unfinished.
+    /// only while the bytes in the buffer are incomplete.
     pub fn parse_from<S: ReplySource>(&mut self, source: &mut S) -> RedisResult<Value>
         ensures failed { self.old.failed ≡ true → (result ≡ Err has_failed) × (self.new ≡ self.old)
             × (S.source source.new ≡ S.source source.old) }
@@ -342,7 +342,7 @@ impl Parser {
     /// let offset = parser.fault_offset(); // Some(7)
     /// ```
     ///
-    /// In `crates/resp_tests_objects/src/parsers.rt`.
+    /// In `crates/resp_tests_public_calls/src/parsers.rt`.
     pub fn fault_offset(&self) -> Option<usize>
         ensures offset { result ≡ self.now.fault_offset }
         ensures works { self.now.failed ≡ false → result ≡ None }
@@ -386,7 +386,7 @@ impl Parser {
             Ok(n) => {
                 self.buffer.extend_from_slice(&chunk[..n])?;
                 self.since.append(&chunk[..n]);
-                self.counts.come(n);
+                self.counts.receive(n);
                 Ok(())
             }
             Err(kind) => Err(RedisError::Io(kind)),

@@ -2,10 +2,10 @@
 
 ghost use Rattle.resp_parse.specs.FirstValue.{ParsesFirst};
 
-use crate::counts::Counts;
-use crate::limits::LEVELS;
+use crate::counter::Counter;
+use crate::limits::USUAL_DEPTH;
 use crate::machine::Machine;
-use crate::stop::Stop;
+use crate::read_error::ReadError;
 use resp_value::{IoKind, ParsingError, RedisError, RedisResult, Value};
 use std::alloc::Global;
 
@@ -17,12 +17,12 @@ use std::alloc::Global;
 pub fn parse_redis_value(alloc: Global, bytes: &[u8]) -> RedisResult<Value>
     ensures answers { ParsesFirst bytes.now result }
 {
-    let mut machine = Machine::new(alloc, LEVELS);
-    let mut counts = Counts::new();
-    match machine.drive(alloc, bytes, &mut counts) {
+    let mut machine = Machine::new(alloc, USUAL_DEPTH);
+    let mut counts = Counter::new();
+    match machine.run(alloc, bytes, &mut counts) {
         Ok((_, Some(value))) => Ok(value),
         Ok((_, None)) => Err(RedisError::Io(IoKind::UnexpectedEof)),
-        Err(Stop::Fault(fault)) => Err(RedisError::Parse(ParsingError::Fault(fault))),
-        Err(Stop::Memory) => Err(RedisError::OutOfMemory),
+        Err(ReadError::Fault(fault)) => Err(RedisError::Parse(ParsingError::Fault(fault))),
+        Err(ReadError::Memory) => Err(RedisError::OutOfMemory),
     }
 }

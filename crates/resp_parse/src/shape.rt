@@ -2,7 +2,7 @@
 
 ghost use Rattle.std.specs.Prelude.{length, IfSome, Ok};
 ghost use Rattle.std.specs.Str.{IsUtf8};
-ghost use Rattle.resp_parse.specs.Weights.{Turns};
+ghost use Rattle.resp_parse.specs.Costs.{Iterations};
 ghost use Rattle.resp_parse.specs.Grammar.{announced, boolean_in, with_valid};
 ghost use Rattle.resp_parse.specs.Grammar.{or_nil, or_empty_push, complete, body as a_body};
 ghost use Rattle.resp_parse.specs.Grammar.{elements as some_elements, push};
@@ -11,9 +11,9 @@ ghost use Rattle.resp_parse.specs.Shapes.{Announces, announced_in_line, body_val
 ghost use Rattle.resp_parse.specs.Shapes.{elements_value};
 ghost use Rattle.resp_parse.specs.Computes.{Computes};
 
-use crate::counts::Counts;
+use crate::counter::Counter;
 use crate::number::{few_digits, integer_of, length_of};
-use crate::stop::Stop;
+use crate::read_error::ReadError;
 use crate::type_byte::TypeByte;
 use crate::value_of::{
     attribute_of, bulk_error_of, double_of, error_of, no_push, pairs_from, push_of, simple_of,
@@ -32,7 +32,7 @@ pub(crate) enum BodyKind {
 
 impl BodyKind {
     /// The value of a body.
-    pub(crate) fn value(self, alloc: Global, body: Items<u8>) -> Result<Value, Stop>
+    pub(crate) fn value(self, alloc: Global, body: Items<u8>) -> Result<Value, ReadError>
         ensures value { Computes result (body_value self body) }
     {
         match self {
@@ -59,10 +59,10 @@ impl ElementsKind {
         self,
         alloc: Global,
         elements: Items<Value>,
-        counts: &mut Counts,
-    ) -> Result<Value, Stop>
+        counts: &mut Counter,
+    ) -> Result<Value, ReadError>
         ensures value { Computes result (elements_value self elements) }
-        ensures turns { Turns counts.old counts.new (length elements) }
+        ensures iterations { Iterations counts.old counts.new (length elements) }
     {
         match self {
             ElementsKind::Array => Ok(Value::Array(elements)),
@@ -86,14 +86,14 @@ pub(crate) enum Shape {
 }
 
 /// What a line announces, for a value of this type.
-pub(crate) fn shape_of(alloc: Global, kind: TypeByte, line: &[u8]) -> Result<Shape, Stop>
+pub(crate) fn shape_of(alloc: Global, kind: TypeByte, line: &[u8]) -> Result<Shape, ReadError>
     ensures announced { Announces result (announced_in_line kind line.now) }
 {
     if let Some(shape) = shape_of_digits(kind, line) {
         return Ok(shape);
     }
     let Ok(text) = std::str::from_utf8(line) else {
-        return Err(Stop::Fault(FrameFault::LineNotUtf8));
+        return Err(ReadError::Fault(FrameFault::LineNotUtf8));
     };
     shape_of_text(alloc, kind, text)
 }
@@ -115,7 +115,7 @@ fn shape_of_digits(kind: TypeByte, line: &[u8]) -> Option<Shape>
 }
 
 /// What the line of this text announces, for a value of this type.
-fn shape_of_text(alloc: Global, kind: TypeByte, text: &str) -> Result<Shape, Stop>
+fn shape_of_text(alloc: Global, kind: TypeByte, text: &str) -> Result<Shape, ReadError>
     ensures announced { Announces result (announced kind text.now) }
 {
     match kind {
@@ -141,17 +141,17 @@ fn shape_of_text(alloc: Global, kind: TypeByte, text: &str) -> Result<Shape, Sto
     }
 }
 
-fn boolean_shape(text: &str) -> Result<Shape, Stop>
+fn boolean_shape(text: &str) -> Result<Shape, ReadError>
     ensures announced { Announces result (with_valid (boolean_in text.now) complete) }
 {
     match text {
         "t" => Ok(Shape::Whole(Value::Boolean(true))),
         "f" => Ok(Shape::Whole(Value::Boolean(false))),
-        _ => Err(Stop::Fault(FrameFault::NotBoolean)),
+        _ => Err(ReadError::Fault(FrameFault::NotBoolean)),
     }
 }
 
-fn body_or_nil(text: &str, kind: BodyKind) -> Result<Shape, Stop>
+fn body_or_nil(text: &str, kind: BodyKind) -> Result<Shape, ReadError>
     ensures announced { Announces result (with_valid (integer_in text.now)
         (or_nil (λ n. a_body n (body_value kind)))) }
 {
@@ -162,7 +162,7 @@ fn body_or_nil(text: &str, kind: BodyKind) -> Result<Shape, Stop>
     Ok(Shape::Body(kind, len as usize))
 }
 
-fn elements_or_nil(text: &str, kind: ElementsKind) -> Result<Shape, Stop>
+fn elements_or_nil(text: &str, kind: ElementsKind) -> Result<Shape, ReadError>
     ensures announced { Announces result (with_valid (integer_in text.now)
         (or_nil (λ n. some_elements n (elements_value kind)))) }
 {
@@ -173,7 +173,7 @@ fn elements_or_nil(text: &str, kind: ElementsKind) -> Result<Shape, Stop>
     Ok(Shape::Elements(kind, count as usize))
 }
 
-fn push_shape(alloc: Global, text: &str) -> Result<Shape, Stop>
+fn push_shape(alloc: Global, text: &str) -> Result<Shape, ReadError>
     ensures announced { Announces result (with_valid (integer_in text.now)
         (or_empty_push (λ n. some_elements n push))) }
 {

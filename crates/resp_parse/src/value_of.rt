@@ -1,7 +1,7 @@
 //! Values from the texts, bodies and elements that spell them.
 
 ghost use Rattle.std.specs.Prelude.{◌≡◌, [], IfOk, length, string_bytes};
-ghost use Rattle.resp_parse.specs.Weights.{Turns};
+ghost use Rattle.resp_parse.specs.Costs.{Iterations};
 ghost use Rattle.resp_value.specs.declared.value.Value.TheVariants as value;
 ghost use Rattle.resp_errors.specs.ServerErrors.{server_error};
 ghost use Rattle.resp_value.specs.Views.{pairs as pairs_of};
@@ -10,9 +10,9 @@ ghost use Rattle.resp_parse.specs.Grammar.{push_kind, push, empty_push};
 ghost use Rattle.resp_parse.specs.Double.{double_in};
 ghost use Rattle.resp_parse.specs.Computes.{Computes};
 
-use crate::counts::Counts;
+use crate::counter::Counter;
 use crate::double::is_double_text;
-use crate::stop::Stop;
+use crate::read_error::ReadError;
 use resp_value::{
     Boxed, FrameFault, Items, PushKind, ServerError, Text, Value, get_push_kind, verbatim_format,
 };
@@ -40,12 +40,12 @@ pub(crate) fn error_of(alloc: Global, text: &str) -> Result<Value, AllocError>
 
 /// The value of a double line (RESP3, "Doubles").
 #[tactic(auto, unfolding(crate::specs::Double::double_in))]
-pub(crate) fn double_of(alloc: Global, text: &str) -> Result<Value, Stop>
+pub(crate) fn double_of(alloc: Global, text: &str) -> Result<Value, ReadError>
     ensures value { Computes result (double_in text.now) }
 {
     let text = text.trim();
     if !is_double_text(text) {
-        return Err(Stop::Fault(FrameFault::NotDouble));
+        return Err(ReadError::Fault(FrameFault::NotDouble));
     }
     Ok(Value::Double(Text::from_str(alloc, text)?))
 }
@@ -59,7 +59,7 @@ pub(crate) fn bulk_error_of(alloc: Global, body: &[u8]) -> Result<Value, AllocEr
 }
 
 /// The value of a verbatim string's body (RESP3, "Verbatim strings").
-pub(crate) fn verbatim_of(alloc: Global, body: &[u8]) -> Result<Value, Stop>
+pub(crate) fn verbatim_of(alloc: Global, body: &[u8]) -> Result<Value, ReadError>
     ensures value { Computes result (verbatim body.now) }
 {
     let text = Text::from_utf8_lossy(alloc, body)?;
@@ -68,7 +68,7 @@ pub(crate) fn verbatim_of(alloc: Global, body: &[u8]) -> Result<Value, Stop>
             format: verbatim_format(String::from_str(alloc, format)?),
             text: Text::from_str(alloc, text)?,
         }),
-        None => Err(Stop::Fault(FrameFault::NoVerbatimFormat)),
+        None => Err(ReadError::Fault(FrameFault::NoVerbatimFormat)),
     }
 }
 
@@ -76,15 +76,15 @@ pub(crate) fn verbatim_of(alloc: Global, body: &[u8]) -> Result<Value, Stop>
 pub(crate) fn pairs_from(
     alloc: Global,
     elements: Vec<Value>,
-    counts: &mut Counts,
+    counts: &mut Counter,
 ) -> Result<Items<(Value, Value)>, AllocError>
     ensures pairs { IfOk result (λ made. made ≡ pairs_of elements.items) }
-    ensures turns { Turns counts.old counts.new (length elements.items) }
+    ensures iterations { Iterations counts.old counts.new (length elements.items) }
 {
     let mut pairs = Items::from(Vec::with_capacity(alloc, elements.len() / 2)?);
     let mut rest = elements.into_iter();
     while let Some(key) = rest.next() {
-        counts.turn();
+        counts.iterate();
         if let Some(value) = rest.next() {
             pairs.push((key, value))?;
         }
@@ -96,10 +96,10 @@ pub(crate) fn pairs_from(
 pub(crate) fn attribute_of(
     alloc: Global,
     mut elements: Vec<Value>,
-    counts: &mut Counts,
+    counts: &mut Counter,
 ) -> Result<Value, AllocError>
     ensures value { IfOk result (λ made. made ≡ attribute elements.items) }
-    ensures turns { Turns counts.old counts.new (length elements.items) }
+    ensures iterations { Iterations counts.old counts.new (length elements.items) }
 {
     let payload = match elements.pop() {
         Some(value) => value,

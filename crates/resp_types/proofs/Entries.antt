@@ -11,7 +11,7 @@ use Rattle.std.specs.List.{All, AllZip, filter_map, cons_option, slice_split}
 use Rattle.std.specs.Str.{NoCharPasses}
 use Rattle.std.specs.Str.Lines.{IsFirstLine, StripsCarriageReturn, lines, lines_of_parts, strip_carriage_return}
 use Rattle.resp_value.specs.declared.value.Value.{Value}
-use Rattle.resp_keyed.specs.Keyed.{sorted, IsMerged}
+use Rattle.resp_containers.specs.Keyed.{sorted, IsMerged}
 use Rattle.resp_from.proofs.Conversions.{AllZip-more}
 use Rattle.resp_types.specs.Info.{entries_of_text, entry_of_line, HoldsText, IsEntry}
 

@@ -10,7 +10,7 @@ use Rattle.std.specs.Str.Lines.{lines}
 use Rattle.resp_errors.specs.declared.parsing_error.ParsingError.{ParsingError}
 use Rattle.resp_errors.specs.declared.parsing_error.ParsingError.TheVariants as parsing
 use Rattle.resp_value.specs.declared.value.Value.{Value, SimpleString}
-use Rattle.resp_keyed.specs.Keyed.{sorted, IsMerged}
+use Rattle.resp_containers.specs.Keyed.{sorted, IsMerged}
 use Rattle.resp_from.specs.Attributes.{stripped}
 use Rattle.resp_from.specs.Texts.{OfText}
 use Rattle.resp_types.specs.declared.info.InfoDict.{InfoDict}

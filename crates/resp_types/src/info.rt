@@ -9,9 +9,9 @@ ghost use Rattle.resp_errors.specs.Memory.{OnlyMemory};
 ghost use Rattle.resp_types.specs.Info.{entries_of, entry_of_line, value_at, Gets, HoldsText};
 ghost use Rattle.resp_types.specs.Info.{SameEntry};
 
+use resp_containers::FillMap;
 use resp_from::FromRedisValue;
 use resp_from::parts::strip_attribute;
-use resp_keyed::FillMap;
 use resp_value::{ParsingError, RedisResult, Text, Value};
 use std::alloc::{AllocError, Global};
 use std::collections::BTreeMap;

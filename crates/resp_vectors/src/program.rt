@@ -3,8 +3,8 @@
 use crate::queries::link_over;
 use crate::rows::{Row, text_of};
 use crate::texts::quoted;
+use resp_cli_lib::{Task, pack, print_usage, query, read, task_of};
 use resp_core::RedisResult;
-use resp_program::{Task, pack, print_usage, query, read, task_of};
 use std::alloc::Global;
 
 /// What the program wrote, and its exit status.

@@ -6,11 +6,11 @@ use Rattle.resp_command.proofs.framing.extend_frame.Goals as goal
 pub returns-clause-items : goal.returns-clause-items
 returns-clause-items c =
     let k : c.args.start + (c.args.from - 2 - c.args.start) ≡ c.args.from - 2 = omega (arith, c.requires.place.0) in
-    let now : c.mend.new.bytes.items ≡ take c.args.start c.args.bytes.now.items ++ (decimal ((vec_len c.args.bytes.now - 2) - c.args.from + length c.args.more.now) ++ drop (c.args.from - 2) c.args.bytes.now.items) = rw (← k) (search rules) in
+    let now : c.replace_length.new.bytes.items ≡ take c.args.start c.args.bytes.now.items ++ (decimal ((vec_len c.args.bytes.now - 2) - c.args.from + length c.args.more.now) ++ drop (c.args.from - 2) c.args.bytes.now.items) = rw (← k) (search rules) in
     let m : vec_len c.args.bytes.now ≡ length c.args.bytes.now.items = search rules in
-    let n : vec_len c.mend.new.bytes ≡ length c.mend.new.bytes.items = search rules in
-    let len : length c.mend.new.bytes.items ≡ length (take c.args.start c.args.bytes.now.items ++ (decimal ((vec_len c.args.bytes.now - 2) - c.args.from + length c.args.more.now) ++ drop (c.args.from - 2) c.args.bytes.now.items)) = ap length now in
-    let all : c.extend_from_slice-2.new.self.items ≡ (take (vec_len c.mend.new.bytes - 2) c.mend.new.bytes.items ++ c.args.more.now) ++ (13 ∷ 10 ∷ []) = search rules in
+    let n : vec_len c.replace_length.new.bytes ≡ length c.replace_length.new.bytes.items = search rules in
+    let len : length c.replace_length.new.bytes.items ≡ length (take c.args.start c.args.bytes.now.items ++ (decimal ((vec_len c.args.bytes.now - 2) - c.args.from + length c.args.more.now) ++ drop (c.args.from - 2) c.args.bytes.now.items)) = ap length now in
+    let all : c.extend_from_slice-2.new.self.items ≡ (take (vec_len c.replace_length.new.bytes - 2) c.replace_length.new.bytes.items ++ c.args.more.now) ++ (13 ∷ 10 ∷ []) = search rules in
     let done : c.extend_from_slice-2.new.self.items ≡ take c.args.start c.args.bytes.now.items ++ (decimal ((vec_len c.args.bytes.now - 2) - c.args.from + length c.args.more.now) ++ (slice_range c.args.bytes.now.items (c.args.from - 2) (length c.args.bytes.now.items - 2) ++ (c.args.more.now ++ 13 ∷ 10 ∷ []))) = (all ∙ grown c.args.bytes.now.items _ c.args.more.now _ c.args.start (c.args.from - 2) _ (omega arith) (omega (arith, m)) now (omega (
       arith,
       n,

@@ -28,7 +28,7 @@ pub invariant_of-self-else-is_err : goal.invariant_of-self-else-is_err
 invariant_of-self-else-is_err g c =
     let inside = c.self.inside in
     let w = appended _ _ _ _ c.write_redis_args-written.result (search rules) c.write_redis_args-written.ensures.written in
-    subst (λ (args : Args). Keeps inside.cursor inside.cursors.items args) (sym w.1) (keeps_appended inside.cursor inside.cursors.items inside.frames w.0 c.self.invariant)
+    subst (λ (args : Args). Keeps inside.cursor inside.cursors.items args) (sym w.1) (keeps_appended inside.cursor inside.cursors.items inside.encoded_args w.0 c.self.invariant)
 
 pub returns-clause-given : goal.returns-clause-given
 returns-clause-given g c =
@@ -39,7 +39,7 @@ returns-clause-given g c =
           let w = appended _ _ _ _ c.write_redis_args-written.result (search rules) c.write_redis_args-written.ensures.written in
           on_ok _ c.write_redis_args-written.result (
             w.0,
-            ap (λ d. d.args) b.self-is ∙ ap (λ (args : Args). sent_args inside.cursor inside.cursors.items args) w.1 ∙ sent-appended inside.cursor inside.cursors.items inside.frames w.0 c.self.invariant.are_woven ∙ ap (λ d. d.args ++ w.0) c.self.view_is,
+            ap (λ d. d.args) b.self-is ∙ ap (λ (args : Args). sent_args inside.cursor inside.cursors.items args) w.1 ∙ sent-appended inside.cursor inside.cursors.items inside.encoded_args w.0 c.self.invariant.are_interleaved ∙ ap (λ d. d.args ++ w.0) c.self.view_is,
             w.2,
           )
     ]

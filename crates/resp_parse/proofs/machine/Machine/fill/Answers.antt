@@ -1,7 +1,7 @@
-use Rattle.resp_parse.proofs.FilledBodies.{Filled-body}
+use Rattle.resp_parse.proofs.FilledBodies.{FilledOpenBody-body}
 use Rattle.resp_parse.proofs.machine.Machine.fill.Goals as goal
 
 pub returns : goal.returns
 returns c = record {
-  fills = Filled-body c.args.self.now c.in-Some.body c.fill.new.self c.args.bytes.now c.in_ok-taken.taken c.in-Some.is c.in_ok-taken.ensures.fills c.requires.lacks c.args.counts.now c.turn.new.self c.take.new.self c.turn.ensures c.take.ensures;
+  fills = FilledOpenBody-body c.args.self.now c.in-Some.body c.fill.new.self c.args.bytes.now c.in_ok-taken.taken c.in-Some.is c.in_ok-taken.ensures.fills c.requires.lacks c.args.counts.now c.iterate.new.self c.examine.new.self c.iterate.ensures c.examine.ensures;
 }

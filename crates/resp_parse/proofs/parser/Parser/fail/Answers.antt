@@ -11,7 +11,7 @@ returns-clause-fails c = λ b h. FailedAfter-failed c.args.self.now _ b h refl (
 pub returns-clause-bounds : goal.returns-clause-bounds
 returns-clause-bounds c =
     let u = drop c.self.inside.consumed c.self.inside.buffer.items in
-    Bounded-from_kept c.self.inside.size_limit c.self.inside.machine u c.self.inside.since true c.self.inside.counts c.self.inside.spelled c.self.invariant.levels
+    Bounded-from_kept c.self.inside.size_limit c.self.inside.machine u c.self.inside.since true c.self.inside.counts c.self.inside.taken c.self.invariant.depth
     (Holds-failing c.self.inside.machine u c.self.inside.since c.self.inside.failed c.self.invariant.holds)
     (Counted-failing c.self.inside.machine u c.self.inside.counts c.self.inside.failed c.self.invariant.counted)
     (λ e. absurd (let z : true ≡ false = e in cc))

@@ -1,5 +1,5 @@
 use Rattle.std.proofs.Common.{◌≡◌, ◌∙◌, ap, sym, subst, IfSome}
-use Rattle.resp_parse.specs.Kept.{limits_of}
+use Rattle.resp_parse.specs.Invariant.{limits_of}
 use Rattle.resp_parse.specs.Limited.{FaultShownAt}
 use Rattle.resp_parse.specs.State.{State}
 use Rattle.resp_parse.proofs.ParserStates.{FailedAfter-since}

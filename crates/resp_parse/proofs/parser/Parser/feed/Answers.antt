@@ -3,14 +3,14 @@ use Rattle.std.proofs.lemmas.Bool.Decides.{nat_tests}
 use Rattle.std.proofs.lemmas.Grind.{common_steps}
 use Rattle.std.proofs.lemmas.List.{length-take}
 use Rattle.resp_parse.specs.State.{State}
-use Rattle.resp_parse.specs.Tally.{Tally}
+use Rattle.resp_parse.specs.Counts.{Counts}
 use Rattle.resp_parse.proofs.ParserStates.{StandsAfter-not_failed, StandsAfter-fed, IsBetweenValues-from_same, IsBetweenValues-same}
 use Rattle.resp_parse.proofs.BodiesInPieces.{drop-all}
-use Rattle.resp_parse.specs.Kept.{limits_of}
+use Rattle.resp_parse.specs.Invariant.{limits_of}
 use Rattle.resp_parse.proofs.Holding.{fed-fits, fed-unparsed}
 use Rattle.resp_parse.proofs.FilledBodies.{apart-taken, apart-none, fed-holds, fed-counted, fed-between}
 use Rattle.resp_parse.proofs.FaultOffsets.{Placed-working}
-use Rattle.resp_parse.proofs.Spelling.{Spelled-fed, within-limit}
+use Rattle.resp_parse.proofs.CountingTaken.{CountsTaken-fed, within-limit}
 use Rattle.resp_parse.proofs.Counting.{Bounded-from_kept}
 use Rattle.resp_parse.proofs.parser.Parser.feed.Goals as goal
 use Rattle.resp_parse.proofs.parser.Parser.feed.Goals.{then-taken_all, else-taken_all}
@@ -21,12 +21,12 @@ returns-then-self-clause-feeds c = λ b h. absurd (StandsAfter-not_failed c.args
 pub returns-in_err-reserve-clause-bounds : goal.returns-in_err-reserve-clause-bounds
 returns-in_err-reserve-clause-bounds c =
     rw c.in_err-reserve.ensures.items
-    (Bounded-from_kept c.self-2.inside.size_limit c.self-2.inside.machine (drop c.self-2.inside.consumed c.self-2.inside.buffer.items) c.self-2.inside.since c.self-2.inside.failed c.self-2.inside.counts c.self-2.inside.spelled c.self-2.invariant.levels c.self-2.invariant.holds c.self-2.invariant.counted c.self-2.invariant.spelled)
+    (Bounded-from_kept c.self-2.inside.size_limit c.self-2.inside.machine (drop c.self-2.inside.consumed c.self-2.inside.buffer.items) c.self-2.inside.since c.self-2.inside.failed c.self-2.inside.counts c.self-2.inside.taken c.self-2.invariant.depth c.self-2.invariant.holds c.self-2.invariant.counted c.self-2.invariant.taken)
 
 pub returns-in_err-fill-clause-bounds : goal.returns-in_err-fill-clause-bounds
 returns-in_err-fill-clause-bounds c =
     rw (c.in_ok-reserve.ensures.items, c.in_err-fill.ensures.fills.0, c.in_err-fill.ensures.fills.1)
-    (Bounded-from_kept c.self-2.inside.size_limit c.self-2.inside.machine (drop c.self-2.inside.consumed c.self-2.inside.buffer.items) c.self-2.inside.since c.self-2.inside.failed c.self-2.inside.counts c.self-2.inside.spelled c.self-2.invariant.levels c.self-2.invariant.holds c.self-2.invariant.counted c.self-2.invariant.spelled)
+    (Bounded-from_kept c.self-2.inside.size_limit c.self-2.inside.machine (drop c.self-2.inside.consumed c.self-2.inside.buffer.items) c.self-2.inside.since c.self-2.inside.failed c.self-2.inside.counts c.self-2.inside.taken c.self-2.invariant.depth c.self-2.invariant.holds c.self-2.invariant.counted c.self-2.invariant.taken)
 
 pub invariant_of-self-2 : goal.invariant_of-self-2
 invariant_of-self-2 c =
@@ -45,27 +45,27 @@ invariant_of-self-2 c =
       | then-taken_all u ↦ inl (drop-all consumed buffer (grind (arith, nat_tests, u.if-taken_all.true, c.len.ensures)))
       | else-taken_all u ↦ inr (let z : c.min-2.result ≡ 0 = omega (arith, c.min.ensures, c.min-2.ensures, u.lacking-is) in c.split_at.ensures.front ∙ ap (λ k. take k c.args.bytes.now) z)
     ] in
-    let spelled = c.self-2.invariant.spelled w in
-    let few : c.self-2.inside.spelled ≤ c.self-2.inside.size_limit = within-limit c.self-2.inside.size_limit c.self-2.inside.machine (drop consumed buffer) c.self-2.inside.since c.self-2.inside.spelled spelled in
-    let taken : length direct ≤ c.min-2.result = (let l : length (take c.min-2.result c.args.bytes.now) ≡ min c.min-2.result (length c.args.bytes.now) = length-take c.min-2.result c.args.bytes.now in omega (arith, l, ap length c.split_at.ensures.front)) in
-    let fits : c.self-2.inside.spelled + length direct ≤ c.self-2.inside.size_limit = omega (arith, few, taken, c.min.ensures, c.min-2.ensures) in
+    let taken = c.self-2.invariant.taken w in
+    let few : c.self-2.inside.taken ≤ c.self-2.inside.size_limit = within-limit c.self-2.inside.size_limit c.self-2.inside.machine (drop consumed buffer) c.self-2.inside.since c.self-2.inside.taken taken in
+    let examined : length direct ≤ c.min-2.result = (let l : length (take c.min-2.result c.args.bytes.now) ≡ min c.min-2.result (length c.args.bytes.now) = length-take c.min-2.result c.args.bytes.now in omega (arith, l, ap length c.split_at.ensures.front)) in
+    let fits : c.self-2.inside.taken + length direct ≤ c.self-2.inside.size_limit = omega (arith, few, examined, c.min.ensures, c.min-2.ensures) in
     record {
       consumed = fed-fits buffer c.extend_from_slice.new.self.items rest consumed c.self-2.invariant.consumed items;
       placed = Placed-working (limits_of c.self-2.inside.machine c.self-2.inside.size_limit) (limits_of c.fill.new.self c.self-2.inside.size_limit) c.self-2.inside.fault_offset c.self-2.inside.since c.append.new.self c.self-2.inside.failed w c.self-2.invariant.placed;
-      limits = rw c.in_ok-fill.ensures.fills.levels c.self-2.invariant.limits;
-      levels = rw (c.in_ok-fill.ensures.fills.levels, c.in_ok-fill.ensures.fills.frames) c.self-2.invariant.levels;
-      holds = fed-holds c.self-2.inside.machine c.fill.new.self c.self-2.inside.counts c.fill.new.counts c.come.new.self buffer c.extend_from_slice.new.self.items c.self-2.inside.since c.append.new.self c.args.bytes.now direct rest consumed c.self-2.inside.failed
-          c.self-2.invariant.consumed w c.self-2.invariant.holds c.self-2.invariant.counted c.in_ok-fill.ensures.fills apart joined items c.append.ensures (c.come.ensures ∙ ap (λ (t : Tally). record t { came = t.came + length c.args.bytes.now }) c.call.ensures);
-      counted = fed-counted c.self-2.inside.machine c.fill.new.self c.self-2.inside.counts c.fill.new.counts c.come.new.self buffer c.extend_from_slice.new.self.items c.self-2.inside.since c.append.new.self c.args.bytes.now direct rest consumed c.self-2.inside.failed
-          c.self-2.invariant.consumed w c.self-2.invariant.holds c.self-2.invariant.counted c.in_ok-fill.ensures.fills apart joined items c.append.ensures (c.come.ensures ∙ ap (λ (t : Tally). record t { came = t.came + length c.args.bytes.now }) c.call.ensures);
-      spelled = λ _. Spelled-fed c.self-2.inside.size_limit c.self-2.inside.machine c.fill.new.self c.self-2.inside.counts c.fill.new.counts (drop consumed buffer) (drop consumed c.extend_from_slice.new.self.items) c.self-2.inside.since c.append.new.self c.args.bytes.now direct rest c.self-2.inside.spelled
-          (c.self-2.invariant.spelled w) c.in_ok-fill.ensures.fills fits joined
+      limits = rw c.in_ok-fill.ensures.fills.depth c.self-2.invariant.limits;
+      depth = rw (c.in_ok-fill.ensures.fills.depth, c.in_ok-fill.ensures.fills.open_aggregates) c.self-2.invariant.depth;
+      holds = fed-holds c.self-2.inside.machine c.fill.new.self c.self-2.inside.counts c.fill.new.counts c.receive.new.self buffer c.extend_from_slice.new.self.items c.self-2.inside.since c.append.new.self c.args.bytes.now direct rest consumed c.self-2.inside.failed
+          c.self-2.invariant.consumed w c.self-2.invariant.holds c.self-2.invariant.counted c.in_ok-fill.ensures.fills apart joined items c.append.ensures (c.receive.ensures ∙ ap (λ (t : Counts). record t { received = t.received + length c.args.bytes.now }) c.call.ensures);
+      counted = fed-counted c.self-2.inside.machine c.fill.new.self c.self-2.inside.counts c.fill.new.counts c.receive.new.self buffer c.extend_from_slice.new.self.items c.self-2.inside.since c.append.new.self c.args.bytes.now direct rest consumed c.self-2.inside.failed
+          c.self-2.invariant.consumed w c.self-2.invariant.holds c.self-2.invariant.counted c.in_ok-fill.ensures.fills apart joined items c.append.ensures (c.receive.ensures ∙ ap (λ (t : Counts). record t { received = t.received + length c.args.bytes.now }) c.call.ensures);
+      taken = λ _. CountsTaken-fed c.self-2.inside.size_limit c.self-2.inside.machine c.fill.new.self c.self-2.inside.counts c.fill.new.counts (drop consumed buffer) (drop consumed c.extend_from_slice.new.self.items) c.self-2.inside.since c.append.new.self c.args.bytes.now direct rest c.self-2.inside.taken
+          (c.self-2.invariant.taken w) c.in_ok-fill.ensures.fills fits joined
           (fed-unparsed buffer c.extend_from_slice.new.self.items rest consumed c.self-2.invariant.consumed items) c.append.ensures
           one;
     }
 
 pub returns-clause-bounds : goal.returns-clause-bounds
-returns-clause-bounds c = let k = invariant_of-self-2 c in Bounded-from_kept c.self-2.inside.size_limit c.fill.new.self (drop c.self-2.inside.consumed c.extend_from_slice.new.self.items) c.append.new.self c.self-2.inside.failed c.come.new.self (c.self-2.inside.spelled + length c.split_at.result.0.now) k.levels k.holds k.counted k.spelled
+returns-clause-bounds c = let k = invariant_of-self-2 c in Bounded-from_kept c.self-2.inside.size_limit c.fill.new.self (drop c.self-2.inside.consumed c.extend_from_slice.new.self.items) c.append.new.self c.self-2.inside.failed c.receive.new.self (c.self-2.inside.taken + length c.split_at.result.0.now) k.depth k.holds k.counted k.taken
 
 pub returns-clause-feeds : goal.returns-clause-feeds
 returns-clause-feeds c = λ b h.
@@ -87,6 +87,6 @@ returns-clause-rest c = λ h.
       | else-taken_all u ↦ apart-none (drop consumed buffer) direct (let z : c.min-2.result ≡ 0 = omega (arith, c.min.ensures, c.min-2.ensures, u.lacking-is) in c.split_at.ensures.front ∙ ap (λ k. take k c.args.bytes.now) z)
     ] in
     IsBetweenValues-from_same _ w
-    (fed-between c.self-2.inside.machine c.fill.new.self c.self-2.inside.counts c.fill.new.counts c.come.new.self buffer c.extend_from_slice.new.self.items c.self-2.inside.since c.append.new.self c.args.bytes.now direct rest consumed c.self-2.inside.failed
-    c.self-2.invariant.consumed w c.self-2.invariant.holds c.self-2.invariant.counted c.in_ok-fill.ensures.fills apart joined items c.append.ensures (c.come.ensures ∙ ap (λ (t : Tally). record t { came = t.came + length c.args.bytes.now }) c.call.ensures)
+    (fed-between c.self-2.inside.machine c.fill.new.self c.self-2.inside.counts c.fill.new.counts c.receive.new.self buffer c.extend_from_slice.new.self.items c.self-2.inside.since c.append.new.self c.args.bytes.now direct rest consumed c.self-2.inside.failed
+    c.self-2.invariant.consumed w c.self-2.invariant.holds c.self-2.invariant.counted c.in_ok-fill.ensures.fills apart joined items c.append.ensures (c.receive.ensures ∙ ap (λ (t : Counts). record t { received = t.received + length c.args.bytes.now }) c.call.ensures)
     (ap (λ (s : State). s.since) e ∙ IsBetweenValues-same c.args.self.now h ∙ sym (ap (λ (s : State). s.unparsed) e)))

@@ -10,7 +10,7 @@ invariant-loop g l =
     record {
       observable : (source l.fn.source).observable ≡ true → (source l.source).observable ≡ true;
       limits : l.self.limits ≡ l.fn.self.limits;
-      calls : l.self.counts.calls + l.fn.self.counts.came ≤ l.fn.self.counts.calls + l.self.counts.came;
+      calls : l.self.counts.calls + l.fn.self.counts.received ≤ l.fn.self.counts.calls + l.self.counts.received;
       offset : l.fn.self.failed ≡ false → l.self.fault_offset ≡ None;
       filled : (b : List ℕ) → StandsAfter l.fn.self b → FilledAsNeeded b l.fn.self l.self (source l.fn.source) (source l.source);
     }

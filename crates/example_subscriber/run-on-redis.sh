@@ -1,0 +1,14 @@
+#!/bin/sh
+# Joins the program to a redis-server, publishes two messages, and shows what it prints. Debian has
+# the packages redis-server and socat. `rt run` builds the program before this.
+set -e
+program=$(cd "$(dirname "$0")" && pwd)/out/example_subscriber
+port=${1:-7377}
+work=$(mktemp -d)
+redis-server --port "$port" --save '' --appendonly no --dir "$work" > /dev/null &
+server=$!
+trap 'kill "$server"; rm -r "$work"' EXIT
+sleep 1
+mkfifo "$work/replies"
+(sleep 1; redis-cli -p "$port" publish news hello; sleep 1; redis-cli -p "$port" publish news bye) > /dev/null &
+"$program" news 4 < "$work/replies" | socat - "TCP:127.0.0.1:$port" > "$work/replies"

@@ -1,8 +1,0 @@
-use Rattle.resp_command.proofs.ScanRequests.{Seeking}
-use Rattle.resp_command.proofs.seeking.seek.Given as goal
-
-abbrev pub invariant-loop-cursor : goal.invariant-loop-cursor
-invariant-loop-cursor g l = Seeking g.T.FromRedisValue.WIDTH g.T.FromRedisValue.of_value (g.C.ConnectionLike.connection l.initial.con) (g.C.ConnectionLike.connection l.con) l.command l.from l.budget l.cursor l.left
-
-abbrev pub decreases-loop-cursor : goal.decreases-loop-cursor
-decreases-loop-cursor g l = l.left

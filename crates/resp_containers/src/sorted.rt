@@ -1,0 +1,37 @@
+//! Maps and sets in the order of their keys.
+
+ghost use Rattle.resp_containers.specs.Keyed.{sorted};
+
+use crate::fill::{FillMap, FillSet};
+use std::alloc::{AllocError, Global};
+use std::collections::{BTreeMap, BTreeSet};
+
+impl<K: Ord + Drop, V: Drop> FillMap<K, V> for BTreeMap<K, V> {
+    ghost keying = { sorted K.cmp };
+
+    ghost entries = { λ m. m.entries };
+
+    fn none(alloc: Global) -> BTreeMap<K, V> {
+        BTreeMap::new(alloc)
+    }
+
+    fn put(&mut self, key: K, value: V) -> Result<(), AllocError> {
+        self.insert(key, value)?;
+        Ok(())
+    }
+}
+
+impl<T: Ord + Drop> FillSet<T> for BTreeSet<T> {
+    ghost keying = { sorted T.cmp };
+
+    ghost members = { λ s. s.keys };
+
+    fn none(alloc: Global) -> BTreeSet<T> {
+        BTreeSet::new(alloc)
+    }
+
+    fn put(&mut self, member: T) -> Result<(), AllocError> {
+        self.insert(member)?;
+        Ok(())
+    }
+}

@@ -1,7 +1,0 @@
--- What a pipeline's bytes spell.
-use Rattle.resp_command.proofs.Requests.{requests_read_only}
-use Rattle.resp_core.specs.Pipeline.{Plan, argument_lists}
-use Rattle.resp_core.specs.PipelineLaw.{LawOfPipelines}
-
-pub pipeline_reads_only : (p : Plan) → LawOfPipelines p
-pipeline_reads_only p = requests_read_only (argument_lists p)

@@ -1,5 +1,0 @@
-use Rattle.resp_core.proofs.KeptItems.{KeptSoFar}
-use Rattle.resp_core.proofs.composing.keep.Given as goal
-
-abbrev pub invariant-loop-position : goal.invariant-loop-position
-invariant-loop-position l = KeptSoFar l.ignored l.fn.items.items l.items.items l.len l.position

@@ -1,0 +1,13 @@
+use Rattle.std.proofs.Common.{length, ◌-◌}
+use Rattle.resp_parse.proofs.Running.{Ran}
+use Rattle.resp_parse.proofs.AmortisedCost.{CostSoFar}
+use Rattle.resp_parse.proofs.machine.Machine.run.Given as goal
+
+abbrev pub invariant-loop-at : goal.invariant-loop-at
+invariant-loop-at l = record {
+  ran : Ran l.fn.self l.self l.bytes l.at;
+  cost_so_far : CostSoFar l.fn.self l.self l.fn.counts l.counts l.at;
+}
+
+abbrev pub decreases-loop-at : goal.decreases-loop-at
+decreases-loop-at l = length l.bytes - l.at

@@ -1,0 +1,139 @@
+-- What a machine has taken and built, and the iterations that it has saved.
+use Rattle.std.specs.Prelude.{◌≡◌, ℕ, ◌+◌, ◌-◌, ◌*◌, ◌≤◌, List, [], ◌∷◌, length, Option, None, Some, Result, Ok, Err}
+use Rattle.std.specs.List.{sum_by}
+use Rattle.resp_value.specs.declared.value.Value.{Value}
+use Rattle.resp_parse.specs.declared.read_error.ReadError.{ReadError}
+use Rattle.resp_parse.specs.declared.open_aggregates.OpenAggregate.{OpenAggregate}
+use Rattle.resp_parse.specs.declared.machine.Body.{Body}
+use Rattle.resp_parse.specs.declared.machine.Machine.{Machine}
+use Rattle.resp_parse.specs.declared.machine.Step.{Step}
+use Rattle.resp_parse.specs.declared.machine.Step.TheVariants as step
+use Rattle.resp_parse.specs.Built.{built}
+use Rattle.resp_parse.specs.Counts.{Counts}
+
+-- the values that these are built of
+abbrev pub built_of : List Value → ℕ
+built_of values = sum_by built values
+
+-- the values in the open aggregates
+abbrev pub built_in : List OpenAggregate → ℕ
+built_in [] = 0
+built_in (f ∷ fs) = built_of f.elements + built_in fs
+
+-- the bytes that the open aggregates have taken, at least: three for a header and for each value
+abbrev pub aggregates_least_bytes : List OpenAggregate → ℕ
+aggregates_least_bytes [] = 0
+aggregates_least_bytes (f ∷ fs) = 3 + 3 * built_of f.elements + aggregates_least_bytes fs
+
+abbrev pub body_least_bytes : Option Body → ℕ
+body_least_bytes None = 0
+body_least_bytes (Some b) = 3
+
+abbrev pub least_bytes : Machine → ℕ
+least_bytes m = body_least_bytes m.body + aggregates_least_bytes m.open_aggregates
+
+-- of n bytes, what the machine and a whole value have taken
+abbrev pub BuiltWithin : Machine → ℕ → Result (Option Value) ReadError → Type 0
+BuiltWithin new n (Ok None) = least_bytes new ≤ n
+BuiltWithin new n (Ok (Some v)) = least_bytes new + 3 * built v ≤ n
+BuiltWithin new n (Err e) = Unit {0}
+
+abbrev pub StepBuiltWithin : Machine → Machine → Result Step ReadError → Type 0
+StepBuiltWithin old new (Ok (step.Waits n)) = least_bytes new ≤ least_bytes old + n
+StepBuiltWithin old new (Ok (step.Goes n)) = least_bytes new ≤ least_bytes old + n
+StepBuiltWithin old new (Ok (step.Whole n v)) = least_bytes new + 3 * built v ≤ least_bytes old + n
+StepBuiltWithin old new (Err e) = Unit {0}
+
+abbrev pub RunBuiltWithin : Machine → Machine → Result (ℕ × Option Value) ReadError → Type 0
+RunBuiltWithin old new (Ok (n, o)) = BuiltWithin new (least_bytes old + n) (Ok o)
+RunBuiltWithin old new (Err e) = Unit {0}
+
+-- iterations that are paid for and not yet made: two for a value that will be whole, of which one
+-- is for its place and one for the pairs of its aggregate
+abbrev pub aggregates_potential : List OpenAggregate → ℕ
+aggregates_potential [] = 0
+aggregates_potential (f ∷ fs) = 2 + length f.elements + aggregates_potential fs
+
+abbrev pub body_potential : Option Body → ℕ
+body_potential None = 0
+body_potential (Some b) = 2
+
+abbrev pub prepaid : Machine → ℕ
+prepaid m = body_potential m.body + aggregates_potential m.open_aggregates
+
+-- thirds of an iteration that are paid for and not spent: three for each of those; and of the line
+-- in progress four for each byte, less three for each that an iteration looked at, all but the
+-- first two
+abbrev pub potential : Machine → ℕ
+potential m = 3 * prepaid m + (4 * m.scanned - 3 * (m.scanned - 2))
+
+-- only iterations were counted, at most n
+pub record Iterations (c d : Counts) (n : ℕ) : Type 0 where
+  pub same : d ≡ record c { iterations = d.iterations }
+  pub most : d.iterations ≤ c.iterations + n
+
+-- only looks at bytes of a line were counted, each an iteration
+pub record LooksAlone (c d : Counts) : Type 0 where
+  pub same : d ≡ record c { iterations = d.iterations; looks = d.looks }
+  pub each : d.iterations + c.looks ≡ c.iterations + d.looks
+
+-- a line's bytes were looked at from the first that was not, one iteration each; none for the first
+-- byte
+abbrev pub LooksAt : ℕ → List ℕ → Counts → Counts → Option ℕ → Type 0
+LooksAt scanned bytes c d (Some n) =
+    LooksAlone c d × (d.iterations + (scanned - 1) ≤ c.iterations + n + 1) × (scanned ≤ n + 1)
+LooksAt scanned bytes c d None =
+    LooksAlone c d × (d.iterations + (scanned - 1) ≤ c.iterations + (length bytes - 1))
+
+-- a value is begun: one that is whole makes no iteration, another saves two
+abbrev pub Begins : Machine → Machine → Counts → Counts → Result (Option Value) ReadError → Type 0
+Begins old new c d (Ok (Some v)) = d.iterations + prepaid new ≤ c.iterations + prepaid old
+Begins old new c d (Ok None) = d.iterations + prepaid new ≤ c.iterations + prepaid old + 2
+Begins old new c d (Err e) = d.iterations ≤ c.iterations + prepaid old
+
+-- a value is placed: the iterations made are among those saved and two for the value
+abbrev pub Places : {X : Type 0} → Machine → Machine → Counts → Counts → Result X ReadError → Type 0
+Places old new c d (Ok x) = d.iterations + prepaid new ≤ c.iterations + prepaid old + 2
+Places old new c d (Err e) = d.iterations ≤ c.iterations + prepaid old + 2
+
+-- bytes were looked at, and all came before; those of lines one look each
+pub record Looks (old new : Machine) (c d : Counts) (n : ℕ) : Type 0 where
+  pub same : d ≡ record c { iterations = d.iterations; looks = d.looks; examined = d.examined }
+  pub once : d.looks + c.examined ≤ c.looks + d.examined
+  pub examined : d.examined + old.scanned ≡ c.examined + n + new.scanned
+
+-- of n bytes some were looked at, those of lines one look each
+pub record Stopped (old : Machine) (c d : Counts) (n : ℕ) : Type 0 where
+  pub same : d ≡ record c { iterations = d.iterations; looks = d.looks; examined = d.examined }
+  pub once : d.looks + c.examined ≤ c.looks + d.examined
+  pub most : d.examined + old.scanned ≤ c.examined + n
+
+-- four thirds of an iteration for each byte taken, and one iteration, pay for the iterations; a
+-- whole value keeps two
+abbrev pub StepCost : Machine → Machine → List ℕ → Counts → Counts → Result Step ReadError → Type 0
+StepCost old new bytes c d (Ok (step.Waits n)) = Looks old new c d n
+    × (3 * d.iterations + potential new + 4 * c.examined ≤ 3 * c.iterations + potential old + 4 * d.examined + 3)
+StepCost old new bytes c d (Ok (step.Goes n)) = Looks old new c d n
+    × (3 * d.iterations + potential new + 4 * c.examined ≤ 3 * c.iterations + potential old + 4 * d.examined)
+StepCost old new bytes c d (Ok (step.Whole n v)) = Looks old new c d n
+    × (3 * d.iterations + potential new + 4 * c.examined + 6 ≤ 3 * c.iterations + potential old + 4 * d.examined)
+StepCost old new bytes c d (Err e) = Stopped old c d (length bytes)
+    × (3 * d.iterations + 4 * c.examined ≤ 3 * c.iterations + potential old + 4 * d.examined + 3)
+
+-- the same but for the step's own iteration
+abbrev pub HeaderCost : Machine → Machine → List ℕ → Counts → Counts → Result Step ReadError → Type 0
+HeaderCost old new bytes c d (Ok (step.Waits n)) = Looks old new c d n
+    × (3 * d.iterations + potential new + 4 * c.examined ≤ 3 * c.iterations + potential old + 4 * d.examined)
+HeaderCost old new bytes c d (Ok (step.Goes n)) = Looks old new c d n
+    × (3 * d.iterations + potential new + 4 * c.examined + 3 ≤ 3 * c.iterations + potential old + 4 * d.examined)
+HeaderCost old new bytes c d (Ok (step.Whole n v)) = Looks old new c d n
+    × (3 * d.iterations + potential new + 4 * c.examined + 9 ≤ 3 * c.iterations + potential old + 4 * d.examined)
+HeaderCost old new bytes c d (Err e) = Stopped old c d (length bytes)
+    × (3 * d.iterations + 4 * c.examined ≤ 3 * c.iterations + potential old + 4 * d.examined)
+
+abbrev pub RunCost : Machine → Machine → List ℕ → Counts → Counts →
+    Result (ℕ × Option Value) ReadError → Type 0
+RunCost old new bytes c d (Ok (n, o)) = Looks old new c d n
+    × (3 * d.iterations + potential new + 4 * c.examined ≤ 3 * c.iterations + potential old + 4 * d.examined + 3)
+RunCost old new bytes c d (Err e) = Stopped old c d (length bytes)
+    × (3 * d.iterations + 4 * c.examined ≤ 3 * c.iterations + potential old + 4 * d.examined + 3)

@@ -1,0 +1,4 @@
+pub mod Outcome
+pub mod Pipeline
+pub mod PipelineLaw
+pub mod PipelineQuery

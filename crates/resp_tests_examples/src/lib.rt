@@ -1,0 +1,17 @@
+//! Tests of the callers `example_arguments`, `example_proxy`, `example_redirect` and
+//! `example_replies`, and of what the program `resp` does where its streams fail, over links in
+//! memory; and of calls that are tried again.
+#![tactic(auto)]
+
+#[cfg(test)]
+mod arguments;
+#[cfg(test)]
+mod connections;
+#[cfg(test)]
+mod program;
+#[cfg(test)]
+mod queries;
+#[cfg(test)]
+mod replies;
+#[cfg(test)]
+mod retries;
