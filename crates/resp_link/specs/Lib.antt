@@ -1,3 +1,4 @@
 pub mod Linking
+pub mod LinkStates
 pub mod Receiving
 pub mod Sink

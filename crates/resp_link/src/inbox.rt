@@ -2,7 +2,8 @@
 
 ghost use Rattle.std.specs.Prelude.{◌≡◌, ◌∷◌, [], ◌+◌, OnOk, MatchResult};
 ghost use Rattle.resp_parse.specs.State.{IsBetweenValues};
-ghost use Rattle.resp_link.specs.Receiving.{inflow_of, Receives, CannotReceive, Skips};
+ghost use Rattle.resp_link.specs.LinkStates.{inflow_at};
+ghost use Rattle.resp_link.specs.Receiving.{Receives, CannotReceive, Skips};
 
 use resp_parse::{Parser, ReplySource};
 use resp_value::{PushInfo, RedisResult, Value};
@@ -21,14 +22,8 @@ impl<S: ReplySource> Inbox<S> {
     pub(crate) fn next_reply(&mut self) -> RedisResult<Value>
         requires { IsBetweenValues self.old.parser }
         ensures reply { MatchResult result
-            (λ v. Receives 1
-            (inflow_of self.old.parser (S.source self.old.source) self.old.pushes.items)
-            (inflow_of self.new.parser (S.source self.new.source) self.new.pushes.items)
-            (v ∷ []))
-            (λ e. CannotReceive 1
-            (inflow_of self.old.parser (S.source self.old.source) self.old.pushes.items)
-            (inflow_of self.new.parser (S.source self.new.source) self.new.pushes.items)
-            e) }
+            (λ v. Receives 1 (inflow_at S.source self.old) (inflow_at S.source self.new) (v ∷ []))
+            (λ e. CannotReceive 1 (inflow_at S.source self.old) (inflow_at S.source self.new) e) }
         ensures rest { OnOk result (IsBetweenValues self.new.parser) }
     {
         loop {
@@ -43,13 +38,8 @@ impl<S: ReplySource> Inbox<S> {
     pub(crate) fn skip_replies(&mut self, count: usize) -> RedisResult<()>
         requires { IsBetweenValues self.old.parser }
         ensures skipped { MatchResult result
-            (λ _. Skips count
-            (inflow_of self.old.parser (S.source self.old.source) self.old.pushes.items)
-            (inflow_of self.new.parser (S.source self.new.source) self.new.pushes.items))
-            (λ e. CannotReceive count
-            (inflow_of self.old.parser (S.source self.old.source) self.old.pushes.items)
-            (inflow_of self.new.parser (S.source self.new.source) self.new.pushes.items)
-            e) }
+            (λ _. Skips count (inflow_at S.source self.old) (inflow_at S.source self.new))
+            (λ e. CannotReceive count (inflow_at S.source self.old) (inflow_at S.source self.new) e) }
         ensures rest { OnOk result (IsBetweenValues self.new.parser) }
     {
         for _ in 0..count {
@@ -62,14 +52,8 @@ impl<S: ReplySource> Inbox<S> {
     pub(crate) fn take_replies(&mut self, alloc: Global, count: usize) -> RedisResult<Vec<Value>>
         requires { IsBetweenValues self.old.parser }
         ensures replies { MatchResult result
-            (λ vs. Receives count
-            (inflow_of self.old.parser (S.source self.old.source) self.old.pushes.items)
-            (inflow_of self.new.parser (S.source self.new.source) self.new.pushes.items)
-            vs.items)
-            (λ e. CannotReceive count
-            (inflow_of self.old.parser (S.source self.old.source) self.old.pushes.items)
-            (inflow_of self.new.parser (S.source self.new.source) self.new.pushes.items)
-            e) }
+            (λ vs. Receives count (inflow_at S.source self.old) (inflow_at S.source self.new) vs.items)
+            (λ e. CannotReceive count (inflow_at S.source self.old) (inflow_at S.source self.new) e) }
         ensures rest { OnOk result (IsBetweenValues self.new.parser) }
     {
         let mut replies = Vec::new(alloc);

@@ -7,7 +7,7 @@ ghost use Rattle.resp_parse.specs.Limits.{depth_refused};
 ghost use Rattle.resp_parse.specs.Source.{source_of};
 ghost use Rattle.resp_link.specs.Sink.{sink_of};
 ghost use Rattle.resp_command.specs.Call.{AnswersReply, AnswersFrom, broken_link, no_command};
-ghost use Rattle.resp_link.specs.Receiving.{inflow_of, unread};
+ghost use Rattle.resp_link.specs.Receiving.{unread};
 ghost use Rattle.resp_link.specs.Linking.{BetweenUnless, Exchanges, connection_of};
 
 use crate::inbox::Inbox;
@@ -130,6 +130,8 @@ impl<S: ReplySource + Drop, K: CommandSink + Drop> ByteLink<S, K> {
 }
 
 impl<S: ReplySource, K: CommandSink> ByteLink<S, K> {
+    ghost use Rattle.resp_link.specs.LinkStates.{connection_at};
+
     /// A link over a source and a sink. Replies are read within [`Limits::default`].
     pub fn over(alloc: Global, source: S, sink: K) -> ByteLink<S, K>
         ensures { ⟦<ByteLink<S, K> as ConnectionLike>⟧.connection result
@@ -217,16 +219,16 @@ impl<S: ReplySource, K: CommandSink> ByteLink<S, K> {
         (source, sink)
     }
 
+    // A call says that the link is broken before it sends, and that it isn't once its replies are
+    // there: so one that returns early at a `?` leaves it broken, where what was sent may still be
+    // answered, and a later call would take that answer for its own.
+
     /// Sends a request that needs no reply.
     fn exchange_none(&mut self, bytes: &[u8]) -> RedisResult<Value>
         requires { self.old.broken ≡ false }
         ensures exchanged { Exchanges
-            (connection_of
-            (inflow_of self.old.inbox.parser (S.source self.old.inbox.source)
-            self.old.inbox.pushes.items) (K.sink self.old.sink) self.old.broken)
-            (connection_of
-            (inflow_of self.new.inbox.parser (S.source self.new.inbox.source)
-            self.new.inbox.pushes.items) (K.sink self.new.sink) self.new.broken)
+            (connection_at S.source K.sink self.old)
+            (connection_at S.source K.sink self.new)
             bytes.now 0 result (AnswersReply (λ reply. result ≡ Ok reply)) }
     {
         self.broken = true;
@@ -239,12 +241,8 @@ impl<S: ReplySource, K: CommandSink> ByteLink<S, K> {
     fn exchange_one(&mut self, bytes: &[u8]) -> RedisResult<Value>
         requires { self.old.broken ≡ false }
         ensures exchanged { Exchanges
-            (connection_of
-            (inflow_of self.old.inbox.parser (S.source self.old.inbox.source)
-            self.old.inbox.pushes.items) (K.sink self.old.sink) self.old.broken)
-            (connection_of
-            (inflow_of self.new.inbox.parser (S.source self.new.inbox.source)
-            self.new.inbox.pushes.items) (K.sink self.new.sink) self.new.broken)
+            (connection_at S.source K.sink self.old)
+            (connection_at S.source K.sink self.new)
             bytes.now 1 result (AnswersReply (λ reply. result ≡ Ok reply)) }
     {
         self.broken = true;
@@ -264,12 +262,8 @@ impl<S: ReplySource, K: CommandSink> ByteLink<S, K> {
         requires { self.old.broken ≡ false }
         ensures counted { IfOk result (λ vs. length vs.items ≡ count) }
         ensures exchanged { Exchanges
-            (connection_of
-            (inflow_of self.old.inbox.parser (S.source self.old.inbox.source)
-            self.old.inbox.pushes.items) (K.sink self.old.sink) self.old.broken)
-            (connection_of
-            (inflow_of self.new.inbox.parser (S.source self.new.inbox.source)
-            self.new.inbox.pushes.items) (K.sink self.new.sink) self.new.broken)
+            (connection_at S.source K.sink self.old)
+            (connection_at S.source K.sink self.new)
             bytes.now (offset + count) result (AnswersFrom (λ vs. vs.items) offset result) }
     {
         self.broken = true;
@@ -282,12 +276,9 @@ impl<S: ReplySource, K: CommandSink> ByteLink<S, K> {
 }
 
 impl<S: ReplySource, K: CommandSink> ConnectionLike for ByteLink<S, K> {
-    ghost use Rattle.resp_link.specs.Linking.{connection_of};
-    ghost use Rattle.resp_link.specs.Receiving.{inflow_of};
+    ghost use Rattle.resp_link.specs.LinkStates.{connection_at};
 
-    ghost connection = { λ c. connection_of
-        (inflow_of c.inbox.parser (S.source c.inbox.source) c.inbox.pushes.items)
-        (K.sink c.sink) c.broken };
+    ghost connection = { connection_at S.source K.sink };
 
     fn req_command(&mut self, cmd: &Cmd) -> RedisResult<Value> {
         if self.broken {
