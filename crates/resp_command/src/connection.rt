@@ -1,4 +1,7 @@
 //! Connections.
+//!
+//! The trait lies beside [`Cmd`](crate::Cmd), since each names the other: a connection takes a
+//! command, and a command's query takes a connection.
 
 ghost use Rattle.std.specs.Prelude.{◌≡◌, ◌+◌, Ok, IfOk, length};
 ghost use Rattle.resp_command.specs.Connection.{Connection};

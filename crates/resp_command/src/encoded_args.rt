@@ -108,6 +108,8 @@ impl EncodedArgs {
         requires { index ≤ length self.now }
         ensures { result ≡ length (flat_map bulk (take index self.now)) }
     {
+        // Not used: reading it tells the prover that the buffer has fewer than 2^63 bytes, so that no
+        // sum below wraps.
         let _size = self.bytes.len();
         if index == 0 {
             0
@@ -137,6 +139,7 @@ impl EncodedArgs {
         requires { 0 < length self.old }
         ensures { self.new ≡ (if is_ok result then extended self.old more.now else self.old) }
     {
+        // As in `start_of`.
         let _size = self.bytes.len();
         let last = self.spans.len() - 1;
         let start = self.start_of(last) + 1;

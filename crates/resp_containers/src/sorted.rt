@@ -1,4 +1,7 @@
 //! Maps and sets in the order of their keys.
+//!
+//! The impls are those of `hashed.rt` but for their bounds and `keying`: no trait of the standard
+//! library spans both kinds, and a macro of a repository may not write impls.
 
 ghost use Rattle.resp_containers.specs.Keyed.{sorted};
 

@@ -104,6 +104,9 @@ impl From<String> for Text {
     }
 }
 
+// `Description` of `resp_errors` has the four impls below too, over its own `as_str`: an impl for every
+// type that has one would overlap with those of the standard library.
+
 impl fmt::Debug for Text {
     fn fmt<W: fmt::Write>(&self, f: &mut fmt::Formatter<W>) -> fmt::Result {
         let text = self.as_str();

@@ -1,4 +1,6 @@
 //! Integers of replies.
+//!
+//! Each type has its impl written out, since a macro of a repository may not write impls.
 
 ghost use Rattle.std.specs.Prelude.{◌≡◌, ℤ, ℕ, List, Bool, IfErr, MatchResult, Ok};
 ghost use Rattle.std.specs.Result.{IsErrAnd};

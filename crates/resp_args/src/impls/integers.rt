@@ -1,4 +1,6 @@
 //! Whole numbers are written in plain decimal.
+//!
+//! Each type has its impl written out, since a macro of a repository may not write impls.
 
 ghost use Rattle.std.specs.Prelude.{◌≡◌, [], ◌∷◌, ◌++◌, OnOk, OnErr};
 ghost use Rattle.std.specs.Fmt.{decimal, signed_decimal};

@@ -1,4 +1,6 @@
 //! Integers.
+//!
+//! Each type has its impl written out, since a macro of a repository may not write impls.
 
 use crate::single_valued::{SingleKey, SingleValued};
 
