@@ -108,19 +108,8 @@ pub record Stopped (old : Machine) (c d : Counts) (n : ℕ) : Type 0 where
   pub once : d.looks + c.examined ≤ c.looks + d.examined
   pub most : d.examined + old.scanned ≤ c.examined + n
 
--- four thirds of an iteration for each byte taken, and one iteration, pay for the iterations; a
--- whole value keeps two
-abbrev pub StepCost : Machine → Machine → List ℕ → Counts → Counts → Result Step ReadError → Type 0
-StepCost old new bytes c d (Ok (step.Waits n)) = Looks old new c d n
-    × (3 * d.iterations + potential new + 4 * c.examined ≤ 3 * c.iterations + potential old + 4 * d.examined + 3)
-StepCost old new bytes c d (Ok (step.Goes n)) = Looks old new c d n
-    × (3 * d.iterations + potential new + 4 * c.examined ≤ 3 * c.iterations + potential old + 4 * d.examined)
-StepCost old new bytes c d (Ok (step.Whole n v)) = Looks old new c d n
-    × (3 * d.iterations + potential new + 4 * c.examined + 6 ≤ 3 * c.iterations + potential old + 4 * d.examined)
-StepCost old new bytes c d (Err e) = Stopped old c d (length bytes)
-    × (3 * d.iterations + 4 * c.examined ≤ 3 * c.iterations + potential old + 4 * d.examined + 3)
-
--- the same but for the step's own iteration
+-- four thirds of an iteration for each byte examined pay for the iterations of reading a header; what
+-- it begins keeps one more, and a whole value three
 abbrev pub HeaderCost : Machine → Machine → List ℕ → Counts → Counts → Result Step ReadError → Type 0
 HeaderCost old new bytes c d (Ok (step.Waits n)) = Looks old new c d n
     × (3 * d.iterations + potential new + 4 * c.examined ≤ 3 * c.iterations + potential old + 4 * d.examined)
@@ -130,6 +119,11 @@ HeaderCost old new bytes c d (Ok (step.Whole n v)) = Looks old new c d n
     × (3 * d.iterations + potential new + 4 * c.examined + 9 ≤ 3 * c.iterations + potential old + 4 * d.examined)
 HeaderCost old new bytes c d (Err e) = Stopped old c d (length bytes)
     × (3 * d.iterations + 4 * c.examined ≤ 3 * c.iterations + potential old + 4 * d.examined)
+
+-- a step costs as much, after its own iteration
+abbrev pub StepCost : Machine → Machine → List ℕ → Counts → Counts → Result Step ReadError → Type 0
+StepCost old new bytes c d r =
+    HeaderCost old new bytes (record c { iterations = c.iterations + 1 }) d r
 
 abbrev pub RunCost : Machine → Machine → List ℕ → Counts → Counts →
     Result (ℕ × Option Value) ReadError → Type 0
