@@ -10,7 +10,7 @@ use Rattle.resp_command.specs.declared.fetching.FetchedPage.{FetchedPage}
 use Rattle.resp_command.specs.declared.fetching.FetchedPage.TheVariants.{Results, Failed, Nothing}
 use Rattle.resp_command.specs.declared.fetching.Fetched.{Fetched}
 
--- what was found is these answers
+-- what was fetched is these answers
 abbrev pub IsFetchedPage : {X : Type 0} → FetchedPage X → List (Result X RedisError) → Type 0
 IsFetchedPage (Results v) answers = (answers ≡ as_answers v.items) × (v.items ≢ [])
 IsFetchedPage (Failed e) answers = answers ≡ Err e ∷ []

@@ -12,7 +12,7 @@ use resp_from::FromRedisValue;
 use resp_value::{ParsingError, RedisError, RedisResult, Value};
 use std::alloc::Global;
 
-/// What requests gave.
+/// What was fetched.
 #[derive(Drop)]
 pub enum FetchedPage<T> {
     /// The results of a batch, one or more.
@@ -23,7 +23,7 @@ pub enum FetchedPage<T> {
     Nothing,
 }
 
-/// What requests gave, the latest cursor, and how many requests may still be made.
+/// What was fetched, the latest cursor, and how many requests may still be made.
 #[derive(Drop)]
 pub struct Fetched<T> {
     pub page: FetchedPage<T>,
@@ -31,7 +31,8 @@ pub struct Fetched<T> {
     pub left: u64,
 }
 
-/// Asks while batches are empty, the cursor isn't 0, and the budget lasts.
+/// Fetches a page that has results: asks while pages have none, the cursor isn't 0, and the budget
+/// lasts.
 pub fn fetch<T: FromRedisValue, C: ConnectionLike>(
     alloc: Global,
     con: &mut C,
@@ -72,7 +73,7 @@ fn cursor_after<T>(given: &RedisResult<Page<T>>, cursor: u64) -> u64
     }
 }
 
-/// What is found in what a request gave; a page has no results where memory ran out for them.
+/// What was fetched by what a request gave; a page has no results where memory ran out for them.
 fn page_in<T: Drop>(given: RedisResult<Page<T>>) -> FetchedPage<T>
     ensures { IsFetchedPage result (answers_of given) }
 {
