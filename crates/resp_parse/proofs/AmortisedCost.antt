@@ -1,4 +1,4 @@
--- The bytes taken pay for the iterations.
+-- The bytes examined pay for the iterations.
 use Rattle.std.proofs.Common.{◌≡◌, ℕ, ◌+◌, ◌-◌, ◌*◌, ◌≤◌, List, ap, arith, refl, Some, None, Ok}
 use Rattle.resp_value.specs.declared.value.Value.{Value}
 use Rattle.resp_parse.specs.declared.machine.Machine.{Machine}

@@ -42,7 +42,7 @@ module _ (d : ℕ) (gs : List OpenAggregate) (w : Value) (now : List OpenAggrega
   attach-refused m Memory a c = tt
   attach-refused m (Fault g) a c = λ more. closed a more ∙ rw c refl
 
--- what the aggregates have taken and saved, where the innermost has one element more
+-- the least bytes and the potential of the aggregates, where the innermost has one element more
 module _ (now : List OpenAggregate) (f : OpenAggregate) (fs : List OpenAggregate) (now_is : now ≡ f ∷ fs) (v : Value) (vs : List Value) (vs_is : vs ≡ f.elements ++ (v ∷ [])) where
   pub elements-more : length vs ≡ suc (length f.elements)
   elements-more = ap length vs_is ∙ grind (arith, common_steps)

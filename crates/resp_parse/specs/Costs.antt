@@ -1,4 +1,5 @@
--- What a machine has taken and built, and the iterations that it has saved.
+-- What a machine has taken and built, and the amortised cost of its steps in iterations: iterations
+-- that are paid for by bytes and not yet made are its potential.
 use Rattle.std.specs.Prelude.{◌≡◌, ℕ, ◌+◌, ◌-◌, ◌*◌, ◌≤◌, List, [], ◌∷◌, length, Option, None, Some, Result, Ok, Err}
 use Rattle.std.specs.List.{sum_by}
 use Rattle.resp_value.specs.declared.value.Value.{Value}
@@ -32,7 +33,7 @@ body_least_bytes (Some b) = 3
 abbrev pub least_bytes : Machine → ℕ
 least_bytes m = body_least_bytes m.body + aggregates_least_bytes m.open_aggregates
 
--- of n bytes, what the machine and a whole value have taken
+-- the machine and a whole value are built within n bytes
 abbrev pub BuiltWithin : Machine → ℕ → Result (Option Value) ReadError → Type 0
 BuiltWithin new n (Ok None) = least_bytes new ≤ n
 BuiltWithin new n (Ok (Some v)) = least_bytes new + 3 * built v ≤ n
@@ -85,13 +86,13 @@ LooksAt scanned bytes c d (Some n) =
 LooksAt scanned bytes c d None =
     LooksAlone c d × (d.iterations + (scanned - 1) ≤ c.iterations + (length bytes - 1))
 
--- a value is begun: one that is whole makes no iteration, another saves two
+-- a value is begun: one that is whole makes no iteration, another prepays two
 abbrev pub Begins : Machine → Machine → Counts → Counts → Result (Option Value) ReadError → Type 0
 Begins old new c d (Ok (Some v)) = d.iterations + prepaid new ≤ c.iterations + prepaid old
 Begins old new c d (Ok None) = d.iterations + prepaid new ≤ c.iterations + prepaid old + 2
 Begins old new c d (Err e) = d.iterations ≤ c.iterations + prepaid old
 
--- a value is placed: the iterations made are among those saved and two for the value
+-- a value is placed: the iterations made are among those prepaid and two for the value
 abbrev pub Places : {X : Type 0} → Machine → Machine → Counts → Counts → Result X ReadError → Type 0
 Places old new c d (Ok x) = d.iterations + prepaid new ≤ c.iterations + prepaid old + 2
 Places old new c d (Err e) = d.iterations ≤ c.iterations + prepaid old + 2
@@ -108,8 +109,8 @@ pub record Stopped (old : Machine) (c d : Counts) (n : ℕ) : Type 0 where
   pub once : d.looks + c.examined ≤ c.looks + d.examined
   pub most : d.examined + old.scanned ≤ c.examined + n
 
--- four thirds of an iteration for each byte examined pay for the iterations of reading a header; what
--- it begins keeps one more, and a whole value three
+-- four thirds of an iteration for each byte examined pay for reading a header; what it begins keeps
+-- one iteration more, and a whole value three
 abbrev pub HeaderCost : Machine → Machine → List ℕ → Counts → Counts → Result Step ReadError → Type 0
 HeaderCost old new bytes c d (Ok (step.Waits n)) = Looks old new c d n
     × (3 * d.iterations + potential new + 4 * c.examined ≤ 3 * c.iterations + potential old + 4 * d.examined)

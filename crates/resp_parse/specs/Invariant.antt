@@ -33,8 +33,8 @@ pub record Holds (m : Machine) (unparsed since : List ℕ) (failed : Bool) : Typ
   pub resumes : failed ≡ false → Resumes m unparsed since
   pub progress : (since ≡ []) ↔ Rests m unparsed
 
--- the bytes taken and the calls pay for the iterations made and for what the machine has saved;
--- what came was taken or is unparsed
+-- the bytes examined and the calls pay for the iterations made and for the machine's potential;
+-- what was received was examined or is unparsed
 pub record Balanced (m : Machine) (unparsed : List ℕ) (counts : Counts) : Type 0 where
   pub cost : 3 * counts.iterations + potential m ≤ 4 * counts.examined + 3 * counts.calls
   pub accounted : counts.examined + length unparsed ≡ counts.received + m.scanned
