@@ -35,13 +35,13 @@ pub enum NumericBehavior {
 /// each counts for one argument and is no number, and a slice is written item by item.
 ///
 /// ```text
-/// impl ToRedisArgs for Point {
-///     ghost gives = { λ p args. args ≡ signed_decimal p.x ∷ signed_decimal p.y ∷ [] };
+/// impl ToRedisArgs for Member {
+///     ghost gives = { λ m args. args ≡ signed_decimal m.score ∷ string_bytes m.name ∷ [] };
 ///
 ///     ghost count = { λ _. 2 };
 ///
 ///     fn write_redis_args<W: RedisWrite>(&self, out: &mut W) -> RedisResult<()> {
-///         (&self.x, &self.y).write_redis_args(out)
+///         (&self.score, &self.name).write_redis_args(out)
 ///     }
 ///
 ///     fn write_args_from_slice<W: RedisWrite>(items: &[Self], out: &mut W) -> RedisResult<()> {
@@ -62,17 +62,17 @@ pub enum NumericBehavior {
 /// }
 /// ```
 ///
+/// In `crates/example_arguments/src/member.rt`.
+///
 /// Fields may also be written one after another, or as a slice; a tuple of them takes references. A
 /// type that is written as another one says so by that one's members, and where that one can be
 /// refused, it says this too, and may say how:
 ///
 /// ```text
-/// ghost gives = { λ f. ⟦<BTreeMap<String, i64> as ToRedisArgs>⟧.gives f.pairs };
-///
-/// ghost refuses = { λ f. ⟦<BTreeMap<String, i64> as ToRedisArgs>⟧.refuses f.pairs };
-///
-/// ghost fails = { λ f. ⟦<BTreeMap<String, i64> as ToRedisArgs>⟧.fails f.pairs };
+/// ghost gives = { λ f. ⟦<BTreeMap<String, Vec<i64>> as ToRedisArgs>⟧.gives f.values };
 /// ```
+///
+/// In `crates/example_arguments/src/fields.rt`.
 pub trait ToRedisArgs: Sized {
     /// Which arguments a value gives.
     ghost gives: { Self → Args → Type 0 };

@@ -33,8 +33,11 @@ pub trait ArgPart {
 /// One argument: the parts, joined with nothing between them.
 ///
 /// ```text
-/// cmd(alloc, "GET")?.arg(Joined(("user:", id, ":name")))?;
+/// let mut command = cmd(alloc, "GET")?;
+/// command.push_arg(Joined(("user:", id, ":name")))?;
 /// ```
+///
+/// In `crates/example_arguments/src/limit_key.rt`.
 ///
 /// In an own type's impl of [`ToRedisArgs`] it takes the fields by reference, and the type gives
 /// `GivesOne` of the joined bytes:
@@ -46,6 +49,8 @@ pub trait ArgPart {
 ///     Joined(("limit:", &self.name)).write_redis_args(out)
 /// }
 /// ```
+///
+/// In `crates/example_arguments/src/limit_key.rt`.
 #[derive(Clone, Copy, Debug, Drop)]
 pub struct Joined<T>(pub T);
 

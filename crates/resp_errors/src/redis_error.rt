@@ -153,10 +153,12 @@ impl RedisError {
     ///
     /// ```text
     /// match error.first_server_error() {
-    ///     Some((position, cause)) if cause.code() == "WRONGTYPE" => ..,
-    ///     ..
+    ///     Some((_, first)) => first.code() == "WRONGTYPE",
+    ///     None => false,
     /// }
     /// ```
+    ///
+    /// In `crates/example_replies/src/counters.rt`.
     pub fn first_server_error(&self) -> Option<(usize, &ServerError)>
         ensures { option_map (λ found. (found.0, found.1.now)) result
             ≡ first_server_error_of self.now }

@@ -14,10 +14,15 @@ use std::marker::Model;
 /// The fields of a reply by name, as HGETALL answers them. Each is taken out once.
 ///
 /// ```text
-/// let mut fields: Fields = cmd(alloc, "HGETALL")?.arg("user:1")?.query(con)?;
-/// let name: String = fields.take(alloc, "name")?;
-/// let age: i64 = fields.take_or(alloc, "age", 0)?;
+/// let mut fields: Fields = cmd(alloc, "HGETALL")?.arg(key)?.query(con)?;
+/// Ok(Profile {
+///     name: fields.take(alloc, "name")?,
+///     age: fields.take(alloc, "age")?,
+///     city: fields.take_or(alloc, "city", None)?,
+/// })
 /// ```
+///
+/// In `crates/example_limiter/src/profile.rt`.
 #[derive(Drop)]
 pub struct Fields {
     entries: BTreeMap<String, Value>,
