@@ -70,6 +70,8 @@ pub enum NumericBehavior {
 ///
 /// ```text
 /// ghost gives = { λ f. ⟦<BTreeMap<String, Vec<i64>> as ToRedisArgs>⟧.gives f.values };
+///
+/// ghost refuses = { λ f. ⟦<BTreeMap<String, Vec<i64>> as ToRedisArgs>⟧.refuses f.values };
 /// ```
 ///
 /// In `crates/example_arguments/src/fields.rt`.
