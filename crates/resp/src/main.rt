@@ -12,7 +12,7 @@
 //! it is `refused: out of memory`.
 #![tactic(auto)]
 
-use resp_cli_lib::{Task, pack, print_no_words, print_usage, query, read, task_of};
+use resp_cli::{Task, pack, print_no_words, print_usage, query, read, task_of};
 use resp_core::ByteLink;
 use std::process::ExitCode;
 use std::{env, io};

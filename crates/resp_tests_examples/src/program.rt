@@ -1,6 +1,6 @@
 //! The program `resp` where its streams fail, where its words can't be had, and over many replies.
 
-use resp_cli_lib::{pack, print_no_words, query, read};
+use resp_cli::{pack, print_no_words, query, read};
 use resp_testing::{Device, bytes_text, link_over};
 use std::io;
 use std::process::Abort;

@@ -3,7 +3,7 @@
 
 use crate::heap::{Test, refuse, was_refused};
 use crate::links::link;
-use resp_cli_lib::{pack, query, read};
+use resp_cli::{pack, query, read};
 
 fn words(rt: &impl Test, line: &str) -> Vec<String> {
     let mut words = Vec::new(rt.alloc());

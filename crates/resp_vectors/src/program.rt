@@ -3,7 +3,7 @@
 use crate::queries::link_over;
 use crate::rows::{Row, text_of};
 use crate::texts::quoted;
-use resp_cli_lib::{Task, pack, print_usage, query, read, task_of};
+use resp_cli::{Task, pack, print_usage, query, read, task_of};
 use resp_core::RedisResult;
 use std::alloc::Global;
 
