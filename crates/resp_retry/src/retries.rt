@@ -41,10 +41,12 @@ impl<T: FromRedisValue> Attempt<T> for Cmd {
 /// doesn't; [`RedisError::retry_method`] says what an error asks for:
 ///
 /// ```text
-/// let visits: i64 = retrying(con, 3, cmd(alloc, "INCR")?.arg("visits")?, |error| {
+/// retrying(con, 3, cmd(alloc, "INCR")?.arg(page)?, |error| {
 ///     error.retry_method() == RetryMethod::WaitAndRetry
-/// })?;
+/// })
 /// ```
+///
+/// In `crates/example_replies/src/counters.rt`.
 ///
 /// A link that met a fault stays broken, so an attempt over it after `Reconnect` or
 /// `RetryImmediately` is refused: stop there, and make a new one.

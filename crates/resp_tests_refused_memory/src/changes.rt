@@ -4,8 +4,8 @@ use crate::heap::{Test, ran_out, refuse};
 use crate::made::{LONG, get};
 use crate::subjects::{REST, Subject};
 use resp_core::{
-    ArgList, ArgWriter, Cmd, Items, Parser, Pipeline, RedisResult, RedisWrite, ToRedisArgs, cmd,
-    write_each_arg,
+    ArgList, ArgPart, ArgWriter, Cmd, Items, Joined, Parser, Pipeline, RedisResult, RedisWrite,
+    ToRedisArgs, cmd, write_each_arg,
 };
 use std::alloc::Global;
 
@@ -317,4 +317,29 @@ fn items_in_a_vector(rt: HostRuntime) {
         let answer = write(way, ["a", "b"].as_slice(), &mut out);
         appended(&rt, out.as_slice(), &answer, 2);
     }
+}
+
+/// A part at the end of the last argument, if there is one.
+fn write_part(out: &mut Vec<Vec<u8>>) -> RedisResult<()> {
+    if out.is_empty() {
+        return Ok(());
+    }
+    ("-", 12i64).write_part(out)
+}
+
+/// One argument of several parts, and a part of the last argument: a refused one may be there in
+/// part.
+#[test]
+fn arguments_of_several_parts(rt: HostRuntime) {
+    let mut out = list(&rt);
+    refuse(rt.alloc());
+    let answer = Joined(("user:", 7u64, ":name")).write_redis_args(&mut out);
+    appended(&rt, out.as_slice(), &answer, 1);
+    let mut out = list(&rt);
+    refuse(rt.alloc());
+    let answer = write_part(&mut out);
+    let refused = ran_out(&rt, &answer);
+    let only = out.first().expect(&rt, "the old argument");
+    assert!(rt; out.len() == 1 && (refused || only.as_slice() == b"old-12".as_slice()));
+    assert!(rt; b"old-12".starts_with(only.as_slice()) && only.starts_with(b"old"));
 }

@@ -22,6 +22,7 @@ fn questions(rt: HostRuntime) {
     assert_eq!(rt; error.retry_method(), RetryMethod::MovedRedirect);
     assert!(rt; error.is_cluster_error() && !error.is_unrecoverable_error());
     assert!(rt; error.code() == Some("MOVED") && error.detail() == Some("1 a:7"));
+    assert!(rt; matches!(error.first_server_error(), Some((0, _))));
     assert!(rt; error.frame_fault().is_none() && error.io_kind().is_none());
     assert!(rt; !error.is_io_error() && !error.is_timeout() && !error.is_connection_dropped());
     assert!(rt; !error.is_connection_refusal() && error.category() == error.kind().category());

@@ -4,7 +4,7 @@
 use crate::heap::{Test, refuse};
 use crate::links::{answered, link};
 use crate::made::{GET_K, get};
-use resp_core::{FromRedisValue, Pipeline, pipe};
+use resp_core::{Attempt, Cmd, FromRedisValue, Pipeline, RedisError, RedisResult, pipe, retrying};
 use std::collections::BTreeMap;
 use std::fmt::Debug;
 
@@ -38,6 +38,23 @@ fn a_command_without_an_answer(rt: HostRuntime) {
     refuse(rt.alloc());
     let answer = command.exec(&mut con);
     answered(&rt, (con, GET_K.len()), answer, "Ok(())");
+}
+
+fn never(_error: &RedisError) -> bool {
+    false
+}
+
+#[test]
+fn commands_that_may_be_tried_again(rt: HostRuntime) {
+    let command = get(&rt);
+    let mut con = link(&rt, TEXT);
+    refuse(rt.alloc());
+    let answer: RedisResult<String> = command.attempt(&mut con);
+    answered(&rt, (con, GET_K.len()), answer, "Ok(\"abc\")");
+    let mut con = link(&rt, TEXT);
+    refuse(rt.alloc());
+    let answer = retrying::<String, Cmd, _>(&mut con, 3, &command, never);
+    answered(&rt, (con, GET_K.len()), answer, "Ok(\"abc\")");
 }
 
 /// `SET k 1`, which may be ignored, and `GET k`; and how long they are when packed.
