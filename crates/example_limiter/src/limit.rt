@@ -48,12 +48,9 @@ fn judged(calls: i64, limit: i64) -> Verdict
 
 /// Whether the first command that failed found a value of another type at its key.
 fn is_wrong_type(error: &RedisError) -> bool {
-    match error {
-        RedisError::Pipeline(errors) => match errors.first() {
-            Some((_, first)) => first.code() == "WRONGTYPE",
-            None => false,
-        },
-        _ => false,
+    match error.first_server_error() {
+        Some((_, first)) => first.code() == "WRONGTYPE",
+        None => false,
     }
 }
 

@@ -94,9 +94,13 @@ fn values_that_come_back(rt: HostRuntime) {
     assert_debug(&rt, &back, "Some(array([int(1), int(2), int(3)]))");
     let back = reply(&rt, b"%0\r\n").into_sequence(rt.alloc()).err();
     assert_debug(&rt, &back, "Some(map([]))");
-    let good = reply(&rt, b"%1\r\n+a\r\n*1\r\n+OK\r\n");
+    let unharmed = reply(&rt, b"%1\r\n+a\r\n*1\r\n+OK\r\n");
     let wanted = "map([(simple-string(\"a\"), array([ok]))])";
-    assert_text(&rt, answer_text(rt.alloc(), good.extract_error()), wanted);
+    assert_text(
+        &rt,
+        answer_text(rt.alloc(), unharmed.extract_error()),
+        wanted,
+    );
     let payload = vec![in rt.alloc(); Value::Int(1)].expect(&rt, "memory");
     let push = PushInfo {
         kind: PushKind::Message,
