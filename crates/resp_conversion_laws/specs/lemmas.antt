@@ -2,7 +2,7 @@ pub mod Commands
 pub mod InOrder
 pub mod Lists
 pub mod LookUps
-pub mod Made
+pub mod Via
 pub mod Maps
 pub mod Scalars
 pub mod Sorted

@@ -14,7 +14,7 @@ pub use Rattle.resp_from.specs.Lists.{OfArray, OfVec}
 pub use Rattle.resp_from.specs.Maps.{HoldsMap, HoldsSet, OfMap, OfSet}
 pub use Rattle.resp_conversion_laws.specs.Laws.{Agree, FitsUnsigned, GoesBySeen, IsSingleValued, ReadsBack}
 pub use Rattle.resp_conversion_laws.specs.Laws.{pair_seen, result_seen}
-pub use Rattle.resp_conversion_laws.specs.lemmas.Made.{one_via}
+pub use Rattle.resp_conversion_laws.specs.lemmas.Via.{one_via}
 pub use Rattle.resp_conversion_laws.specs.lemmas.Scalars.{one_signed, one_string, one_truth, one_unsigned}
 pub use Rattle.resp_conversion_laws.specs.lemmas.Tuples.{last_one, one_and, one_tuple}
 pub use Rattle.resp_containers.specs.Keyed.{Keying, IsDeduplicated, IsMerged, hashed, sorted}

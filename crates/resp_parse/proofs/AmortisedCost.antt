@@ -56,14 +56,18 @@ module _ (old m : Machine) (c d : Counts) (at : ℕ) (h : CostSoFar old m c d at
   looks-on : (new : Machine) (e : Counts) (n : ℕ) → Looks m new d e n → Looks old new c e (at + n)
   looks-on new e n l = record { same = examined-both c d e h.looks.same l.same; once = omega (arith, h.looks.once, l.once); examined = omega (arith, h.looks.examined, l.examined) }
 
+  -- what a step looked at, counted with its own iteration
+  of-step : (new : Machine) (e : Counts) (n : ℕ) → Looks m new (record d { iterations = d.iterations + 1 }) e n → Looks m new d e n
+  of-step new e n l = record { same = l.same; once = l.once; examined = l.examined }
+
   pub CostSoFar-end : (bytes : List ℕ) → RunCost old m bytes c d (Ok (at, None))
   CostSoFar-end bytes = (h.looks, omega (arith, h.cost))
 
   pub CostSoFar-waits : (new : Machine) (e : Counts) (rest bytes : List ℕ) (n : ℕ) → StepCost m new rest d e (Ok (step.Waits n)) → RunCost old new bytes c e (Ok (at + n, None))
-  CostSoFar-waits new e rest bytes n s = (looks-on new e n s.0, omega (arith, h.cost, s.1))
+  CostSoFar-waits new e rest bytes n s = (looks-on new e n (of-step new e n s.0), omega (arith, h.cost, s.1))
 
   pub CostSoFar-goes : (new : Machine) (e : Counts) (rest : List ℕ) (n : ℕ) → StepCost m new rest d e (Ok (step.Goes n)) → StepBuiltWithin m new (Ok (step.Goes n)) → CostSoFar old new c e (at + n)
-  CostSoFar-goes new e rest n s w = record { looks = looks-on new e n s.0; cost = omega (arith, h.cost, s.1); built_within = omega (arith, h.built_within, w) }
+  CostSoFar-goes new e rest n s w = record { looks = looks-on new e n (of-step new e n s.0); cost = omega (arith, h.cost, s.1); built_within = omega (arith, h.built_within, w) }
 
   -- a value is whole, and was put where it belongs
   module _ (mid new : Machine) (e f : Counts) (rest : List ℕ) (n : ℕ) (v : Value) (s : StepCost m mid rest d e (Ok (step.Whole n v))) (w : StepBuiltWithin m mid (Ok (step.Whole n v))) (iterations : SameButIterations e f) where
