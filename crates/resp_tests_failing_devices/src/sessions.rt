@@ -29,7 +29,7 @@ fn a_query_flushes_its_writer(rt: HostRuntime) {
 
 #[test]
 fn nothing_is_asked_after_a_refusal(rt: HostRuntime) {
-    each! { pings_once, rt;
+    each! { assert_one_ping, rt;
         (b":x\r\n:1\r\n", 4, 0, None) => "NotInteger; broken [], 1 reads",
         (b":1\r\n", 2, 2, None) => "UnexpectedEof; broken [], 2 reads",
         (b":1\r\n", 4, 1, Some(ErrorKind::Interrupted)) => "Interrupted; broken [], 1 reads",
@@ -147,7 +147,7 @@ fn assert_shown(
 fn a_broken_link_asks_nothing(rt: HostRuntime) {
     const FAULTY: &[u8] = b">2\r\n+message\r\n:1\r\n:x\r\n:2\r\n:3\r\n";
     // Bytes that are no reply, an early end, a reader that fails, and a writer that fails.
-    each! { shows_all, rt;
+    each! { assert_shown, rt;
         (FAULTY, 0, 0) => "NotInteger; ........broken \
             [PushInfo { kind: Message, payload: [int(1)] }], \
             22 reads, 14 writes, 1 flushes: *1\r\n$4\r\nPING\r\n",
@@ -197,7 +197,7 @@ fn assert_limited(
 
 #[test]
 fn links_of_limits(rt: HostRuntime) {
-    each! { is_limited, rt;
+    each! { assert_limited, rt;
         (b":5\r\n*1\r\n:7\r\n", 1, 100) => "5; TooDeep; broken",
         (b":5\r\n:67\r\n", 1, 4) => "5; TooLong; broken",
         (b":5\r\n:6\r\n", 1, 4) => "5; 6; usable",

@@ -13,7 +13,7 @@ use std::rc::{Rc, RcSlice};
 
 #[test]
 fn scalars_and_texts_are_one_argument(rt: HostRuntime) {
-    each! { gives, rt;
+    each! { assert_args, rt;
         &42i32 => "2:42 (1)",
         &i8::MIN => "4:-128 (1)",
         &0u8 => "1:0 (1)",
@@ -32,7 +32,7 @@ fn scalars_and_texts_are_one_argument(rt: HostRuntime) {
 
 #[test]
 fn bytes_are_one_argument_and_slices_their_items(rt: HostRuntime) {
-    each! { gives, rt;
+    each! { assert_args, rt;
         &Vec::<u8>::new(rt.alloc()) => "0: (1)",
         &b"a\r\n".as_slice() => "3:a\r\n (1)",
         &b"ab" => "2:ab (1)",
@@ -50,7 +50,7 @@ fn bytes_are_one_argument_and_slices_their_items(rt: HostRuntime) {
 fn vectors_and_owners_are_what_they_hold(rt: HostRuntime) {
     let alloc = rt.alloc();
     let bytes = vec![in alloc; 7u8, 8u8].expect(&rt, "memory");
-    each! { made_gives, rt;
+    each! { assert_made_args, rt;
         vec![in alloc; (1i64, 2i64)] => "1:1 1:2 (2)",
         vec![in alloc; Some(1i64), None] => "1:1 (2)",
         vec![in alloc; None::<i64>] => "(1)",
@@ -67,7 +67,7 @@ fn vectors_and_owners_are_what_they_hold(rt: HostRuntime) {
 
 #[test]
 fn tuples_are_their_elements(rt: HostRuntime) {
-    each! { gives, rt;
+    each! { assert_args, rt;
         &("a",) => "1:a (1)",
         &("a", Some(2i64)) => "1:a 1:2 (2)",
         &("a", None::<i64>) => "1:a (2)",
@@ -79,7 +79,7 @@ fn tuples_are_their_elements(rt: HostRuntime) {
 #[test]
 fn sets_and_maps_are_their_entries(rt: HostRuntime) {
     let alloc = rt.alloc();
-    each! { made_gives, rt;
+    each! { assert_made_args, rt;
         BTreeSet::from_array(alloc, [2u32, 1]) => "1:1 1:2 (2)",
         BTreeMap::from_array(alloc, [("b", 2u32), ("a", 1)]) => "1:a 1:1 1:b 1:2 (2)",
         HashMap::from_array(alloc, [("a", "b")]) => "1:a 1:b (1)",
@@ -99,7 +99,7 @@ fn sets_and_maps_are_their_entries(rt: HostRuntime) {
 
 #[test]
 fn options_of_commands_are_words(rt: HostRuntime) {
-    each! { gives, rt;
+    each! { assert_args, rt;
         &SetExpiry::EX(10) => "2:EX 2:10 (1)",
         &SetExpiry::PX(0) => "2:PX 1:0 (1)",
         &SetExpiry::EXAT(u64::MAX) => "4:EXAT 20:18446744073709551615 (1)",
@@ -123,7 +123,7 @@ fn options_of_commands_are_words(rt: HostRuntime) {
 #[test]
 fn comparisons_are_a_name_and_a_text(rt: HostRuntime) {
     let alloc = rt.alloc();
-    each! { made_gives, rt;
+    each! { assert_made_args, rt;
         ValueComparison::ifeq(alloc, 5i64) => "4:IFEQ 1:5 (1)",
         ValueComparison::ifne(alloc, "x") => "4:IFNE 1:x (1)",
         ValueComparison::ifdeq(alloc, "d") => "5:IFDEQ 1:d (1)",

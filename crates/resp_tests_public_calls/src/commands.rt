@@ -40,7 +40,7 @@ fn refused_argument_changes_nothing(rt: HostRuntime) {
     let mut command = command(rt.alloc(), &["HSET", "key", "7", "x"]).expect(&rt, "memory");
     let pair = command.arg(refused_map(&rt)).err().expect(&rt, "a refusal");
     let midway = command.arg(wide_pairs(&rt)).err().expect(&rt, "a refusal");
-    each! { answers, rt;
+    each! { assert_answer, rt;
         Err::<(), _>(pair) => WIDE,
         Err::<(), _>(midway) => WIDE,
         command.push_arg(refused_map(&rt)) => WIDE,

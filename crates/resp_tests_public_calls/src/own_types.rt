@@ -101,7 +101,7 @@ impl ToRedisArgs for Two {
 
 #[test]
 fn a_value_of_two_arguments_that_counts_for_one(rt: HostRuntime) {
-    each! { made_gives, rt;
+    each! { assert_made_args, rt;
         BTreeMap::from_array(rt.alloc(), [("k", Two)]) => "1:k 1:x 1:y (1)",
         HashMap::from_array(rt.alloc(), [("k", Two)]) => "1:k 1:x 1:y (1)",
     }

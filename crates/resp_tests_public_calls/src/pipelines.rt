@@ -56,7 +56,7 @@ fn the_commands_in_order(rt: HostRuntime) {
 fn refuses<T: ToRedisArgs + Drop>(rt: &impl Test, pipeline: &mut Pipeline, arg: T) {
     assert!(rt; !pipeline.is_empty());
     let refused = pipeline.arg(arg).err().expect(rt, "a refusal");
-    answers::<()>(rt, Err(refused), WIDE);
+    assert_answer::<()>(rt, Err(refused), WIDE);
 }
 
 #[test]

@@ -20,7 +20,7 @@ impl fmt::Display for Torn {
 #[test]
 fn what_values_show_is_an_argument(rt: HostRuntime) {
     let mut command = command(rt.alloc(), &["key"]).expect(&rt, "memory");
-    each! { answers, rt;
+    each! { assert_answer, rt;
         command.write_arg_fmt(rt.alloc(), "value") => "()",
         command.write_arg_fmt(rt.alloc(), 42) => "()",
         command.push_arg(["phone", "barz"].as_slice()) => "()",
@@ -32,7 +32,7 @@ fn what_values_show_is_an_argument(rt: HostRuntime) {
 #[test]
 fn refused_writing_changes_nothing(rt: HostRuntime) {
     let mut command = command(rt.alloc(), &["key"]).expect(&rt, "memory");
-    each! { answers, rt;
+    each! { assert_answer, rt;
         command.write_arg_fmt(rt.alloc(), Torn) => "formatting failed - Client",
         command.reserve_space_for_args([usize::MAX, 1]) => "out of memory",
         command.reserve_space_for_args([3usize, 4]) => "()",
