@@ -1,0 +1,15 @@
+//! The laws of what is sent: functions that do nothing, and whose clauses are proved.
+
+ghost use Rattle.std.specs.Prelude.{◌≡◌};
+ghost use Rattle.resp_value.specs.declared.value.Value.{Value};
+ghost use Rattle.resp_encode.specs.Resp2.{resp2_of, IsResp2};
+
+/// The RESP2 form of a value.
+///
+/// It and all in it are of RESP2's types, whatever the value; and a value of RESP2's types is its
+/// own form. So the form of a form is that form.
+pub fn law_of_resp2()
+    ensures typed { (v : Value) → IsResp2 (resp2_of v) }
+    ensures unchanged { (v : Value) → IsResp2 v → resp2_of v ≡ v }
+    ensures idempotent { (v : Value) → resp2_of (resp2_of v) ≡ resp2_of v }
+{}
