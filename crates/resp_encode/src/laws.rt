@@ -1,0 +1,24 @@
+//! The laws of what is sent: functions that do nothing, and whose clauses are proved.
+
+ghost use Rattle.std.specs.Prelude.{◌≡◌, ℕ};
+ghost use Rattle.resp_value.specs.declared.value.Value.{Value};
+ghost use Rattle.resp_encode.specs.Encoding.{LawOfEncoding};
+ghost use Rattle.resp_encode.specs.Resp2.{resp2_of, IsResp2};
+
+/// The RESP2 form of a value.
+///
+/// It and all in it are of RESP2's types, whatever the value; and a value of RESP2's types is its
+/// own form. So the form of a form is that form.
+pub fn law_of_resp2()
+    ensures typed { (v : Value) → IsResp2 (resp2_of v) }
+    ensures unchanged { (v : Value) → IsResp2 v → resp2_of v ≡ v }
+    ensures idempotent { (v : Value) → resp2_of (resp2_of v) ≡ resp2_of v }
+{}
+
+/// What is sent for a value is read as that value, and as nothing else; and where nothing is, no
+/// bytes spell the value.
+///
+/// The last holds of values whose errors and verbatim strings have texts of up to 2^63 - 1 bytes.
+pub fn law_of_encoding()
+    ensures law { (d : ℕ) (v : Value) → LawOfEncoding d v }
+{}
