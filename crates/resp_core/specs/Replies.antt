@@ -1,4 +1,8 @@
 -- What the contracts of replies and errors cite, given out for the crates of users.
+pub use Rattle.resp_encode.specs.Encoding.{IsShort, LawOfEncoding, encoding}
+pub use Rattle.resp_encode.specs.Encodings.{RefusesValue, encoding_in}
+pub use Rattle.resp_encode.specs.Resp2.{IsResp2, resp2_of}
+pub use Rattle.resp_encode.specs.Resp2Encoding.{LawOfResp2Encoding, resp2_encoding}
 pub use Rattle.resp_errors.specs.Errors.{kind_of, detail_of, code_of, fault_of, io_kind_of}
 pub use Rattle.resp_errors.specs.Errors.{first_server_error_of, server_errors_of}
 pub use Rattle.resp_errors.specs.Memory.{OnlyMemory}

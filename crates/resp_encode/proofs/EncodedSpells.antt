@@ -1,6 +1,7 @@
 -- What is sent for a value spells it.
-use Rattle.std.proofs.Common.{◌≡◌, ℕ, zero, suc, ◌+◌, ◌*◌, ◌<◌, ◌^◌, Bool, true, false, not, cond, ◌&&◌, nat_lt, List, [], ◌∷◌, ◌++◌, length, codes, Option, Some, None, Result, Ok, Err, ℤ, pos, refl, sym, ap, subst, ◌∙◌, append_assoc, arith}
+use Rattle.std.proofs.Common.{◌≡◌, ℕ, zero, suc, ◌+◌, ◌*◌, ◌<◌, ◌^◌, Bool, true, false, not, cond, ◌&&◌, nat_lt, List, [], ◌∷◌, ◌++◌, length, map, codes, Option, Some, None, Result, Ok, Err, ℤ, pos, refl, sym, ap, subst, ◌∙◌, append_assoc, arith}
 use Rattle.std.proofs.lemmas.Bool.{and_parts, ltb-true}
+use Rattle.std.proofs.lemmas.List.{map-id}
 use Rattle.std.specs.Fmt.{◌++?◌, decimal, signed_decimal}
 use Rattle.std.specs.Str.{IsUtf8, is_utf8}
 use Rattle.resp_value.specs.declared.value.Value.{Value, Nil, Okay, Int, SimpleString, BulkString, Array, Map, Attribute, ServerError, Boolean, Double, BigNumber, Set, VerbatimString, Push, roll-Value, out-Value, roll-out-Value}
@@ -97,18 +98,23 @@ body-spells d kind bytes b make v h e makes =
     let rest : bytes ++ crlf ≡ p.second = (let i = p.second_is in cc) in
     counted-spells d kind (length bytes) (body (length bytes) make) p.first p.second b v p.first_is p.whole (e (length bytes)) (record { content = bytes; size = refl; whole = sym rest; makes = makes })
 
--- values one after another
-pub joined-spells : (spell : Value → Option (List ℕ)) (P : List ℕ → Value → Type 0) → ((b : List ℕ) (v : Value) → spell v ≡ Some b → P b v) → (vs : List Value) (b : List ℕ) → joined spell vs ≡ Some b → Joined P b vs
-joined-spells spell P spells [] b e = cc
-joined-spells spell P spells (v ∷ vs) b e =
+-- values one after another, each of which is read as another
+pub joined-spells : (spell : Value → Option (List ℕ)) (P : List ℕ → Value → Type 0) (f : Value → Value) → ((b : List ℕ) (v : Value) → spell v ≡ Some b → P b (f v)) → (vs : List Value) (b : List ℕ) → joined spell vs ≡ Some b → Joined P b (map f vs)
+joined-spells spell P f spells [] b e = cc
+joined-spells spell P f spells (v ∷ vs) b e =
     let p = halves (spell v) (joined spell vs) b e in
-    record { first = p.first; others = p.second; whole = p.whole; first_is = spells p.first v p.first_is; others_are = joined-spells spell P spells vs p.second p.second_is }
+    record { first = p.first; others = p.second; whole = p.whole; first_is = spells p.first v p.first_is; others_are = joined-spells spell P f spells vs p.second p.second_is }
 
 -- a value with elements
-pub aggregate-spells : (d : ℕ) → ((b : List ℕ) (v : Value) → encoding d v ≡ Some b → WellFormed d b v) → (kind : TypeByte) (n m : ℕ) (vs : List Value) (make : List Value → Result Value FrameFault) (b : List ℕ) (v : Value) → aggregate (encoding d) kind n vs ≡ Some b → (n < 2 ^ 63 → announced kind (decimal n) ≡ elements m make) → length vs ≡ m → make vs ≡ Ok v → WellFormed (suc d) b v
-aggregate-spells d spells kind n m vs make b v h e size makes =
-    let p = halves (length_line kind n) (joined (encoding d) vs) b h in
-    counted-spells d kind n (elements m make) p.first p.second b v p.first_is p.whole e (record { values = vs; size = size; joined = joined-spells (encoding d) (WellFormed d) spells vs p.second p.second_is; makes = makes })
+pub aggregate-spells : (d : ℕ) (spell : Value → Option (List ℕ)) (kind : TypeByte) (n m : ℕ) (vs ws : List Value) → ((b : List ℕ) → joined spell vs ≡ Some b → Joined (WellFormed d) b ws) → (make : List Value → Result Value FrameFault) (b : List ℕ) (v : Value) → aggregate spell kind n vs ≡ Some b → (n < 2 ^ 63 → announced kind (decimal n) ≡ elements m make) → length ws ≡ m → make ws ≡ Ok v → WellFormed (suc d) b v
+aggregate-spells d spell kind n m vs ws reads make b v h e size makes =
+    let p = halves (length_line kind n) (joined spell vs) b h in
+    counted-spells d kind n (elements m make) p.first p.second b v p.first_is p.whole e (record { values = ws; size = size; joined = reads p.second p.second_is; makes = makes })
+
+-- an array of values
+pub array-spells : (d : ℕ) (spell : Value → Option (List ℕ)) (vs ws : List Value) → ((b : List ℕ) → joined spell vs ≡ Some b → Joined (WellFormed d) b ws) → (b : List ℕ) → aggregate spell type_byte.Array (length ws) vs ≡ Some b → WellFormed (suc d) b (Array ws)
+array-spells d spell vs ws reads b e = aggregate-spells d spell type_byte.Array (length ws) (length ws) vs ws reads (λ values. Ok (Array values)) b (Array ws) e
+    (λ small. ap (λ r. with_valid r (or_nil (λ k. elements k (λ values. Ok (Array values))))) (integer-decimal (length ws) small)) refl refl
 
 -- ---- kind by kind
 
@@ -117,36 +123,36 @@ not-false false h = refl
 not-false true h = absurd (cc)
 
 -- a choice that is there was made by the test
-kept : (t : Bool) (o : Option (List ℕ)) (b : List ℕ) → cond t o None ≡ Some b → (t ≡ true) × (o ≡ Some b)
+pub kept : (t : Bool) (o : Option (List ℕ)) (b : List ℕ) → cond t o None ≡ Some b → (t ≡ true) × (o ≡ Some b)
 kept true o b e = (refl, e)
 kept false o b e = absurd (cc)
 
-graphic-spells : (d : ℕ) (kind : TypeByte) (text b : List ℕ) (v : Value) → Some (line kind text) ≡ Some b → Graphic text → announced kind text ≡ complete v → WellFormed (suc d) b v
+pub graphic-spells : (d : ℕ) (kind : TypeByte) (text b : List ℕ) (v : Value) → Some (line kind text) ≡ Some b → Graphic text → announced kind text ≡ complete v → WellFormed (suc d) b v
 graphic-spells d kind text b v e g a =
     let z : line kind text ≡ b = cc in
     subst (λ s. WellFormed (suc d) s v) z (line-spells d kind text v (utf8-graphic text g) (unbroken-graphic text g) a)
 
-text-spells : (d : ℕ) (kind : TypeByte) (text b : List ℕ) (v : Value) → line kind text ≡ b → is_line text ≡ true → announced kind text ≡ complete v → WellFormed (suc d) b v
+pub text-spells : (d : ℕ) (kind : TypeByte) (text b : List ℕ) (v : Value) → line kind text ≡ b → is_line text ≡ true → announced kind text ≡ complete v → WellFormed (suc d) b v
 text-spells d kind text b v z h a =
     let p = and_parts (is_utf8 text) (not (has_break text)) h in
     subst (λ s. WellFormed (suc d) s v) z (line-spells d kind text v (IsUtf8-from_is_utf8 text p.0) (no_break text (not-false (has_break text) p.1)) a)
 
-integer-signed : (n : ℤ) → fits_i64 n ≡ true → integer_in (signed_decimal n) ≡ Ok n
+pub integer-signed : (n : ℤ) → fits_i64 n ≡ true → integer_in (signed_decimal n) ≡ Ok n
 integer-signed n h = ap (λ o. elim o as (λ _. Result ℤ FrameFault) [ Some k ↦ Ok k | None ↦ Err NotInteger ]) (number-signed n h)
 
-int-spells : (d : ℕ) (n : ℤ) (b : List ℕ) → given (fits_i64 n) (line type_byte.Integer (signed_decimal n)) ≡ Some b → WellFormed (suc d) b (Int n)
+pub int-spells : (d : ℕ) (n : ℤ) (b : List ℕ) → given (fits_i64 n) (line type_byte.Integer (signed_decimal n)) ≡ Some b → WellFormed (suc d) b (Int n)
 int-spells d n b e =
     let p = given-parts (fits_i64 n) (line type_byte.Integer (signed_decimal n)) b e in
     graphic-spells d type_byte.Integer (signed_decimal n) b (Int n) (ap Some p.1) (signed-graphic n p.0)
     (ap (λ r. with_valid r (λ k. complete (Int k))) (integer-signed n p.0))
 
-simple-spells : (d : ℕ) (text b : List ℕ) → given (is_line text && not (bytes_eq text (codes "OK"))) (line type_byte.SimpleString text) ≡ Some b → WellFormed (suc d) b (SimpleString text)
+pub simple-spells : (d : ℕ) (text b : List ℕ) → given (is_line text && not (bytes_eq text (codes "OK"))) (line type_byte.SimpleString text) ≡ Some b → WellFormed (suc d) b (SimpleString text)
 simple-spells d text b e =
     let p = given-parts (is_line text && not (bytes_eq text (codes "OK"))) (line type_byte.SimpleString text) b e in
     let q = and_parts (is_line text) (not (bytes_eq text (codes "OK"))) p.0 in
     text-spells d type_byte.SimpleString text b (SimpleString text) p.1 q.0 (rw (not-false (bytes_eq text (codes "OK")) q.1) refl)
 
-bulk-spells : (d : ℕ) (bytes b : List ℕ) → body_of type_byte.BulkString bytes ≡ Some b → WellFormed (suc d) b (BulkString bytes)
+pub bulk-spells : (d : ℕ) (bytes b : List ℕ) → body_of type_byte.BulkString bytes ≡ Some b → WellFormed (suc d) b (BulkString bytes)
 bulk-spells d bytes b e = body-spells d type_byte.BulkString bytes b (λ x. Ok (BulkString x)) (BulkString bytes) e
     (λ n small. ap (λ r. with_valid r (or_nil (λ k. body k (λ x. Ok (BulkString x))))) (integer-decimal n small)) refl
 
@@ -190,7 +196,7 @@ double-spells d text b e =
 
 -- ---- aggregates
 
-length-flat : (ps : List (Value × Value)) → length (flat ps) ≡ 2 * length ps
+pub length-flat : (ps : List (Value × Value)) → length (flat ps) ≡ 2 * length ps
 length-flat [] = refl
 length-flat (p ∷ ps) = let later = length-flat ps in omega arith
 
@@ -203,21 +209,20 @@ length-pushed [] v = refl
 length-pushed (w ∷ vs) v = let later = length-pushed vs v in omega arith
 
 module _ (d : ℕ) (spells : (b : List ℕ) (v : Value) → encoding d v ≡ Some b → WellFormed d b v) where
-  array-spells : (vs : List Value) (b : List ℕ) → aggregate (encoding d) type_byte.Array (length vs) vs ≡ Some b → WellFormed (suc d) b (Array vs)
-  array-spells vs b e = aggregate-spells d spells type_byte.Array (length vs) (length vs) vs (λ values. Ok (Array values)) b (Array vs) e
-      (λ small. ap (λ r. with_valid r (or_nil (λ k. elements k (λ values. Ok (Array values))))) (integer-decimal (length vs) small)) refl refl
+  own : (vs : List Value) (b : List ℕ) → joined (encoding d) vs ≡ Some b → Joined (WellFormed d) b vs
+  own vs b e = subst (Joined (WellFormed d) b) (map-id vs) (joined-spells (encoding d) (WellFormed d) (λ v. v) spells vs b e)
 
   set-spells : (vs : List Value) (b : List ℕ) → aggregate (encoding d) type_byte.Set (length vs) vs ≡ Some b → WellFormed (suc d) b (Set vs)
-  set-spells vs b e = aggregate-spells d spells type_byte.Set (length vs) (length vs) vs (λ values. Ok (Set values)) b (Set vs) e
+  set-spells vs b e = aggregate-spells d (encoding d) type_byte.Set (length vs) (length vs) vs vs (own vs) (λ values. Ok (Set values)) b (Set vs) e
       (λ small. ap (λ r. with_valid r (or_nil (λ k. elements k (λ values. Ok (Set values))))) (integer-decimal (length vs) small)) refl refl
 
   map-spells : (ps : List (Value × Value)) (b : List ℕ) → aggregate (encoding d) type_byte.Map (length ps) (flat ps) ≡ Some b → WellFormed (suc d) b (Map ps)
-  map-spells ps b e = aggregate-spells d spells type_byte.Map (length ps) (2 * length ps) (flat ps) (λ values. Ok (Map (pairs values))) b (Map ps) e
+  map-spells ps b e = aggregate-spells d (encoding d) type_byte.Map (length ps) (2 * length ps) (flat ps) (flat ps) (own (flat ps)) (λ values. Ok (Map (pairs values))) b (Map ps) e
       (λ small. ap (λ r. with_valid r (λ k. elements (2 * k) (λ values. Ok (Map (pairs values))))) (length-decimal (length ps) small))
       (length-flat ps) (ap (λ x. Ok (Map x)) (pairs-flat ps))
 
   attribute-spells : (v : Value) (ps : List (Value × Value)) (b : List ℕ) → aggregate (encoding d) type_byte.Attribute (length ps) (flat ps ++ v ∷ []) ≡ Some b → WellFormed (suc d) b (Attribute v ps)
-  attribute-spells v ps b e = aggregate-spells d spells type_byte.Attribute (length ps) (2 * length ps + 1) (flat ps ++ v ∷ []) (λ values. Ok (attribute values)) b (Attribute v ps) e
+  attribute-spells v ps b e = aggregate-spells d (encoding d) type_byte.Attribute (length ps) (2 * length ps + 1) (flat ps ++ v ∷ []) (flat ps ++ v ∷ []) (own (flat ps ++ v ∷ [])) (λ values. Ok (attribute values)) b (Attribute v ps) e
       (λ small. ap (λ r. with_valid r (λ k. elements (2 * k + 1) (λ values. Ok (attribute values)))) (length-decimal (length ps) small))
       (length-pushed (flat ps) v ∙ ap (λ k. k + 1) (length-flat ps))
       (ap (λ x. Ok x) (attribute-popped (flat ps ++ v ∷ []) (flat ps) v refl ∙ ap (Attribute v) (pairs-flat ps)))
@@ -235,7 +240,7 @@ module _ (d : ℕ) (spells : (b : List ℕ) (v : Value) → encoding d v ≡ Som
       let p = kept (is_own_kind kind) _ b e in
       let name = name_of_push_kind kind in
       let k : push_kind (BulkString name) ≡ Some kind = push_kind-text (BulkString name) name refl (kind-utf8 kind p.0) ∙ ap (λ x. Some x) (kind-read kind p.0) in
-      aggregate-spells d spells type_byte.Push (suc (length payload)) (suc (length payload)) (BulkString name ∷ payload) push b (Push kind payload) p.1
+      aggregate-spells d (encoding d) type_byte.Push (suc (length payload)) (suc (length payload)) (BulkString name ∷ payload) (BulkString name ∷ payload) (own (BulkString name ∷ payload)) push b (Push kind payload) p.1
       (λ small. ap (λ r. with_valid r (or_empty_push (λ n. elements n push))) (integer-decimal (suc (length payload)) small))
       refl (rw (k, push) refl)
 
@@ -261,7 +266,7 @@ module _ (d : ℕ) (spells : (b : List ℕ) (v : Value) → encoding d v ≡ Som
   layer-spells (Value-F.Int n) b e = subst (WellFormed (suc d) b) (sym (rolls-Int n)) (int-spells d n b e)
   layer-spells (Value-F.SimpleString text) b e = subst (WellFormed (suc d) b) (sym (rolls-SimpleString text)) (simple-spells d text b e)
   layer-spells (Value-F.BulkString bytes) b e = subst (WellFormed (suc d) b) (sym (rolls-BulkString bytes)) (bulk-spells d bytes b e)
-  layer-spells (Value-F.Array vs) b e = subst (WellFormed (suc d) b) (sym (rolls-Array vs)) (array-spells vs b e)
+  layer-spells (Value-F.Array vs) b e = subst (WellFormed (suc d) b) (sym (rolls-Array vs)) (array-spells d (encoding d) vs vs (own vs) b e)
   layer-spells (Value-F.Map ps) b e = subst (WellFormed (suc d) b) (sym (rolls-Map ps)) (map-spells ps b e)
   layer-spells (Value-F.Attribute v ps) b e = subst (WellFormed (suc d) b) (sym (rolls-Attribute v ps)) (attribute-spells v ps b e)
   layer-spells (Value-F.ServerError error) b e = subst (WellFormed (suc d) b) (sym (rolls-ServerError error)) (error-spells d error b e)

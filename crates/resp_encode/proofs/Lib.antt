@@ -1,8 +1,12 @@
+pub mod AppendedTexts
+pub mod BreaksFound
 pub mod CutTexts
 pub mod DoublesReadBack
 pub mod EncodedSpells
+pub mod Levels
 pub mod LossyTexts
 pub mod NumbersReadBack
 pub mod OwnNames
 pub mod Resp2Forms
+pub mod Resp2Spells
 pub mod SpelledAreEncoded

@@ -1,15 +1,15 @@
 -- Errors, kinds and formats that their own names name.
-use Rattle.std.proofs.Common.{◌≡◌, ℕ, Bool, true, false, cond, ◌==◌, List, ◌++◌, length, codes, Option, Some, None, Ok, refl, sym, ◌∙◌, append-nil}
+use Rattle.std.proofs.Common.{◌≡◌, ℕ, Bool, true, false, cond, ◌==◌, List, [], ◌∷◌, ◌++◌, length, codes, Option, Some, None, Ok, refl, sym, ◌∙◌, append-nil}
 use Rattle.std.proofs.lemmas.Bool.{and_parts, and_from}
 use Rattle.std.proofs.lemmas.Slice.Eq.{bytes_eq-Decides}
 use Rattle.std.proofs.lemmas.Bool.Decides.{Decides-eqb}
 use Rattle.std.specs.List.{position_or_len, before_first, after_first}
-use Rattle.std.specs.Str.{is_utf8, bytes_eq}
-use Rattle.std.proofs.lemmas.Str.{IsUtf8-from_is_utf8, is_utf8-from_IsUtf8}
+use Rattle.std.specs.Str.{IsUtf8, is_utf8, bytes_eq}
+use Rattle.std.proofs.lemmas.Str.{IsUtf8-from_is_utf8, is_utf8-from_IsUtf8, IsUtf8-append, IsUtf8-nil}
 use Rattle.bstr.proofs.lemmas.EncodeLemmas.{lossy_chars-utf8}
 use Rattle.resp_containers.specs.Lossy.{lossy}
 use Rattle.resp_value.specs.Names.{kind_named, name_of_push_kind, format_named, name_of_format}
-use Rattle.resp_value.specs.declared.value.Value.{VerbatimString}
+use Rattle.resp_value.specs.declared.value.Value.{Value, VerbatimString}
 use Rattle.resp_value.specs.declared.names.PushKind.{PushKind}
 use Rattle.resp_value.specs.declared.names.PushKind.TheVariants as push
 use Rattle.resp_value.specs.declared.names.VerbatimFormat.{VerbatimFormat}
@@ -21,7 +21,7 @@ use Rattle.resp_errors.specs.declared.kinds.ServerErrorKind.TheVariants as kind
 use Rattle.resp_errors.specs.ServerErrors.{code_of_kind, kind_of_code, error_with, is_space, server_error, after_code, text_of}
 use Rattle.resp_parse.specs.Grammar.{is_colon, verbatim_text}
 use Rattle.resp_parse.proofs.ByteTests.{eq_true}
-use Rattle.resp_encode.specs.Encoding.{is_none, is_own_code, is_unknown, is_own_format, verbatim_body, is_other, is_own_kind}
+use Rattle.resp_encode.specs.Encoding.{is_none, is_own_code, is_unknown, is_own_format, verbatim_body, is_other, is_own_kind, push_of}
 use Rattle.resp_encode.proofs.NumbersReadBack.{Graphic, utf8-graphic}
 use Rattle.resp_encode.proofs.CutTexts.{NonePasses, before-none, cut-before, cut-after, cut-inside}
 
@@ -204,3 +204,29 @@ own-from push.SSubscribe name u e k = refl
 
 pub read-kind : (name : List ℕ) → is_utf8 name ≡ true → is_own_kind (kind_named name) ≡ true
 read-kind name u = own-from (kind_named name) name u (read-kind-name name) refl
+
+-- a name, a colon and a text are text
+pub verbatim-utf8 : (fmt : VerbatimFormat) (text : List ℕ) → IsUtf8 (name_of_format fmt) → IsUtf8 text → is_utf8 (verbatim_body fmt text) ≡ true
+verbatim-utf8 fmt text n t =
+    let colon : IsUtf8 (58 ∷ []) = utf8-graphic (58 ∷ []) refl in
+    is_utf8-from_IsUtf8 (verbatim_body fmt text) (IsUtf8-append (name_of_format fmt) (58 ∷ text) n (IsUtf8-append (58 ∷ []) text colon t))
+
+-- no push is sent of a kind whose name another kind has
+pub no_push : (spell : Value → Option (List ℕ)) (kind : PushKind) (payload : List Value) → is_own_kind kind ≡ false → push_of spell kind payload ≡ None
+unfolding kind_named
+no_push spell (push.Other []) [] h =
+    let own : is_own_kind (push.Other []) ≡ true = and_from _ _ (is_utf8-from_IsUtf8 [] IsUtf8-nil) refl in
+    absurd (cc)
+no_push spell (push.Other []) (v ∷ vs) h = rw h refl
+no_push spell (push.Other (c ∷ name)) payload h = rw h refl
+no_push spell push.Disconnection payload h = refl
+no_push spell push.Invalidate payload h = absurd (cc)
+no_push spell push.Message payload h = absurd (cc)
+no_push spell push.PMessage payload h = absurd (cc)
+no_push spell push.SMessage payload h = absurd (cc)
+no_push spell push.Unsubscribe payload h = absurd (cc)
+no_push spell push.PUnsubscribe payload h = absurd (cc)
+no_push spell push.SUnsubscribe payload h = absurd (cc)
+no_push spell push.Subscribe payload h = absurd (cc)
+no_push spell push.PSubscribe payload h = absurd (cc)
+no_push spell push.SSubscribe payload h = absurd (cc)

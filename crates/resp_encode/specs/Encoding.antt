@@ -71,13 +71,14 @@ is_own_code (Known kind detail) = true
 is_own_code (Extension code detail) =
     (position_or_len is_space code == length code) && is_none (kind_of_code code)
 
--- an error's text in a line, or where CR LF stands in it as a body
+-- a line, or where CR LF stands in the text a body
+abbrev pub error_text : List ℕ → Option (List ℕ)
+error_text text =
+    cond (has_break text) (body_of type_byte.BulkError text) (Some (line type_byte.SimpleError text))
+
+-- an error by its text
 abbrev pub error_of : Error → Option (List ℕ)
-error_of error = cond (is_own_code error && is_utf8 (text_of error))
-    (cond (has_break (text_of error))
-    (body_of type_byte.BulkError (text_of error))
-    (Some (line type_byte.SimpleError (text_of error))))
-    None
+error_of error = cond (is_own_code error && is_utf8 (text_of error)) (error_text (text_of error)) None
 
 abbrev pub is_unknown : VerbatimFormat → Bool
 is_unknown (format.Unknown name) = true

@@ -1,2 +1,5 @@
+pub mod Appending
 pub mod Encoding
+pub mod Encodings
 pub mod Resp2
+pub mod Resp2Encoding

@@ -4,6 +4,7 @@ ghost use Rattle.std.specs.Prelude.{◌≡◌, ℕ};
 ghost use Rattle.resp_value.specs.declared.value.Value.{Value};
 ghost use Rattle.resp_encode.specs.Encoding.{LawOfEncoding};
 ghost use Rattle.resp_encode.specs.Resp2.{resp2_of, IsResp2};
+ghost use Rattle.resp_encode.specs.Resp2Encoding.{LawOfResp2Encoding};
 
 /// The RESP2 form of a value.
 ///
@@ -21,4 +22,10 @@ pub fn law_of_resp2()
 /// The last holds of values whose errors and verbatim strings have texts of up to 2^63 - 1 bytes.
 pub fn law_of_encoding()
     ensures law { (d : ℕ) (v : Value) → LawOfEncoding d v }
+{}
+
+/// What is sent for a value in RESP2 is read as the value's RESP2 form, and as nothing else; and it
+/// begins with one of the five type bytes of RESP2.
+pub fn law_of_resp2_encoding()
+    ensures law { (d : ℕ) (v : Value) → LawOfResp2Encoding d v }
 {}

@@ -69,8 +69,11 @@ fn is_exponential(text: &[u8]) -> bool
     }
 }
 
-/// Whether the text is a double, with no white space around it.
-pub(crate) fn is_double_text(text: &str) -> bool
+/// Whether a double may have this text (RESP3, "Doubles"), with no white space around it.
+///
+/// That is an optional sign, and then `inf`, `infinity` or `nan` in any letter case, or digits with
+/// an optional point and an optional exponent.
+pub fn is_double_text(text: &str) -> bool
     ensures value { result ≡ is_double text.now }
 {
     let text = unsigned(text.as_bytes());

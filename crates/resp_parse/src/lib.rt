@@ -19,6 +19,7 @@ mod source;
 mod type_byte;
 mod value_of;
 
+pub use double::is_double_text;
 pub use limits::Limits;
 pub use parser::Parser;
 pub use prefix::parse_redis_value;

@@ -17,6 +17,8 @@ mod checks;
 #[cfg(test)]
 mod commands;
 #[cfg(test)]
+mod encodings;
+#[cfg(test)]
 mod errors;
 #[cfg(test)]
 mod one_value;

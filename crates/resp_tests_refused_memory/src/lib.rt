@@ -22,6 +22,8 @@ mod conversions;
 #[cfg(test)]
 mod copies;
 #[cfg(test)]
+mod encodings;
+#[cfg(test)]
 mod fields;
 #[cfg(test)]
 mod heap;

@@ -12,7 +12,7 @@ use resp_core::{
     InfoDict, IntegerReplyOrNoOp, Items, Limits, NumericBehavior, Parser, Pipeline,
     ProtocolVersion, PushKind, Reading, RedisWrite, ReplySource, Text, ToRedisArgs, Value,
     ValueType, VerbatimFormat, Writing, from_redis_value, from_redis_value_ref, get_push_kind,
-    is_valid_16_bytes_hex_digest, parse_redis_value, pipe, verbatim_format,
+    is_double_text, is_valid_16_bytes_hex_digest, parse_redis_value, pipe, verbatim_format,
 };
 use std::collections::BTreeMap;
 
@@ -226,5 +226,12 @@ fn fields(rt: HostRuntime) {
     refuse_all(rt.alloc());
     let fields = Fields::from(entries);
     assert!(rt; fields.is_empty() && fields.len() == 0);
+    took_none(&rt);
+}
+
+#[test]
+fn texts_of_doubles(rt: HostRuntime) {
+    refuse_all(rt.alloc());
+    assert!(rt; is_double_text("-1.5e7") && !is_double_text("1.5 "));
     took_none(&rt);
 }

@@ -2,7 +2,7 @@
 
 use crate::rows::{Row, malformed};
 use crate::texts::escaped;
-use crate::{commands, conversions, errors, names, program, queries, replies, scans};
+use crate::{commands, conversions, encodings, errors, names, program, queries, replies, scans};
 use resp_core::RedisResult;
 use std::alloc::Global;
 
@@ -29,6 +29,7 @@ fn plain_answer(alloc: Global, row: &Row) -> RedisResult<String> {
 
 fn other_answer(alloc: Global, row: &Row) -> RedisResult<String> {
     match row.task() {
+        "encode" => encodings::encode_both(alloc, row),
         "error" => errors::error(alloc, row),
         "first-error" => errors::first_error(alloc, row),
         "kind" => errors::kind(alloc, row),

@@ -9,6 +9,7 @@
 mod answers;
 mod commands;
 mod conversions;
+mod encodings;
 mod errors;
 mod names;
 mod program;

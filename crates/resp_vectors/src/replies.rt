@@ -1,5 +1,6 @@
 //! Replies that a parser takes from bytes, however they come in.
 
+use crate::encodings::values_written_again;
 use crate::rows::{Row, malformed, number_of};
 use crate::texts::{add_part, refusal_text};
 use resp_core::{Limits, Parser, Reading, RedisError, RedisResult};
@@ -29,8 +30,18 @@ impl<'a> Read for InThrees<'a> {
 /// `read BYTES`
 pub fn read(alloc: Global, row: &Row) -> RedisResult<String> {
     match row.words() {
-        [bytes] => shown_however(alloc, Limits::default(), bytes.as_slice()),
+        [bytes] => shown_and_written(alloc, bytes.as_slice()),
         _ => Err(malformed()),
+    }
+}
+
+/// What the bytes show, if they show it however they come in, and their values are the same when
+/// they are written and read again.
+fn shown_and_written(alloc: Global, bytes: &[u8]) -> RedisResult<String> {
+    let wanted = shown_however(alloc, Limits::default(), bytes)?;
+    match values_written_again(alloc, bytes)? {
+        Some(other) => agreed(alloc, wanted, other, "written again"),
+        None => Ok(wanted),
     }
 }
 

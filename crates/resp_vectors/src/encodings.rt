@@ -1,0 +1,77 @@
+//! Values that are written as a server sends them, and read again.
+
+use crate::rows::{Row, malformed};
+use crate::texts::{add_part, debug_text, quoted};
+use resp_core::{Parser, ProtocolVersion, RedisResult, Value, as_resp2, encode, parse_redis_value};
+use std::alloc::Global;
+
+/// `encode BYTES`
+pub fn encode_both(alloc: Global, row: &Row) -> RedisResult<String> {
+    match row.words() {
+        [bytes] => {
+            let value = parse_redis_value(alloc, bytes.as_slice())?;
+            let mut text = encoded(alloc, &value, ProtocolVersion::RESP3)?;
+            add_part(
+                &mut text,
+                encoded(alloc, &value, ProtocolVersion::RESP2)?.as_str(),
+            )?;
+            Ok(text)
+        }
+        _ => Err(malformed()),
+    }
+}
+
+/// The bytes of a value, in quotes.
+fn encoded(alloc: Global, value: &Value, protocol: ProtocolVersion) -> RedisResult<String> {
+    let mut out = Vec::new(alloc);
+    encode(value, protocol, &mut out)?;
+    quoted(alloc, out.as_slice())
+}
+
+/// What the values show that the bytes begin with, where each is the same when it is written and
+/// read again: in RESP3 as itself, and in RESP2 as its form.
+pub fn values_written_again(alloc: Global, bytes: &[u8]) -> RedisResult<Option<String>> {
+    let mut parser = Parser::new(alloc);
+    parser.feed(bytes)?;
+    for _ in 0..u64::MAX {
+        match parser.take_value() {
+            Ok(Some(value)) => {
+                if let Some(other) = written_otherwise(alloc, &value)? {
+                    return Ok(Some(other));
+                }
+            }
+            _ => break,
+        }
+    }
+    Ok(None)
+}
+
+/// What a value shows where it isn't the same, written and read again.
+fn written_otherwise(alloc: Global, value: &Value) -> RedisResult<Option<String>> {
+    let again = read_again(alloc, value, ProtocolVersion::RESP3)?;
+    if again.as_str() != debug_text(alloc, value)?.as_str() {
+        return Ok(Some(again));
+    }
+    match read_again(alloc, value, ProtocolVersion::RESP2) {
+        Ok(again) => other_than_form(alloc, value, again),
+        // an error with CR LF in it, or a push without a name at the last level
+        Err(error) if error.kind() == ErrorKind::Client => Ok(None),
+        Err(error) => Err(error),
+    }
+}
+
+/// The text, where it isn't what the value's form shows.
+fn other_than_form(alloc: Global, value: &Value, again: String) -> RedisResult<Option<String>> {
+    let form = debug_text(alloc, &as_resp2(alloc, value)?)?;
+    if again.as_str() == form.as_str() {
+        return Ok(None);
+    }
+    Ok(Some(again))
+}
+
+/// What a value shows that was written and is read again.
+fn read_again(alloc: Global, value: &Value, protocol: ProtocolVersion) -> RedisResult<String> {
+    let mut out = Vec::new(alloc);
+    encode(value, protocol, &mut out)?;
+    debug_text(alloc, &parse_redis_value(alloc, out.as_slice())?)
+}
