@@ -26,13 +26,18 @@ abbrev pub value_at : Map → Bytes → Option (List ℕ)
 value_at m key = option_map (λ value. value.items) (get cmp m key)
 
 -- GET answers the value of its key, SET gives its key a value, DEL takes one away and says whether
--- it was there; nothing else changes the map
+-- it was there, EXISTS says whether there is one, ECHO answers its message and HELLO its version;
+-- nothing but SET and DEL changes the map
 abbrev pub Answers : Map → Map → Command → Reply → Type 0
 Answers old new (command.Get key) (reply.Found found) =
     IsUnchanged old new × (option_map (λ value. value.items) found ≡ value_at old key)
 Answers old new (command.Set key value) reply.Okay = Updates cmp old new key (Some value)
-Answers old new (command.Del key) (reply.Removed removed) =
+Answers old new (command.Del key) (reply.Counted removed) =
     Updates cmp old new key None × (removed ≡ is_some (get cmp old key))
+Answers old new (command.Exists key) (reply.Counted found) =
+    IsUnchanged old new × (found ≡ is_some (get cmp old key))
+Answers old new (command.Echo message) (reply.Found found) = IsUnchanged old new × (found ≡ Some message)
+Answers old new (command.Hello version) (reply.Greeting chosen) = IsUnchanged old new × (chosen ≡ version)
 Answers old new command.Ping reply.Pong = IsUnchanged old new
 Answers old new command.Unknown reply.Unknown = IsUnchanged old new
 Answers old new _ _ = ⊥

@@ -1,38 +1,53 @@
 //! Replies.
 
-use std::io;
-use std::io::Write;
+use resp_core::{Items, ProtocolVersion, RedisResult, ServerError, Text, Value};
+use std::alloc::Global;
 
 /// What a command is answered.
 #[derive(Drop)]
 pub enum Reply {
     /// To `PING`.
     Pong,
+    /// To `HELLO`: what the server is, in the version that was chosen.
+    Greeting(ProtocolVersion),
     /// What was asked for is done.
     Okay,
-    /// The value that was asked for, if there is one.
+    /// The bytes that were asked for, if there are any.
     Found(Option<Vec<u8>>),
-    /// Whether there was a value to remove.
-    Removed(bool),
+    /// Whether there is a value, or was one to remove.
+    Counted(bool),
     /// There is no such command.
     Unknown,
 }
 
 impl Reply {
-    /// Writes the bytes of the reply.
-    pub fn write<W: Write>(&self, out: &mut W) -> io::Result<()> {
+    /// The reply as a value.
+    pub fn into_value(self, alloc: Global) -> RedisResult<Value> {
         match self {
-            Reply::Pong => out.write_all(b"+PONG\r\n"),
-            Reply::Okay => out.write_all(b"+OK\r\n"),
-            Reply::Found(Some(value)) => {
-                write!(out, "${}\r\n", value.len())?;
-                out.write_all(value.as_slice())?;
-                out.write_all(b"\r\n")
-            }
-            Reply::Found(None) => out.write_all(b"$-1\r\n"),
-            Reply::Removed(true) => out.write_all(b":1\r\n"),
-            Reply::Removed(false) => out.write_all(b":0\r\n"),
-            Reply::Unknown => out.write_all(b"-ERR unknown command\r\n"),
+            Reply::Pong => Ok(Value::SimpleString(Text::from_str(alloc, "PONG")?)),
+            Reply::Greeting(version) => greeting(alloc, version),
+            Reply::Okay => Ok(Value::Okay),
+            Reply::Found(Some(bytes)) => Ok(Value::BulkString(Items::from(bytes))),
+            Reply::Found(None) => Ok(Value::Nil),
+            Reply::Counted(any) => Ok(Value::Int(if any { 1 } else { 0 })),
+            Reply::Unknown => Ok(Value::ServerError(ServerError::from_text(
+                alloc,
+                "ERR unknown command",
+            )?)),
         }
     }
+}
+
+/// What the server is: a map, which a client of RESP2 is sent as an array.
+fn greeting(alloc: Global, version: ProtocolVersion) -> RedisResult<Value> {
+    let proto = if version.supports_resp3() { 3 } else { 2 };
+    let mut fields = Items::new(alloc);
+    fields.push((bulk(alloc, "server")?, bulk(alloc, "example_server")?))?;
+    fields.push((bulk(alloc, "proto")?, Value::Int(proto)))?;
+    fields.push((bulk(alloc, "role")?, bulk(alloc, "master")?))?;
+    Ok(Value::Map(fields))
+}
+
+fn bulk(alloc: Global, text: &str) -> RedisResult<Value> {
+    Ok(Value::BulkString(Items::from_slice(alloc, text.as_bytes())?))
 }

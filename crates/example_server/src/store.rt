@@ -20,12 +20,15 @@ pub fn answer(alloc: Global, store: &mut Store, command: Command) -> Result<Repl
 {
     match command {
         Command::Ping => Ok(Reply::Pong),
+        Command::Echo(message) => Ok(Reply::Found(Some(message))),
+        Command::Hello(version) => Ok(Reply::Greeting(version)),
         Command::Get(key) => Ok(Reply::Found(copy_of(alloc, store.get(&key))?)),
         Command::Set(key, value) => {
             store.insert(key, value)?;
             Ok(Reply::Okay)
         }
-        Command::Del(key) => Ok(Reply::Removed(store.remove(&key).is_some())),
+        Command::Del(key) => Ok(Reply::Counted(store.remove(&key).is_some())),
+        Command::Exists(key) => Ok(Reply::Counted(store.contains_key(&key))),
         Command::Unknown => Ok(Reply::Unknown),
     }
 }
