@@ -1,13 +1,13 @@
 //! What users write of a proxy: the bytes of a client's command go on to a server as they are, and
-//! the value that it replies comes back as it is.
+//! the value that it replies comes back, as it is or as the bytes that the client is sent for it in
+//! its own version of the protocol.
 //!
-//! A reply is handed on as a value and not as bytes, since the library reads values and doesn't
-//! write them. A proxy whose client wants bytes writes them itself, and may spell a value otherwise
-//! than the server did, as a null, which RESP2 and RESP3 spell in three ways.
+//! Pushes are set aside by a link and stay out of the replies; a client of RESP3 is sent them as
+//! values of their own.
 #![tactic(auto)]
 
 mod forwarding;
 mod reply;
 
-pub use forwarding::forward;
+pub use forwarding::{forward, relay};
 pub use reply::Reply;

@@ -2,9 +2,9 @@
 //! cluster. The errors are those of the Redis cluster specification.
 
 use example_arguments::{fields_of, rename, set_fields};
-use example_proxy::forward;
+use example_proxy::{forward, relay};
 use example_redirect::query_redirected;
-use resp_core::Value;
+use resp_core::{ProtocolVersion, Value};
 use resp_testing::{MemoryLink, answer_text, command, debug_text, link_over, sent_text};
 use std::process::Abort;
 
@@ -63,6 +63,27 @@ fn a_proxy_forwards_commands_and_replies(rt: HostRuntime) {
     assert_forwarded(&rt, &mut upstream, b"", "refused");
     let sent = sent_text(rt.alloc(), upstream);
     assert_text(&rt, sent, "*2\r\n$4\r\nINCR\r\n$1\r\nk\r\ninline\r\n");
+}
+
+#[test]
+fn a_proxy_between_two_versions(rt: HostRuntime) {
+    let mut upstream = link(&rt, "%1\r\n+a\r\n#t\r\n*1\r\n$-1\r\n!4\r\nE\r\nx\r\n");
+    let mut replies = Vec::new(rt.alloc());
+    for protocol in [ProtocolVersion::RESP2, ProtocolVersion::RESP3] {
+        let relayed = relay(&mut upstream, GET.as_bytes(), protocol, &mut replies);
+        relayed.expect(&rt, "a reply");
+    }
+    let refused = relay(
+        &mut upstream,
+        GET.as_bytes(),
+        ProtocolVersion::RESP2,
+        &mut replies,
+    );
+    assert!(&rt; refused.is_err());
+    assert_eq!(&rt;
+        replies.as_slice(),
+        b"*2\r\n+a\r\n:1\r\n*1\r\n_\r\n".as_slice()
+    );
 }
 
 const GET: &str = "*2\r\n$3\r\nGET\r\n$1\r\nx\r\n";
