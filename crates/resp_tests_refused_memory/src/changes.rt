@@ -1,6 +1,6 @@
 //! Calls that change an object: a refused one leaves it as it was, and works when it is made again.
 
-use crate::heap::{Test, ran_out, refuse};
+use crate::heap::{Test, equal, has_to_repeat, ran_out, refuse};
 use crate::made::{LONG, get};
 use crate::subjects::{REST, Subject};
 use resp_core::{
@@ -16,24 +16,40 @@ trait Change: Clone + Copy {
     fn apply(self, alloc: Global, to: &mut Self::Object) -> RedisResult<()>;
 }
 
+/// The object shows like this.
+fn shows(rt: &impl Test, object: &mut impl Subject, wanted: &str) {
+    let shown = object.shows(rt);
+    equal(rt, shown.as_str(), wanted);
+}
+
+/// What an object shows before the call and after it, with ample memory.
+fn before_and_after<C: Change>(rt: &impl Test, change: C, size: usize) -> (String, String) {
+    let mut object = C::Object::of_size(rt, size);
+    let before = object.shows(rt);
+    change
+        .apply(rt.alloc(), &mut object)
+        .expect(rt, "no refusal");
+    (before, object.shows(rt))
+}
+
+/// The call changes the object; or memory runs out, the object still shows as before, and the call
+/// then changes it.
+fn applies<C: Change>(rt: &impl Test, change: C, object: &mut C::Object, before: &str) {
+    refuse(rt.alloc());
+    let answer = change.apply(rt.alloc(), object);
+    if has_to_repeat(rt, &answer) {
+        shows(rt, object, before);
+        change.apply(rt.alloc(), object).expect(rt, "no refusal");
+    }
+}
+
 /// The call makes of the object what it makes with ample memory; or memory runs out, the object still
 /// shows as before, and the call then makes that.
 fn changes_one<C: Change>(rt: &impl Test, change: C, size: usize) {
-    let alloc = rt.alloc();
+    let (before, after) = before_and_after(rt, change, size);
     let mut object = C::Object::of_size(rt, size);
-    let before = object.shows(rt);
-    change.apply(alloc, &mut object).expect(rt, "no refusal");
-    let after = object.shows(rt);
-    let mut object = C::Object::of_size(rt, size);
-    refuse(alloc);
-    let answer = change.apply(alloc, &mut object);
-    if ran_out(rt, &answer) {
-        assert_eq!(rt; object.shows(rt).as_str(), before.as_str());
-        change.apply(alloc, &mut object).expect(rt, "no refusal");
-    } else {
-        answer.expect(rt, "no refusal");
-    }
-    assert_eq!(rt; object.shows(rt).as_str(), after.as_str());
+    applies(rt, change, &mut object, before.as_str());
+    shows(rt, &mut object, after.as_str());
 }
 
 /// The same of objects of each size.
@@ -247,19 +263,33 @@ fn feed(rt: HostRuntime) {
     changes(&rt, [Fed].as_slice());
 }
 
+/// More than the room for an argument.
+const LONGER: &[u8] = &[b'z'; 1000];
+
+/// A writer of the command appends to its argument, or memory runs out and its next call does.
+fn appends_all(rt: &impl Test, command: &mut Cmd) {
+    let mut writer: ArgWriter<'_, Cmd> = command.writer_for_next_arg().expect(rt, "no refusal");
+    refuse(rt.alloc());
+    let answer = writer.write_all(LONGER);
+    if has_to_repeat(rt, &answer) {
+        writer.write_all(LONGER).expect(rt, "no refusal");
+    }
+}
+
+/// `GET k` and a longer argument.
+fn get_longer(rt: &impl Test) -> Cmd {
+    let mut command = get(rt);
+    command.write_arg(LONGER).expect(rt, "no refusal");
+    command
+}
+
 /// A writer appends to its argument, or memory runs out and the argument is as before.
 #[test]
 fn write_all(rt: HostRuntime) {
     let mut command = get(&rt);
-    let mut writer: ArgWriter<'_, Cmd> = command.writer_for_next_arg().expect(&rt, "no refusal");
-    refuse(rt.alloc());
-    let answer = writer.write_all(&[b'z'; 1000]);
-    if ran_out(&rt, &answer) {
-        writer.write_all(&[b'z'; 1000]).expect(&rt, "no refusal");
-    }
-    let mut wanted = get(&rt);
-    wanted.write_arg(&[b'z'; 1000]).expect(&rt, "no refusal");
-    assert_eq!(rt; command.shows(&rt).as_str(), wanted.shows(&rt).as_str());
+    appends_all(&rt, &mut command);
+    let wanted = get_longer(&rt).shows(&rt);
+    shows(&rt, &mut command, wanted.as_str());
 }
 
 /// A list of one argument.
@@ -272,23 +302,24 @@ fn list(rt: &impl Test) -> Vec<Vec<u8>> {
 /// The call appended so many arguments, or memory ran out; the old argument is the first.
 fn appended(rt: &impl Test, out: &[Vec<u8>], answer: &RedisResult<()>, count: usize) {
     if !ran_out(rt, answer) {
-        assert_eq!(rt; out.len(), count.saturating_add(1));
+        equal(rt, out.len(), count.saturating_add(1));
     }
     let first = out.first().expect(rt, "the old argument");
-    assert_eq!(rt; first.as_slice(), b"old".as_slice());
+    equal(rt, first.as_slice(), b"old".as_slice());
+}
+
+/// The value appends so many arguments to a list.
+fn appends<T: ToRedisArgs>(rt: &impl Test, value: &T, count: usize) {
+    let mut out = list(rt);
+    refuse(rt.alloc());
+    let answer = value.write_redis_args(&mut out);
+    appended(rt, out.as_slice(), &answer, count);
 }
 
 #[test]
 fn values_in_a_vector(rt: HostRuntime) {
-    let mut out = list(&rt);
-    refuse(rt.alloc());
-    let answer = ("a", 1i64, Some("b")).write_redis_args(&mut out);
-    appended(&rt, out.as_slice(), &answer, 3);
-    let items = ["a", "b"].as_slice();
-    let mut out = list(&rt);
-    refuse(rt.alloc());
-    let answer = items.write_redis_args(&mut out);
-    appended(&rt, out.as_slice(), &answer, 2);
+    appends(&rt, &("a", 1i64, Some("b")), 3);
+    appends(&rt, &["a", "b"].as_slice(), 2);
 }
 
 /// The items of a slice, or of an iterator, one after another.
@@ -309,14 +340,20 @@ fn write(way: Way, items: &[&str], out: &mut Vec<Vec<u8>>) -> RedisResult<()> {
     }
 }
 
+/// Two items are appended to a list.
+fn appends_each(rt: &impl Test, way: Way) {
+    let mut out = list(rt);
+    refuse(rt.alloc());
+    let answer = write(way, ["a", "b"].as_slice(), &mut out);
+    appended(rt, out.as_slice(), &answer, 2);
+}
+
 #[test]
 fn items_in_a_vector(rt: HostRuntime) {
-    for way in [Way::Slice, Way::Each, Way::Free, Way::Iterator] {
-        let mut out = list(&rt);
-        refuse(rt.alloc());
-        let answer = write(way, ["a", "b"].as_slice(), &mut out);
-        appended(&rt, out.as_slice(), &answer, 2);
-    }
+    appends_each(&rt, Way::Slice);
+    appends_each(&rt, Way::Each);
+    appends_each(&rt, Way::Free);
+    appends_each(&rt, Way::Iterator);
 }
 
 /// A part at the end of the last argument, if there is one.
@@ -327,19 +364,24 @@ fn write_part(out: &mut Vec<Vec<u8>>) -> RedisResult<()> {
     ("-", 12i64).write_part(out)
 }
 
-/// One argument of several parts, and a part of the last argument: a refused one may be there in
-/// part.
 #[test]
 fn arguments_of_several_parts(rt: HostRuntime) {
-    let mut out = list(&rt);
-    refuse(rt.alloc());
-    let answer = Joined(("user:", 7u64, ":name")).write_redis_args(&mut out);
-    appended(&rt, out.as_slice(), &answer, 1);
+    appends(&rt, &Joined(("user:", 7u64, ":name")), 1);
+}
+
+/// Whether this is the old argument and its part, of which a refused one may be there in part.
+fn is_extended(only: &[u8], refused: bool) -> bool {
+    let is_whole = only.len() == b"old-12".len();
+    only.starts_with(b"old") && b"old-12".starts_with(only) && (refused || is_whole)
+}
+
+#[test]
+fn parts_of_an_argument(rt: HostRuntime) {
     let mut out = list(&rt);
     refuse(rt.alloc());
     let answer = write_part(&mut out);
     let refused = ran_out(&rt, &answer);
+    equal(&rt, out.len(), 1);
     let only = out.first().expect(&rt, "the old argument");
-    assert!(rt; out.len() == 1 && (refused || only.as_slice() == b"old-12".as_slice()));
-    assert!(rt; b"old-12".starts_with(only.as_slice()) && only.starts_with(b"old"));
+    assert!(rt; is_extended(only.as_slice(), refused));
 }

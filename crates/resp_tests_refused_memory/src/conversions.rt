@@ -19,16 +19,24 @@ fn converted<T: Debug + Drop>(rt: &impl Test, answer: Result<T, ParsingError>, w
     shows(rt, answer.map_err(RedisError::from), wanted);
 }
 
-/// The reply converts to what shows like this, by value and by reference; the borrowed reply is as
-/// before.
+/// The reply converts to what shows like this, by value and by reference.
 fn converts<T: FromRedisValue + Debug>(rt: &impl Test, reply: &[u8], wanted: &str) {
-    let moved = value_of(rt, reply);
+    converts_moved::<T>(rt, value_of(rt, reply), wanted);
+    let borrowed = value_of(rt, reply);
+    converts_borrowed::<T>(rt, &borrowed, wanted);
+    assert!(rt; borrowed == value_of(rt, reply));
+}
+
+/// The value converts to what shows like this.
+fn converts_moved<T: FromRedisValue + Debug>(rt: &impl Test, moved: Value, wanted: &str) {
     refuse(rt.alloc());
     converted(rt, from_redis_value::<T>(rt.alloc(), moved), wanted);
-    let borrowed = value_of(rt, reply);
+}
+
+/// The borrowed value converts to what shows like this.
+fn converts_borrowed<T: FromRedisValue + Debug>(rt: &impl Test, borrowed: &Value, wanted: &str) {
     refuse(rt.alloc());
-    converted(rt, from_redis_value_ref::<T>(rt.alloc(), &borrowed), wanted);
-    assert!(rt; borrowed == value_of(rt, reply));
+    converted(rt, from_redis_value_ref::<T>(rt.alloc(), borrowed), wanted);
 }
 
 const ABC: &[u8] = b"$3\r\nabc\r\n";
@@ -90,10 +98,8 @@ fn replies_of_single_commands(rt: HostRuntime) {
 
 /// The items of an array.
 fn items_of(rt: &impl Test, reply: &[u8]) -> Vec<Value> {
-    match value_of(rt, reply) {
-        Value::Array(items) => items.into_vec(),
-        _ => Vec::new(rt.alloc()),
-    }
+    let items = value_of(rt, reply).into_sequence(rt.alloc());
+    items.expect(rt, "an array")
 }
 
 /// Lists that the type makes of several replies.
@@ -105,22 +111,43 @@ fn several_replies(rt: HostRuntime) {
         String::from_redis_value_refs(alloc, replies.as_slice()) => ["a", "12", "abc"],
         String::from_redis_values(alloc, replies) => ["a", "12", "abc"],
     }
+}
+
+/// The answers that the type makes of several replies.
+#[test]
+fn each_of_several_replies(rt: HostRuntime) {
     let replies = items_of(&rt, TEXTS);
-    refuse(alloc);
-    let each = String::from_each_redis_values(alloc, replies).map_err(RedisError::from);
+    refuse(rt.alloc());
+    let each = String::from_each_redis_values(rt.alloc(), replies).map_err(RedisError::from);
     shows(&rt, each, "Ok([Ok(\"a\"), Ok(\"12\"), Ok(\"abc\")])");
+}
+
+#[test]
+fn by_way_of_another_type(rt: HostRuntime) {
+    let alloc = rt.alloc();
     let numbers = value_of(&rt, NUMBERS);
     makes! { rt; from_redis_value_by::<Vec<i64>, Items<i64>>(alloc, numbers) => [1, 2, 3, 4] }
+}
+
+/// The bytes of a bulk string.
+fn digits(rt: &impl Test) -> Vec<u8> {
+    Vec::from_slice(rt.alloc(), b"42").expect(rt, "no refusal")
+}
+
+#[test]
+fn owned_bytes(rt: HostRuntime) {
+    let alloc = rt.alloc();
+    let (text, bytes) = (digits(&rt), digits(&rt));
+    makes! { rt;
+        String::from_byte_vec(alloc, text) => ["42"],
+        u8::from_byte_vec(alloc, bytes) => b"42",
+    }
 }
 
 #[test]
 fn bytes(rt: HostRuntime) {
     let alloc = rt.alloc();
-    let text = Vec::from_slice(alloc, b"42").expect(&rt, "no refusal");
-    let bytes = Vec::from_slice(alloc, b"42").expect(&rt, "no refusal");
     makes! { rt;
-        String::from_byte_vec(alloc, text) => ["42"],
-        u8::from_byte_vec(alloc, bytes) => b"42",
         String::from_byte_slice(alloc, b"42") => Some(["42"].as_slice()),
         u8::from_byte_slice(alloc, b"42") => Some(b"42".as_slice()),
     }

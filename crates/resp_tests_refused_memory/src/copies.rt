@@ -25,12 +25,15 @@ const REPLIES: &[&[u8]] = &[
     b">2\r\n+mine\r\n*2\r\n:1\r\n+x\r\n",
 ];
 
+/// A copy of the value is whole.
+fn copies(rt: &impl Test, value: &Value) {
+    makes! { rt; value.try_clone(rt.alloc()) => value }
+}
+
 #[test]
 fn replies(rt: HostRuntime) {
-    let alloc = rt.alloc();
     for bytes in REPLIES {
-        let value: Value = reply(&rt, bytes);
-        makes! { rt; value.try_clone(alloc) => value }
+        copies(&rt, &reply(&rt, bytes));
     }
 }
 
@@ -38,49 +41,70 @@ fn replies(rt: HostRuntime) {
 fn names(rt: HostRuntime) {
     let alloc = rt.alloc();
     let kind: PushKind = get_push_kind(text(&rt, "mine"));
+    makes! { rt; kind.try_clone(alloc) => kind }
     let format: VerbatimFormat = verbatim_format(text(&rt, "own"));
+    makes! { rt; format.try_clone(alloc) => format }
+}
+
+#[test]
+fn texts(rt: HostRuntime) {
+    let alloc = rt.alloc();
     let short = Text::from(text(&rt, "abc"));
-    makes! { rt;
-        kind.try_clone(alloc) => kind,
-        format.try_clone(alloc) => format,
-        short.try_clone(alloc) => short,
-    }
-    let mut payload = Items::new(alloc);
-    payload.push(Value::Int(1)).expect(&rt, "no refusal");
-    let push = PushInfo { kind, payload };
+    makes! { rt; short.try_clone(alloc) => short }
+    let description = Description::from(text(&rt, "described"));
+    makes! { rt; description.try_clone(alloc) => description }
+}
+
+/// A push of a kind without a name of its own.
+fn push(rt: &impl Test) -> PushInfo {
+    let mut payload = Items::new(rt.alloc());
+    payload.push(Value::Int(1)).expect(rt, "no refusal");
+    let kind = get_push_kind(text(rt, "mine"));
+    PushInfo { kind, payload }
+}
+
+#[test]
+fn pushes(rt: HostRuntime) {
+    let push = push(&rt);
     makes! { rt; push.try_clone() => push }
 }
 
 #[test]
-fn errors(rt: HostRuntime) {
-    let alloc = rt.alloc();
-    let description = Description::from(text(&rt, "described"));
+fn parsing_errors(rt: HostRuntime) {
     let parsing = ParsingError::from(text(&rt, "described"));
-    let server = ServerError::from_text(alloc, "MINE x y").expect(&rt, "no refusal");
+    makes! { rt; parsing.try_clone(rt.alloc()) => parsing }
+}
+
+#[test]
+fn server_errors(rt: HostRuntime) {
+    let server = ServerError::from_text(rt.alloc(), "MINE x y").expect(&rt, "no refusal");
+    makes! { rt; server.try_clone(rt.alloc()) => server }
+}
+
+#[test]
+fn errors(rt: HostRuntime) {
     let detailed = RedisError::from((ErrorKind::Client, "what", text(&rt, "detail")));
-    makes! { rt;
-        description.try_clone(alloc) => description,
-        parsing.try_clone(alloc) => parsing,
-        server.try_clone(alloc) => server,
-        detailed.try_clone(alloc) => detailed,
-    }
+    makes! { rt; detailed.try_clone(rt.alloc()) => detailed }
 }
 
 const SENTINEL: &[u8] = b"*2\r\n$8\r\nsentinel\r\n*2\r\n$2\r\nmy\r\n$1\r\no\r\n";
 
 #[test]
-fn replies_of_single_commands(rt: HostRuntime) {
+fn roles(rt: HostRuntime) {
     let alloc = rt.alloc();
     let role: Role = reply(&rt, SENTINEL);
+    makes! { rt; role.try_clone(alloc) => role }
     let replica: ReplicaInfo = reply(&rt, b"*3\r\n$1\r\na\r\n$4\r\n9001\r\n$1\r\n7\r\n");
+    makes! { rt; replica.try_clone(alloc) => replica }
+}
+
+#[test]
+fn types_and_increments(rt: HostRuntime) {
+    let alloc = rt.alloc();
     let of_a_value: ValueType = reply(&rt, b"+xyz\r\n");
+    makes! { rt; of_a_value.try_clone(alloc) => of_a_value }
     let increx: IncrexResult = reply(&rt, b"*2\r\n$1\r\n5\r\n$1\r\n2\r\n");
-    makes! { rt;
-        role.try_clone(alloc) => role,
-        replica.try_clone(alloc) => replica,
-        of_a_value.try_clone(alloc) => of_a_value,
-        increx.try_clone(alloc) => increx,
-    }
+    makes! { rt; increx.try_clone(alloc) => increx }
 }
 
 /// Whether a copy has the entries of the dictionary.
@@ -110,16 +134,27 @@ fn has_first(copy: Result<ArgList, AllocError>) -> Result<bool, AllocError> {
 }
 
 #[test]
-fn commands_and_pipelines(rt: HostRuntime) {
-    let alloc = rt.alloc();
+fn commands(rt: HostRuntime) {
     let command = get(&rt);
     makes! { rt; packed(command.try_clone()) => GET_K }
-    let mut pipeline = pipe(alloc);
-    pipeline.push_command(command).expect(&rt, "no refusal");
+}
+
+#[test]
+fn pipelines(rt: HostRuntime) {
+    let mut pipeline = pipe(rt.alloc());
+    pipeline.push_command(get(&rt)).expect(&rt, "no refusal");
     makes! { rt; packed_pipeline(pipeline.try_clone()) => GET_K }
-    let comparison = ValueComparison::ifeq(alloc, "a").expect(&rt, "no refusal");
-    makes! { rt; comparison.try_clone(alloc) => comparison }
-    let mut list = ArgList::new(alloc);
+}
+
+#[test]
+fn comparisons(rt: HostRuntime) {
+    let comparison = ValueComparison::ifeq(rt.alloc(), "a").expect(&rt, "no refusal");
+    makes! { rt; comparison.try_clone(rt.alloc()) => comparison }
+}
+
+#[test]
+fn argument_lists(rt: HostRuntime) {
+    let mut list = ArgList::new(rt.alloc());
     list.write_arg(b"a").expect(&rt, "no refusal");
-    makes! { rt; has_first(list.try_clone(alloc)) => true }
+    makes! { rt; has_first(list.try_clone(rt.alloc())) => true }
 }

@@ -59,15 +59,39 @@ pub fn ran_out<T>(rt: &impl Test, answer: &RedisResult<T>) -> bool {
     is_out_of_memory(rt, answer, refused)
 }
 
+/// Whether memory ran out in the call, which else succeeded. From here no request is refused.
+pub fn has_to_repeat(rt: &impl Test, answer: &RedisResult<()>) -> bool {
+    let repeats = ran_out(rt, answer);
+    assert!(rt; repeats || answer.is_ok());
+    repeats
+}
+
 /// The Debug text of a value.
-fn debug_text<T: Debug>(rt: &impl Test, value: &T) -> String {
+pub fn debug_text<T: Debug>(rt: &impl Test, value: &T) -> String {
     format!(in rt.alloc(); "{value:?}").expect(rt, "no refusal")
+}
+
+/// The two are equal.
+pub fn equal<T: PartialEq + Debug + Drop>(rt: &impl Abort, came: T, wanted: T) {
+    assert_eq!(rt; came, wanted);
+}
+
+/// The value shows like this.
+fn shows_as<T: Debug>(rt: &impl Test, value: &T, wanted: &str) {
+    let text = debug_text(rt, value);
+    equal(rt, text.as_str(), wanted);
+}
+
+/// The two values show alike.
+fn show_alike<T: Debug, W: Debug>(rt: &impl Test, value: &T, wanted: &W) {
+    let wanted = debug_text(rt, wanted);
+    shows_as(rt, value, wanted.as_str());
 }
 
 /// The call answered what shows like this, or memory ran out in it.
 pub fn shows<T: Debug + Drop>(rt: &impl Test, answer: RedisResult<T>, wanted: &str) {
     if !ran_out(rt, &answer) {
-        assert_eq!(rt; debug_text(rt, &answer).as_str(), wanted);
+        shows_as(rt, &answer, wanted);
     }
 }
 
@@ -79,10 +103,6 @@ pub fn made<T: Debug + Drop, E: Into<RedisError> + Drop, W: Debug>(
 ) {
     let answer = answer.map_err(E::into);
     if !ran_out(rt, &answer) {
-        let answer = answer.expect(rt, "no refusal");
-        assert_eq!(rt;
-            debug_text(rt, &answer).as_str(),
-            debug_text(rt, wanted).as_str()
-        );
+        show_alike(rt, &answer.expect(rt, "no refusal"), wanted);
     }
 }

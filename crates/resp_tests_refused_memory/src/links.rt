@@ -1,6 +1,6 @@
 //! Links: what they have sent and taken where memory ran out.
 
-use crate::heap::{Test, refuse, shows};
+use crate::heap::{Test, equal, refuse, shows};
 use crate::made::{GET_K, get};
 use resp_core::{ByteLink, ConnectionLike, Reading, RedisResult, Value, Writing};
 use std::fmt::Debug;
@@ -21,22 +21,25 @@ pub fn sent(con: Link) -> Vec<u8> {
     sink.into_inner()
 }
 
+/// Whether a request over the link is answered by 7, if it is answered.
+fn is_seven(rt: &impl Test, con: &mut Link) -> Option<bool> {
+    let next = get(rt).query::<Value>(con).ok()?;
+    Some(next == Value::Int(7))
+}
+
 /// The link after a request of so many bytes, whose replies are followed by `:7`: nothing was sent
 /// and it is usable; or all was, and it is broken; or all was, the replies are taken, and it is
 /// usable.
 fn stands(rt: &impl Test, mut con: Link, request: usize) {
     let broken = con.is_broken();
-    let next = get(rt).query::<Value>(&mut con);
-    let is_seven = matches!(next, Ok(Value::Int(7)));
-    let sent = sent(con).len();
-    if broken {
-        assert!(rt; next.is_err());
-        assert_eq!(rt; sent, request);
-    } else if is_seven {
-        assert_eq!(rt; sent, request.saturating_add(GET_K.len()));
-    } else {
-        assert_eq!(rt; sent, GET_K.len());
-    }
+    let is_seven = is_seven(rt, &mut con);
+    let wanted = match (broken, is_seven) {
+        (true, _) => request,
+        (false, Some(true)) => request.saturating_add(GET_K.len()),
+        (false, _) => GET_K.len(),
+    };
+    assert!(rt; !broken || is_seven.is_none());
+    equal(rt, sent(con).len(), wanted);
 }
 
 /// The call over the link, whose request has so many bytes, answered what shows like this, or memory
@@ -66,18 +69,28 @@ const INCOMING: &[(&[u8], &str)] = &[
     ),
 ];
 
+/// A command is answered like this.
+fn asks_command(rt: &impl Test, incoming: &[u8], wanted: &str) {
+    let command = get(rt);
+    let mut con = link(rt, incoming);
+    refuse(rt.alloc());
+    let answer = con.req_command(&command);
+    answered(rt, (con, GET_K.len()), answer, wanted);
+}
+
+/// A packed command is answered like this.
+fn asks_packed(rt: &impl Test, incoming: &[u8], wanted: &str) {
+    let mut con = link(rt, incoming);
+    refuse(rt.alloc());
+    let answer = con.req_packed_command(GET_K);
+    answered(rt, (con, GET_K.len()), answer, wanted);
+}
+
 #[test]
 fn one_command(rt: HostRuntime) {
-    let command = get(&rt);
     for (incoming, wanted) in INCOMING {
-        let mut con = link(&rt, incoming);
-        refuse(rt.alloc());
-        let answer = con.req_command(&command);
-        answered(&rt, (con, GET_K.len()), answer, wanted);
-        let mut con = link(&rt, incoming);
-        refuse(rt.alloc());
-        let answer = con.req_packed_command(GET_K);
-        answered(&rt, (con, GET_K.len()), answer, wanted);
+        asks_command(&rt, incoming, wanted);
+        asks_packed(&rt, incoming, wanted);
     }
 }
 
@@ -98,12 +111,17 @@ const SEVERAL: &[(usize, usize, &str)] = &[
     (2, 0, "Ok([])"),
 ];
 
+/// So many replies after so many are these.
+fn asks_several(rt: &impl Test, offset: usize, count: usize, wanted: &str) {
+    let mut con = link(rt, TWO);
+    refuse(rt.alloc());
+    let answer = con.req_packed_commands(GET_K, offset, count);
+    answered(rt, (con, GET_K.len()), answer, wanted);
+}
+
 #[test]
 fn packed_commands(rt: HostRuntime) {
     for (offset, count, wanted) in SEVERAL {
-        let mut con = link(&rt, TWO);
-        refuse(rt.alloc());
-        let answer = con.req_packed_commands(GET_K, *offset, *count);
-        answered(&rt, (con, GET_K.len()), answer, wanted);
+        asks_several(&rt, *offset, *count, wanted);
     }
 }

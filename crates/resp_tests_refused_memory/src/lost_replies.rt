@@ -102,26 +102,36 @@ impl ConnectionLike for Forgetful {
 }
 
 /// Pages: cursor 7 and nothing; cursor 4 and `b`; cursor 0 and nothing.
-const PAGES: [&[u8]; 3] = [
+const PAGES: &[&[u8]] = &[
     b"*2\r\n$1\r\n0\r\n*0\r\n",
     b"*2\r\n$1\r\n4\r\n*1\r\n$1\r\nb\r\n",
     b"*2\r\n$1\r\n7\r\n*0\r\n",
 ];
 
-/// Three calls, the cursors that were sent after the first, and whether a reply was lost.
-fn over_forgetful(rt: &impl Test) -> (String, bool) {
+/// Adds a page.
+fn add_page(rt: &impl Test, replies: &mut Vec<Value>, page: &[u8]) {
+    let page = parse_redis_value(rt.alloc(), page).expect(rt, "no refusal");
+    replies.push(page).expect(rt, "no refusal");
+}
+
+/// A connection that answers the pages.
+fn with_pages(rt: &impl Test) -> Forgetful {
     let mut replies = Vec::new(rt.alloc());
     for page in PAGES {
-        let page = parse_redis_value(rt.alloc(), page).expect(rt, "no refusal");
-        replies.push(page).expect(rt, "no refusal");
+        add_page(rt, &mut replies, page);
     }
-    let mut con = Forgetful {
+    Forgetful {
         alloc: rt.alloc(),
         replies,
         cursors: 0,
         has_lost: false,
         broken: false,
-    };
+    }
+}
+
+/// Three calls, the cursors that were sent after the first, and whether a reply was lost.
+fn over_forgetful(rt: &impl Test) -> (String, bool) {
+    let mut con = with_pages(rt);
     let (answers, refused) = three(rt, 9, &mut con);
     let cursors = con.cursors;
     let has_lost = con.has_lost;

@@ -28,17 +28,19 @@ const TRANSACTION: &[u8] =
 pub const LONG: &str = "0123456789012345678901234567890123456789012345678901234567890123456789";
 
 #[test]
-fn packed(rt: HostRuntime) {
+fn packed_commands(rt: HostRuntime) {
     let command = get(&rt);
+    makes! { rt; command.get_packed_command() => GET_K }
     let args = ("GET", "k").to_redis_args(rt.alloc());
     let args = args.expect(&rt, "no refusal");
+    makes! { rt; pack_command(rt.alloc(), args.as_slice()) => GET_K }
+}
+
+#[test]
+fn packed_pipelines(rt: HostRuntime) {
     let mut pipeline = pipe(rt.alloc());
     pipeline.push_command(get(&rt)).expect(&rt, "no refusal");
-    makes! { rt;
-        command.get_packed_command() => GET_K,
-        pack_command(rt.alloc(), args.as_slice()) => GET_K,
-        pipeline.get_packed_pipeline() => GET_K,
-    }
+    makes! { rt; pipeline.get_packed_pipeline() => GET_K }
     let _ = pipeline.atomic();
     makes! { rt; pipeline.get_packed_pipeline() => TRANSACTION }
 }
@@ -70,16 +72,19 @@ fn commands(rt: HostRuntime) {
     }
 }
 
+/// The value gives these arguments.
+fn gives<T: ToRedisArgs>(rt: &impl Test, value: &T, wanted: &[&[u8]]) {
+    makes! { rt; value.to_redis_args(rt.alloc()) => wanted }
+}
+
 #[test]
 fn arguments(rt: HostRuntime) {
-    let alloc = rt.alloc();
-    let map = BTreeMap::from_array(alloc, [("a", 1i64), ("b", 2)]).expect(&rt, "no refusal");
-    makes! { rt;
-        "a".to_redis_args(alloc) => [b"a"],
-        12i64.to_redis_args(alloc) => [b"12"],
-        ("a", 1i64, Some("b")).to_redis_args(alloc) => [b"a", b"1", b"b"],
-        map.to_redis_args(alloc) => [b"a", b"1", b"b", b"2"],
-    }
+    gives(&rt, &"a", &[b"a"]);
+    gives(&rt, &12i64, &[b"12"]);
+    gives(&rt, &("a", 1i64, Some("b")), &[b"a", b"1", b"b"]);
+    let map = BTreeMap::from_array(rt.alloc(), [("a", 1i64), ("b", 2)]);
+    let map = map.expect(&rt, "no refusal");
+    gives(&rt, &map, &[b"a", b"1", b"b", b"2"]);
 }
 
 /// The arguments that a comparison gives.
@@ -136,18 +141,27 @@ fn into_server_errors(rt: HostRuntime) {
     shows(&rt, listed, wanted);
 }
 
+/// Three commands.
+fn three(rt: &impl Test) -> Pipeline {
+    let mut pipeline = pipe(rt.alloc());
+    for _command in 0..3usize {
+        pipeline.push_cmd("A").expect(rt, "no refusal");
+    }
+    pipeline
+}
+
+/// The error of three commands, of which two are refused.
+fn two_errors(rt: &impl Test) -> RedisError {
+    let mut con = link(rt, b"-MINE x\r\n+OK\r\n-ERR y z\r\n");
+    let answer: RedisResult<Value> = three(rt).query(&mut con);
+    answer.expect_err(rt, "a refusal")
+}
+
 #[test]
 fn into_server_errors_of_a_pipeline(rt: HostRuntime) {
-    let alloc = rt.alloc();
-    let mut con = link(&rt, b"-MINE x\r\n+OK\r\n-ERR y z\r\n");
-    let mut pipeline = pipe(alloc);
-    for _command in 0..3usize {
-        pipeline.push_cmd("A").expect(&rt, "no refusal");
-    }
-    let answer: RedisResult<Value> = pipeline.query(&mut con);
-    let two = answer.expect_err(&rt, "a refusal");
-    refuse(alloc);
-    let listed = two.into_server_errors(alloc);
+    let two = two_errors(&rt);
+    refuse(rt.alloc());
+    let listed = two.into_server_errors(rt.alloc());
     let wanted = "Ok(Some([(0, Extension { code: \"MINE\", detail: Some(\"x\") }), \
         (2, Known { kind: ResponseError, detail: Some(\"y z\") })]))";
     shows(&rt, listed, wanted);
@@ -158,19 +172,26 @@ fn entries(info: InfoDict) -> usize {
     info.len()
 }
 
+/// What `INFO` answers.
+const INFO: &str = "# S\r\nrole:master\r\nn:7\r\nurl:a:b\r\n";
+
 #[test]
-fn info(rt: HostRuntime) {
+fn dictionaries(rt: HostRuntime) {
     let alloc = rt.alloc();
-    let text = "# S\r\nrole:master\r\nn:7\r\nurl:a:b\r\n";
-    let info = InfoDict::new(alloc, text).expect(&rt, "no refusal");
+    makes! { rt; InfoDict::new(alloc, INFO).map(entries) => 3 }
     let reply = b"$27\r\nrole:master\r\nn:7\r\nurl:a:b\r\n\r\n";
     let reply = parse_redis_value(alloc, reply).expect(&rt, "no refusal");
+    makes! { rt; from_redis_value_ref::<InfoDict>(alloc, &reply).map(entries) => 3 }
+}
+
+#[test]
+fn entries_of_dictionaries(rt: HostRuntime) {
+    let alloc = rt.alloc();
+    let info = InfoDict::new(alloc, INFO).expect(&rt, "no refusal");
     makes! { rt;
-        InfoDict::new(alloc, text).map(entries) => 3,
         info.get::<String>(alloc, "role") => Some("master"),
         info.get::<i64>(alloc, "n") => Some(7),
         info.get::<i64>(alloc, "gone") => None::<i64>,
-        from_redis_value_ref::<InfoDict>(alloc, &reply).map(entries) => 3,
     }
 }
 
@@ -180,14 +201,26 @@ fn text_of(alloc: Global, kind: RedisResult<ValueType>) -> RedisResult<String> {
 }
 
 #[test]
-fn types_and_increments(rt: HostRuntime) {
+fn value_types(rt: HostRuntime) {
     let alloc = rt.alloc();
-    let reply = parse_redis_value(alloc, b"*2\r\n$1\r\n5\r\n$1\r\n2\r\n");
-    let reply = reply.expect(&rt, "no refusal");
-    let increx: IncrexResult = from_redis_value(alloc, reply).expect(&rt, "no refusal");
     makes! { rt;
         text_of(alloc, ValueType::read(alloc, "xyz")) => "xyz",
         text_of(alloc, ValueType::read(alloc, "zset")) => "zset",
+    }
+}
+
+/// What `INCREX` answers.
+fn increment(rt: &impl Test) -> IncrexResult {
+    let reply = parse_redis_value(rt.alloc(), b"*2\r\n$1\r\n5\r\n$1\r\n2\r\n");
+    let reply = reply.expect(rt, "no refusal");
+    from_redis_value(rt.alloc(), reply).expect(rt, "no refusal")
+}
+
+#[test]
+fn increments(rt: HostRuntime) {
+    let alloc = rt.alloc();
+    let increx = increment(&rt);
+    makes! { rt;
         increx.value_as::<String>(alloc) => "5",
         increx.actual_increment_as::<String>(alloc) => "2",
         increx.as_i64(alloc) => (5, 2),

@@ -3,8 +3,8 @@
 //! What a test calls them on is made first. Then all requests are refused, up to its last line,
 //! which asks whether one was.
 
-use crate::heap::{Test, refuse_all, was_refused};
-use crate::links::link;
+use crate::heap::{Test, equal, refuse_all, was_refused};
+use crate::links::{Link, link};
 use crate::made::get;
 use crate::subjects::Subject;
 use resp_core::{
@@ -14,6 +14,7 @@ use resp_core::{
     ValueType, VerbatimFormat, Writing, from_redis_value, from_redis_value_ref, get_push_kind,
     is_double_text, is_valid_16_bytes_hex_digest, parse_redis_value, pipe, verbatim_format,
 };
+use std::alloc::Global;
 use std::collections::BTreeMap;
 
 /// No request was made since all were refused.
@@ -36,8 +37,15 @@ fn commands(rt: HostRuntime) {
     refuse_all(rt.alloc());
     let _ = command.set_no_response(true);
     assert!(rt; command.is_no_response() && !command.is_empty() && !command.in_scan_mode());
-    assert_eq!(rt; command.args_iter().len(), 2);
-    assert_eq!(rt; command.framed().len(), 24);
+    equal(&rt, command.args_iter().len(), 2);
+    equal(&rt, command.framed().len(), 24);
+    took_none(&rt);
+}
+
+#[test]
+fn cleared_commands(rt: HostRuntime) {
+    let mut command = Cmd::of_size(&rt, 9);
+    refuse_all(rt.alloc());
     let mut taken = command.take();
     taken.set_cursor(7);
     taken.clear();
@@ -53,7 +61,14 @@ fn pipelines(rt: HostRuntime) {
     let _ = pipeline.atomic();
     let _ = pipeline.ignore_errors();
     assert!(rt; pipeline.is_transaction() && pipeline.len() == 3);
-    assert_eq!(rt; pipeline.cmd_iter().len(), 3);
+    equal(&rt, pipeline.cmd_iter().len(), 3);
+    took_none(&rt);
+}
+
+#[test]
+fn cleared_pipelines(rt: HostRuntime) {
+    let mut pipeline = Pipeline::of_size(&rt, 3);
+    refuse_all(rt.alloc());
     pipeline.clear();
     assert!(rt; pipeline.is_empty() && pipe(rt.alloc()).is_empty());
     assert!(rt; Pipeline::new(rt.alloc()).is_empty());
@@ -87,10 +102,11 @@ fn writers_of_an_argument(rt: HostRuntime) {
 #[test]
 fn arguments(rt: HostRuntime) {
     refuse_all(rt.alloc());
-    assert_eq!(rt; ("a", 1i64, Some("b")).num_of_args(), 3);
-    assert_eq!(rt;
+    equal(&rt, ("a", 1i64, Some("b")).num_of_args(), 3);
+    equal(
+        &rt,
         1i64.describe_numeric_behavior(),
-        NumericBehavior::NumberIsInteger
+        NumericBehavior::NumberIsInteger,
     );
     assert!(rt; <&str>::is_single_vec_arg(&["a"]));
     assert!(rt; is_valid_16_bytes_hex_digest("0123456789abcdef"));
@@ -99,19 +115,31 @@ fn arguments(rt: HostRuntime) {
 }
 
 #[test]
-fn containers(rt: HostRuntime) {
+fn items(rt: HostRuntime) {
     let mut items = Items::<u8>::of_size(&rt, 2);
-    let word = text(&rt, "abc");
-    let boxed = Boxed::new(rt.alloc(), 5u8).expect(&rt, "no refusal");
     refuse_all(rt.alloc());
     assert!(rt; items.len() == 2 && items.as_slice().len() == 2 && !items.is_empty());
     assert!(rt; items.pop() == Some(b'x') && Items::<u8>::new(items.allocator()).is_empty());
-    assert_eq!(rt; Items::from(items.into_vec()).len(), 1);
+    equal(&rt, Items::from(items.into_vec()).len(), 1);
+    took_none(&rt);
+}
+
+#[test]
+fn texts(rt: HostRuntime) {
+    let word = text(&rt, "abc");
+    refuse_all(rt.alloc());
     let word = Text::from(word);
     assert!(rt; word.len() == 3 && !word.is_empty() && word.eq_str("abc"));
-    assert_eq!(rt; word.as_str().len(), word.into_string().len());
-    assert!(rt; *boxed.get() == 5);
-    assert_eq!(rt; boxed.into_inner(), 5);
+    equal(&rt, word.as_str().len(), word.into_string().len());
+    took_none(&rt);
+}
+
+#[test]
+fn boxes(rt: HostRuntime) {
+    let boxed = Boxed::new(rt.alloc(), 5u8).expect(&rt, "no refusal");
+    refuse_all(rt.alloc());
+    equal(&rt, *boxed.get(), 5);
+    equal(&rt, boxed.into_inner(), 5);
     took_none(&rt);
 }
 
@@ -121,67 +149,134 @@ fn parsers(rt: HostRuntime) {
     refuse_all(rt.alloc());
     assert!(rt; parser.in_progress() && !parser.is_failed() && parser.fault_offset().is_none());
     assert!(rt; parser.limits() == Limits::default() && parser.depth_limit() == 100);
+    took_none(&rt);
+}
+
+/// Limits below the usual ones.
+const LIMITS: Limits = Limits { depth: 3, bytes: 9 };
+
+#[test]
+fn new_parsers(rt: HostRuntime) {
+    refuse_all(rt.alloc());
     assert!(rt; !Parser::new(rt.alloc()).in_progress());
-    let limits = Limits { depth: 3, bytes: 9 };
-    assert!(rt; Parser::with_limits(rt.alloc(), limits).is_ok());
-    assert!(rt; Parser::with_depth_limit(rt.alloc(), 3).is_ok());
-    let mut source = Reading::new(b"+OK\r\n".as_slice());
-    assert_eq!(rt; source.fill(&mut [0; 9]), Ok(5));
-    assert_eq!(rt; source.into_inner().len(), 0);
+    assert!(rt; is_ok(Parser::with_limits(rt.alloc(), LIMITS)));
+    assert!(rt; is_ok(Parser::with_depth_limit(rt.alloc(), 3)));
     took_none(&rt);
 }
 
 #[test]
-fn links(rt: HostRuntime) {
-    let mut con = link(&rt, b">1\r\n+own\r\n:1\r\n");
-    let _reply: i64 = get(&rt).query(&mut con).expect(&rt, "no refusal");
+fn sources(rt: HostRuntime) {
     refuse_all(rt.alloc());
-    assert!(rt; !con.is_broken() && con.supports_pipelining() && con.pushes().len() == 1);
+    let mut source = Reading::new(b"+OK\r\n".as_slice());
+    equal(&rt, source.fill(&mut [0; 9]), Ok(5));
+    equal(&rt, source.into_inner().len(), 0);
+    took_none(&rt);
+}
+
+#[test]
+fn sinks(rt: HostRuntime) {
+    let room = Vec::with_capacity(rt.alloc(), 9).expect(&rt, "no refusal");
+    refuse_all(rt.alloc());
+    let mut sink = Writing::new(room);
+    equal(&rt, sink.send(b"abc"), Ok(3));
+    equal(&rt, sink.flush(), Ok(()));
+    equal(&rt, sink.into_inner().len(), 3);
+    took_none(&rt);
+}
+
+/// A link that has set a push aside.
+fn pushed(rt: &impl Test) -> Link {
+    let mut con = link(rt, b">1\r\n+own\r\n:1\r\n");
+    let _reply: i64 = get(rt).query(&mut con).expect(rt, "no refusal");
+    con
+}
+
+/// Whether the link is usable, and has set a push aside.
+fn is_pushed(con: &Link) -> bool {
+    !con.is_broken() && con.supports_pipelining() && con.pushes().len() == 1
+}
+
+#[test]
+fn links(rt: HostRuntime) {
+    let mut con = pushed(&rt);
+    refuse_all(rt.alloc());
+    assert!(rt; is_pushed(&con));
     assert!(rt; con.limits() == Limits::default() && con.depth_limit() == 100);
-    assert_eq!(rt; con.take_pushes().len(), 1);
+    equal(&rt, con.take_pushes().len(), 1);
+    took_none(&rt);
+}
+
+#[test]
+fn ends_of_links(rt: HostRuntime) {
+    let con = link(&rt, b"");
+    refuse_all(rt.alloc());
     let (source, sink) = con.into_ends();
     let _link = ByteLink::over(rt.alloc(), source, sink);
     took_none(&rt);
 }
 
+/// Nothing comes in.
+const NOTHING: &[u8] = b"";
+
 #[test]
 fn new_links(rt: HostRuntime) {
     let alloc = rt.alloc();
-    let room = Vec::with_capacity(alloc, 9).expect(&rt, "no refusal");
     refuse_all(alloc);
-    let mut sink = Writing::new(room);
-    assert_eq!(rt; sink.send(b"abc"), Ok(3));
-    assert_eq!(rt; sink.flush(), Ok(()));
-    let room = sink.into_inner();
-    let limits = Limits { depth: 3, bytes: 9 };
-    let nothing = b"".as_slice();
-    let _link = ByteLink::new(alloc, nothing, room);
-    assert!(rt; ByteLink::with_limits(alloc, nothing, Vec::new(alloc), limits).is_ok());
-    assert!(rt; ByteLink::with_depth_limit(alloc, nothing, Vec::new(alloc), 3).is_ok());
-    let (source, sink) = (Reading::new(nothing), Writing::new(Vec::new(alloc)));
-    assert!(rt; ByteLink::over_with_limits(alloc, source, sink, limits).is_ok());
-    let (source, sink) = (Reading::new(nothing), Writing::new(Vec::new(alloc)));
-    assert!(rt; ByteLink::over_with_depth_limit(alloc, source, sink, 3).is_ok());
+    let _link = ByteLink::new(alloc, NOTHING, Vec::new(alloc));
+    let limited = ByteLink::with_limits(alloc, NOTHING, Vec::new(alloc), LIMITS);
+    assert!(rt; is_ok(limited));
+    let limited = ByteLink::with_depth_limit(alloc, NOTHING, Vec::new(alloc), 3);
+    assert!(rt; is_ok(limited));
+    took_none(&rt);
+}
+
+/// Ends of a link.
+fn ends(alloc: Global) -> (Reading<&'static [u8]>, Writing<Vec<u8>>) {
+    (Reading::new(NOTHING), Writing::new(Vec::new(alloc)))
+}
+
+#[test]
+fn new_links_over_ends(rt: HostRuntime) {
+    let alloc = rt.alloc();
+    refuse_all(alloc);
+    let (source, sink) = ends(alloc);
+    let limited = ByteLink::over_with_limits(alloc, source, sink, LIMITS);
+    assert!(rt; is_ok(limited));
+    let (source, sink) = ends(alloc);
+    let limited = ByteLink::over_with_depth_limit(alloc, source, sink, 3);
+    assert!(rt; is_ok(limited));
     took_none(&rt);
 }
 
 #[test]
-fn values(rt: HostRuntime) {
-    let alloc = rt.alloc();
+fn maps(rt: HostRuntime) {
     let map: Value = reply(&rt, b"%1\r\n+a\r\n:1\r\n");
-    let list: Value = reply(&rt, b"*2\r\n+a\r\n:1\r\n");
-    let error: Value = reply(&rt, b"*1\r\n-MINE x\r\n");
-    refuse_all(alloc);
+    refuse_all(rt.alloc());
     assert!(rt; !map.looks_like_cursor() && map.as_map_iter().is_some());
     assert!(rt; is_ok(map.into_map_iter()));
-    assert!(rt; list.as_sequence().is_some() && is_ok(list.into_sequence(alloc)));
-    assert!(rt; is_ok(Value::Nil.into_sequence(alloc)));
+    took_none(&rt);
+}
+
+#[test]
+fn sequences(rt: HostRuntime) {
+    let list: Value = reply(&rt, b"*2\r\n+a\r\n:1\r\n");
+    refuse_all(rt.alloc());
+    assert!(rt; list.as_sequence().is_some());
+    assert!(rt; is_ok(list.into_sequence(rt.alloc())));
+    assert!(rt; is_ok(Value::Nil.into_sequence(rt.alloc())));
+    took_none(&rt);
+}
+
+#[test]
+fn values_with_errors(rt: HostRuntime) {
+    let error: Value = reply(&rt, b"*1\r\n-MINE x\r\n");
+    refuse_all(rt.alloc());
     assert!(rt; !is_ok(error.extract_error()));
     took_none(&rt);
 }
 
 /// Whether it is, and lets it go.
-fn is_ok<T: Drop, E: Drop>(answer: Result<T, E>) -> bool {
+pub fn is_ok<T: Drop, E: Drop>(answer: Result<T, E>) -> bool {
     answer.is_ok()
 }
 
@@ -189,15 +284,28 @@ fn is_ok<T: Drop, E: Drop>(answer: Result<T, E>) -> bool {
 fn numbers(rt: HostRuntime) {
     let alloc = rt.alloc();
     let number: Value = reply(&rt, b"$2\r\n42\r\n");
+    refuse_all(alloc);
+    equal(&rt, i64::from_redis_value_ref(alloc, &number), Ok(42));
+    equal(&rt, from_redis_value_ref(alloc, &number), Ok(42u8));
+    equal(&rt, u8::from_redis_value(alloc, number), Ok(42));
+    took_none(&rt);
+}
+
+#[test]
+fn truth_values(rt: HostRuntime) {
+    let alloc = rt.alloc();
     let text: Value = reply(&rt, b"|1\r\n+k\r\n:1\r\n+1\r\n");
     refuse_all(alloc);
-    assert_eq!(rt; i64::from_redis_value_ref(alloc, &number), Ok(42));
-    assert_eq!(rt; from_redis_value_ref(alloc, &number), Ok(42u8));
-    assert_eq!(rt; from_redis_value_ref(alloc, &text), Ok(true));
-    assert_eq!(rt; bool::from_redis_value_ref(alloc, &text), Ok(true));
-    assert_eq!(rt; u8::from_redis_value(alloc, number), Ok(42));
-    assert_eq!(rt; bool::from_redis_value(alloc, text), Ok(true));
-    let reply = IntegerReplyOrNoOp::from_redis_value(alloc, Value::Int(-2));
+    equal(&rt, from_redis_value_ref(alloc, &text), Ok(true));
+    equal(&rt, bool::from_redis_value_ref(alloc, &text), Ok(true));
+    equal(&rt, bool::from_redis_value(alloc, text), Ok(true));
+    took_none(&rt);
+}
+
+#[test]
+fn integer_replies(rt: HostRuntime) {
+    refuse_all(rt.alloc());
+    let reply = IntegerReplyOrNoOp::from_redis_value(rt.alloc(), Value::Int(-2));
     let no_op = reply.expect(&rt, "no refusal");
     assert!(rt; no_op.raw() == Some(-2) && no_op.eq_isize(-2) && no_op.eq_i32(-2));
     assert!(rt; !no_op.eq_usize(2) && !no_op.eq_u32(2));
@@ -207,14 +315,26 @@ fn numbers(rt: HostRuntime) {
 #[test]
 fn names(rt: HostRuntime) {
     let (kind, format) = (text(&rt, "message"), text(&rt, "own"));
+    refuse_all(rt.alloc());
+    equal(&rt, get_push_kind(kind).name(), "message");
+    equal(&rt, PushKind::Message.name(), "message");
+    let format: VerbatimFormat = verbatim_format(format);
+    equal(&rt, format.name(), "own");
+    took_none(&rt);
+}
+
+#[test]
+fn names_of_types(rt: HostRuntime) {
     let of_a_value: ValueType = reply(&rt, b"+xyz\r\n");
+    refuse_all(rt.alloc());
+    equal(&rt, of_a_value.name(), "xyz");
+    took_none(&rt);
+}
+
+#[test]
+fn dictionaries(rt: HostRuntime) {
     let info: InfoDict = reply(&rt, b"$6\r\nrole:m\r\n");
     refuse_all(rt.alloc());
-    assert_eq!(rt; get_push_kind(kind).name(), "message");
-    assert_eq!(rt; PushKind::Message.name(), "message");
-    let format: VerbatimFormat = verbatim_format(format);
-    assert_eq!(rt; format.name(), "own");
-    assert_eq!(rt; of_a_value.name(), "xyz");
     assert!(rt; info.find(&"role").is_some() && info.contains_key(&"role"));
     assert!(rt; info.len() == 1 && !info.is_empty() && info.as_map().len() == 1);
     took_none(&rt);

@@ -1,6 +1,6 @@
 //! Parsers: after want of memory a parser has failed for good, but for a refused `feed`.
 
-use crate::heap::{Test, made, ran_out, refuse};
+use crate::heap::{Test, equal, made, ran_out, refuse};
 use resp_core::{Parser, Reading, RedisError, RedisResult, Value, parse_redis_value};
 use std::process::Abort;
 
@@ -22,23 +22,29 @@ const REPLIES: &[&[u8]] = &[
     b"*1\r\n*1\r\n*1\r\n*1\r\n*1\r\n*1\r\n*1\r\n*1\r\n*1\r\n+x\r\n",
 ];
 
-/// The refusal of a parser that has failed.
-fn says_failed<T>(rt: &impl Abort, answer: &RedisResult<T>) {
-    match answer {
-        Err(RedisError::Parse(error)) => assert_eq!(rt; error.description(), "parser has failed"),
-        _ => assert!(rt; false),
+/// Whether an error is the refusal of a parser that has failed.
+fn is_failure(error: &RedisError) -> bool {
+    match error {
+        RedisError::Parse(error) => error.description() == "parser has failed",
+        _ => false,
     }
+}
+
+/// The refusal of a parser that has failed.
+fn says_failed<T: Drop>(rt: &impl Abort, answer: RedisResult<T>) {
+    let is_failure = answer.err().is_some_and(|error| is_failure(&error));
+    assert!(rt; is_failure);
 }
 
 /// Each call of the parser says that it has failed, and asks for no bytes.
 fn has_failed(rt: &impl Abort, mut parser: Parser) {
     assert!(rt; parser.is_failed());
-    says_failed(rt, &parser.take_value());
-    says_failed(rt, &parser.feed(b":1\r\n"));
-    says_failed(rt, &parser.parse_value(b":1\r\n".as_slice()));
+    says_failed(rt, parser.take_value());
+    says_failed(rt, parser.feed(b":1\r\n"));
+    says_failed(rt, parser.parse_value(b":1\r\n".as_slice()));
     let mut source = Reading::new(b":1\r\n".as_slice());
-    says_failed(rt, &parser.parse_from(&mut source));
-    assert_eq!(rt; source.into_inner().len(), 4);
+    says_failed(rt, parser.parse_from(&mut source));
+    equal(rt, source.into_inner().len(), 4);
 }
 
 /// A parser of these bytes.
@@ -77,6 +83,10 @@ fn reads(rt: &impl Test, bytes: &[u8], wanted: &Value) {
     refuse(rt.alloc());
     let answer = parser.parse_value(bytes);
     answered(rt, parser, answer, wanted);
+}
+
+/// What is read of a source gives this.
+fn reads_source(rt: &impl Test, bytes: &[u8], wanted: &Value) {
     let mut parser = Parser::new(rt.alloc());
     let mut source = Reading::new(bytes);
     refuse(rt.alloc());
@@ -84,13 +94,19 @@ fn reads(rt: &impl Test, bytes: &[u8], wanted: &Value) {
     answered(rt, parser, answer, wanted);
 }
 
+/// The bytes give their value, however they come in.
+fn gives_value(rt: &impl Test, bytes: &[u8]) {
+    let value = parse_redis_value(rt.alloc(), bytes).expect(rt, "no refusal");
+    makes! { rt; parse_redis_value(rt.alloc(), bytes) => value }
+    reads(rt, bytes, &value);
+    reads_source(rt, bytes, &value);
+    takes(rt, bytes, &Some(value));
+}
+
 #[test]
 fn replies(rt: HostRuntime) {
     for bytes in REPLIES {
-        let value = parse_redis_value(rt.alloc(), bytes).expect(&rt, "no refusal");
-        makes! { rt; parse_redis_value(rt.alloc(), bytes) => value }
-        reads(&rt, bytes, &value);
-        takes(&rt, bytes, &Some(value));
+        gives_value(&rt, bytes);
         if let Some((_last, front)) = bytes.split_last() {
             takes(&rt, front, &None);
         }

@@ -1,17 +1,21 @@
 //! The program `resp`: it prints that memory ran out, with status 2, or what it prints with ample
 //! memory.
 
-use crate::heap::{Test, refuse, was_refused};
+use crate::heap::{Test, equal, refuse, was_refused};
 use crate::links::link;
 use resp_cli::{pack, query, read};
 
 fn words(rt: &impl Test, line: &str) -> Vec<String> {
     let mut words = Vec::new(rt.alloc());
     for word in line.split(' ') {
-        let word = String::from_str(rt.alloc(), word).expect(rt, "no refusal");
-        words.push(word).expect(rt, "no refusal");
+        add_word(rt, &mut words, word);
     }
     words
+}
+
+fn add_word(rt: &impl Test, words: &mut Vec<String>, word: &str) {
+    let word = String::from_str(rt.alloc(), word).expect(rt, "no refusal");
+    words.push(word).expect(rt, "no refusal");
 }
 
 /// Room for what is printed.
@@ -28,12 +32,12 @@ fn printed(rt: &impl Test, (answer, printed, refusal): Printed, wanted: Printed)
     let refused = was_refused(rt.alloc());
     let (status, out, err) = wanted;
     if refused && refusal == b"refused: out of memory\n".as_slice() {
-        assert_eq!(rt; answer, 2);
+        equal(rt, answer, 2);
         assert!(rt; out.starts_with(printed));
     } else {
-        assert_eq!(rt; answer, status);
-        assert_eq!(rt; printed, out);
-        assert_eq!(rt; refusal, err);
+        equal(rt, answer, status);
+        equal(rt, printed, out);
+        equal(rt, refusal, err);
     }
 }
 
@@ -64,14 +68,18 @@ const READS: &[(&[u8], Printed<'static>)] = &[
     (b"*2\r\n+a\r\n:", (2, b"", b"refused: early end\n")),
 ];
 
+/// Of these bytes this is printed.
+fn prints(rt: &impl Test, mut input: &[u8], wanted: Printed) {
+    let (mut out, mut err) = (room(rt), room(rt));
+    refuse(rt.alloc());
+    let status = read(rt.alloc(), &mut input, &mut out, &mut err);
+    printed(rt, (status, out.as_slice(), err.as_slice()), wanted);
+}
+
 #[test]
 fn reads(rt: HostRuntime) {
     for (bytes, wanted) in READS {
-        let (mut out, mut err) = (room(&rt), room(&rt));
-        let mut input = *bytes;
-        refuse(rt.alloc());
-        let status = read(rt.alloc(), &mut input, &mut out, &mut err);
-        printed(&rt, (status, out.as_slice(), err.as_slice()), *wanted);
+        prints(&rt, bytes, *wanted);
     }
 }
 
@@ -105,14 +113,19 @@ const QUERIES: &[(&str, &[u8], u8, &[u8])] = &[
     ),
 ];
 
+/// A query of these words, which is answered by these replies, ends like this.
+fn asks(rt: &impl Test, line: &str, replies: &[u8], wanted: Printed) {
+    let words = words(rt, line);
+    let mut con = link(rt, replies);
+    let mut err = room(rt);
+    refuse(rt.alloc());
+    let answer = query(rt.alloc(), words.as_slice(), &mut con, &mut err);
+    printed(rt, (answer, b"", err.as_slice()), wanted);
+}
+
 #[test]
 fn queries(rt: HostRuntime) {
     for (line, replies, status, text) in QUERIES {
-        let words = words(&rt, line);
-        let mut con = link(&rt, replies);
-        let mut err = room(&rt);
-        refuse(rt.alloc());
-        let answer = query(rt.alloc(), words.as_slice(), &mut con, &mut err);
-        printed(&rt, (answer, b"", err.as_slice()), (*status, b"", text));
+        asks(&rt, line, replies, (*status, b"", text));
     }
 }

@@ -45,12 +45,17 @@ fn never(_error: &RedisError) -> bool {
 }
 
 #[test]
-fn commands_that_may_be_tried_again(rt: HostRuntime) {
+fn attempts(rt: HostRuntime) {
     let command = get(&rt);
     let mut con = link(&rt, TEXT);
     refuse(rt.alloc());
     let answer: RedisResult<String> = command.attempt(&mut con);
     answered(&rt, (con, GET_K.len()), answer, "Ok(\"abc\")");
+}
+
+#[test]
+fn commands_that_may_be_tried_again(rt: HostRuntime) {
+    let command = get(&rt);
     let mut con = link(&rt, TEXT);
     refuse(rt.alloc());
     let answer = retrying::<String, Cmd, _>(&mut con, 3, &command, never);

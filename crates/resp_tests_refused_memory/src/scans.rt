@@ -45,10 +45,8 @@ fn first_requests(rt: HostRuntime) {
 
 /// The first item of a scan that holds its connection.
 fn first_item(command: Cmd, con: &mut Link) -> RedisResult<Option<RedisResult<String>>> {
-    match command.iter::<String, Link>(con, 9) {
-        Ok(mut scan) => Ok(scan.next()),
-        Err(error) => Err(error),
-    }
+    let mut scan = command.iter::<String, Link>(con, 9)?;
+    Ok(scan.next())
 }
 
 /// The same of a scan that holds its connection.
@@ -75,21 +73,22 @@ fn letter(answer: &Option<RedisResult<String>>) -> char {
     }
 }
 
+/// What the next call answers.
+fn next_letter<C: ConnectionLike>(scan: &mut ScanProgress<String>, con: &mut C) -> char {
+    letter(&scan.next(con))
+}
+
 /// What three calls answered, the first with a request refused, and whether one was.
 pub fn three<C: ConnectionLike>(rt: &impl Test, budget: u64, con: &mut C) -> (String, bool) {
     let scan = scan_command(rt).start_scan(con, budget);
     let mut scan: ScanProgress<String> = scan.expect(rt, "no refusal");
     refuse(rt.alloc());
-    let first = scan.next(con);
+    let first = next_letter(&mut scan, con);
     let refused = was_refused(rt.alloc());
-    let mut answers = String::new(rt.alloc());
-    answers.push(letter(&first)).expect(rt, "no refusal");
-    for _call in 0..2usize {
-        answers
-            .push(letter(&scan.next(con)))
-            .expect(rt, "no refusal");
-    }
-    (answers, refused)
+    let second = next_letter(&mut scan, con);
+    let third = next_letter(&mut scan, con);
+    let answers = format!(in rt.alloc(); "{first}{second}{third}");
+    (answers.expect(rt, "no refusal"), refused)
 }
 
 /// Three calls over a link, and then the cursors that were sent.

@@ -1,6 +1,6 @@
 //! Objects that calls change: how they are made, and what they show.
 
-use crate::heap::Test;
+use crate::heap::{Test, debug_text};
 use crate::links::link;
 use resp_core::{ArgList, Cmd, Items, Parser, Pipeline, RedisWrite, cmd, pipe};
 
@@ -54,10 +54,15 @@ impl Subject for Pipeline {
 
     fn shows<R: Test>(&mut self, rt: &R) -> String {
         let packed = self.get_packed_pipeline().expect(rt, "no refusal");
-        let mut con = link(rt, NUMBERS);
-        let kept: Vec<i64> = self.query(&mut con).expect(rt, "no refusal");
+        let kept = kept(rt, self);
         format!(in rt.alloc(); "{packed:?} {kept:?}").expect(rt, "no refusal")
     }
+}
+
+/// The numbers that a pipeline keeps of its replies.
+fn kept(rt: &impl Test, pipeline: &Pipeline) -> Vec<i64> {
+    let mut con = link(rt, NUMBERS);
+    pipeline.query(&mut con).expect(rt, "no refusal")
 }
 
 /// A list of one argument of so many bytes.
@@ -120,14 +125,24 @@ impl Subject for Parser {
         let mut parser = Parser::new(rt.alloc());
         parser.feed(FIRST).expect(rt, "no refusal");
         if size > 0 {
-            assert!(rt; matches!(parser.take_value(), Ok(None)));
+            assert!(rt; is_waiting(&mut parser));
         }
         parser
     }
 
     fn shows<R: Test>(&mut self, rt: &R) -> String {
-        let taken = self.take_value().expect(rt, "no refusal");
+        let taken = taken_text(rt, self);
         let in_progress = self.in_progress();
-        format!(in rt.alloc(); "{taken:?} {in_progress}").expect(rt, "no refusal")
+        format!(in rt.alloc(); "{taken} {in_progress}").expect(rt, "no refusal")
     }
+}
+
+/// Whether the parser waits for more of a reply.
+fn is_waiting(parser: &mut Parser) -> bool {
+    matches!(parser.take_value(), Ok(None))
+}
+
+/// The Debug text of the reply that is taken, if it is there.
+fn taken_text(rt: &impl Test, parser: &mut Parser) -> String {
+    debug_text(rt, &parser.take_value().expect(rt, "no refusal"))
 }
