@@ -1,4 +1,5 @@
 use Rattle.std.proofs.Common.{◌≡◌, ◌+◌, ◌-◌, ◌∷◌, [], ◌++◌, length, take, drop, ap, ◌∙◌, arith, rules, length-append, length-drop}
+use Rattle.std.proofs.lemmas.Grind.{common_steps}
 use Rattle.std.specs.Prelude.{decimal, vec_len, slice_range}
 use Rattle.resp_command.proofs.LongerFrame.{grown}
 use Rattle.resp_command.proofs.framing.extend_frame.Goals as goal
@@ -21,3 +22,9 @@ returns-clause-items c =
       m,
     ))) in
     rw (← m) (rw (← m) at done)
+
+pub returns-in_err-extend_from_slice-clause-items : goal.returns-in_err-extend_from_slice-clause-items
+returns-in_err-extend_from_slice-clause-items c = grind (arith, common_steps)
+
+pub returns-in_err-extend_from_slice-2-clause-items : goal.returns-in_err-extend_from_slice-2-clause-items
+returns-in_err-extend_from_slice-2-clause-items c = grind (arith, common_steps)

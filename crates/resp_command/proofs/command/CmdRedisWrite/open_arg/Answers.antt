@@ -1,4 +1,4 @@
-use Rattle.std.proofs.Common.{◌++◌, ◌∷◌, [], ◌∙◌, ap, sym, subst}
+use Rattle.std.proofs.Common.{◌++◌, ◌∷◌, [], ◌∙◌, ap, sym, subst, rules}
 use Rattle.resp_args.specs.Args.{Args}
 use Rattle.resp_command.specs.Pieces.{Keeps, sent_args}
 use Rattle.resp_command.proofs.PiecesAgree.{keeps_appended, sent-appended}
@@ -14,3 +14,9 @@ returns-clause-ok c =
     let inside = c.self.inside in
     ap (λ (args : Args). sent_args inside.cursor inside.cursors.items args) c.in_ok-push.ensures
     ∙ sent-appended inside.cursor inside.cursors.items inside.encoded_args ([] ∷ []) c.self.invariant.are_interleaved ∙ ap (λ d. d.args ++ [] ∷ []) c.self.view_is
+
+pub returns-in_err-push-clause-rest : goal.returns-in_err-push-clause-rest
+returns-in_err-push-clause-rest c = search rules
+
+pub returns-clause-rest : goal.returns-clause-rest
+returns-clause-rest c = search rules
