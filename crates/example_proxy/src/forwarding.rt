@@ -19,11 +19,11 @@ pub fn forward(upstream: &mut dyn ConnectionLike, request: &[u8]) -> Reply
     upstream.req_packed_command(request)
 }
 
-/// Sends the bytes of a client's command on as they are, and appends what the client is sent for the
-/// reply, in its version of the protocol, whichever the server speaks.
+/// Sends the bytes of a client's command on as they are, and appends what the client is sent for
+/// the reply, in its version of the protocol, whichever the server speaks.
 ///
-/// Fails as the connection does, and where a reply has no bytes in that version, as an error with CR
-/// LF in it in RESP2; nothing is appended then.
+/// Fails as the connection does, and where a reply has no bytes in that version, as an error with
+/// CR LF in it in RESP2; nothing is appended then.
 pub fn relay(
     upstream: &mut dyn ConnectionLike,
     request: &[u8],

@@ -65,11 +65,14 @@ abbrev pub is_none : {A : Type 0} → Option A → Bool
 is_none None = true
 is_none (Some x) = false
 
--- a code holds no space, and one of an extension is no known one
+-- the code holds no space, and is no known one
+abbrev pub is_new_code : List ℕ → Bool
+is_new_code code = (position_or_len is_space code == length code) && is_none (kind_of_code code)
+
+-- the code is the one of an error that is read by it
 abbrev pub is_own_code : Error → Bool
 is_own_code (Known kind detail) = true
-is_own_code (Extension code detail) =
-    (position_or_len is_space code == length code) && is_none (kind_of_code code)
+is_own_code (Extension code detail) = is_new_code code
 
 -- a line, or where CR LF stands in the text a body
 abbrev pub error_text : List ℕ → Option (List ℕ)
@@ -84,10 +87,14 @@ abbrev pub is_unknown : VerbatimFormat → Bool
 is_unknown (format.Unknown name) = true
 is_unknown _ = false
 
--- the format is the one that its name names, and that name holds no colon
-abbrev pub is_own_format : VerbatimFormat → Bool
-is_own_format (format.Unknown name) =
+-- the name holds no colon, and is no known format's
+abbrev pub is_new_format : List ℕ → Bool
+is_new_format name =
     (position_or_len is_colon name == length name) && is_unknown (format_named name)
+
+-- the format is the one that its name names
+abbrev pub is_own_format : VerbatimFormat → Bool
+is_own_format (format.Unknown name) = is_new_format name
 is_own_format _ = true
 
 -- a format, a colon and a text

@@ -3,7 +3,8 @@
 ghost use Rattle.std.specs.Prelude.{◌≡◌, ◌∷◌, ◌++◌, ◌&&◌, not, codes, Some, IfOk, string_bytes};
 ghost use Rattle.std.specs.Str.{bytes_eq};
 ghost use Rattle.resp_errors.specs.ServerErrors.{text_of};
-ghost use Rattle.resp_encode.specs.Encoding.{given, is_line, error_text, error_of, verbatim_of, body_of};
+ghost use Rattle.resp_encode.specs.Encoding.{given, is_line, error_text, error_of};
+ghost use Rattle.resp_encode.specs.Encoding.{verbatim_of, body_of};
 ghost use Rattle.resp_parse.specs.declared.type_byte.TypeByte.TheVariants as type_byte;
 ghost use Rattle.resp_parse.specs.Double.{is_double};
 ghost use Rattle.resp_parse.specs.Lines.{crlf};

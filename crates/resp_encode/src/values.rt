@@ -1,12 +1,9 @@
 //! The bytes of values, as a server sends them.
 
-ghost use Rattle.std.specs.Prelude.{◌≡◌, ◌∷◌, ◌++◌, ◌*◌, [], suc, length, Some, OnOk, OnErr, IfErr};
+ghost use Rattle.std.specs.Prelude.{◌≡◌, ◌∷◌, ◌*◌, suc, length, Some, OnOk, OnErr, IfErr};
 ghost use Rattle.std.specs.Fmt.{◌++?◌};
-ghost use Rattle.resp_value.specs.declared.value.Value.{Value, out-Value, BulkString};
-ghost use Rattle.resp_value.specs.Names.{name_of_push_kind};
+ghost use Rattle.resp_value.specs.declared.value.Value.{out-Value, BulkString};
 ghost use Rattle.resp_args.specs.declared.options.ProtocolVersion.TheVariants as version;
-ghost use Rattle.resp_parse.specs.declared.type_byte.TypeByte.TheVariants as type_byte;
-ghost use Rattle.resp_parse.specs.TypeBytes.{byte_of};
 ghost use Rattle.resp_parse.specs.Limits.{usual};
 ghost use Rattle.resp_encode.specs.Resp2.{flat};
 ghost use Rattle.resp_encode.specs.Encoding.{joined, spelling, push_of};
@@ -27,8 +24,8 @@ use resp_value::{PushKind, Value};
 
 /// Appends the bytes that a server sends for a value, up to 100 levels of values inside values.
 ///
-/// In RESP3 these are the value's own: a [`Parser`](resp_parse::Parser) reads them as the value, and
-/// as nothing else ([`law_of_encoding`](crate::laws::law_of_encoding)). In RESP2 they are those of
+/// In RESP3 these are the value's own: a [`Parser`](resp_parse::Parser) reads them as the value,
+/// and as nothing else ([`law_of_encoding`](crate::laws::law_of_encoding)). In RESP2 they are those of
 /// the value's form in the types of RESP2, [`as_resp2`](crate::as_resp2), and are read as that
 /// ([`law_of_resp2_encoding`](crate::laws::law_of_resp2_encoding)); the form isn't made.
 ///
@@ -90,7 +87,8 @@ fn write_value(
     protocol: ProtocolVersion,
     depth: usize,
 ) -> Result<(), WriteError>
-    ensures { AppendsText result (encoding_in protocol depth value.now) out.old.items out.new.items }
+    ensures { AppendsText result (encoding_in protocol depth value.now)
+        out.old.items out.new.items }
 {
     if depth == 0 {
         return Err(WriteError::NoSpelling);
@@ -136,7 +134,8 @@ fn write_resp3(out: &mut Vec<u8>, value: &Value, depth: usize) -> Result<(), Wri
 /// Appends a value in RESP2, whose elements have so many levels.
 #[cycle(write)]
 fn write_resp2(out: &mut Vec<u8>, value: &Value, depth: usize) -> Result<(), WriteError>
-    ensures { AppendsText result (resp2_spelling (encoding_in version.RESP2 depth) (out-Value value.now))
+    ensures { AppendsText result
+        (resp2_spelling (encoding_in version.RESP2 depth) (out-Value value.now))
         out.old.items out.new.items }
 {
     let protocol = ProtocolVersion::RESP2;
