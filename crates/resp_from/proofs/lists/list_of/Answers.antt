@@ -1,4 +1,4 @@
-use Rattle.std.proofs.Common.{subst, ap, ◌∙◌}
+use Rattle.std.proofs.Common.{subst, ap, ◌∙◌, rules}
 use Rattle.resp_value.specs.declared.value.Value.{out-Value}
 use Rattle.resp_value.specs.declared.value.Value.TheOpen.{Value-F}
 use Rattle.resp_from.specs.Conversion.{ConvertsList}
@@ -21,3 +21,6 @@ returns-in-Set g c =
       converts = OfVec-layer g.T.FromRedisValue.WIDTH g.T.FromRedisValue.BYTES g.T.FromRedisValue.of_value c.args.value (Value-F.Set items) c.from_redis_values-in-Set.result (ap out-Value c.in-Set.is ∙ out-Set items)
           (subst (λ vs. ConvertsList (OfList g.T.FromRedisValue.WIDTH g.T.FromRedisValue.of_value vs) c.from_redis_values-in-Set.result) c.into_vec-in-Set.ensures c.from_redis_values-in-Set.ensures.converts);
     }
+
+pub returns-in-Nil : goal.returns-in-Nil
+returns-in-Nil g c = search rules
