@@ -4,9 +4,11 @@ use crate::heap::{made, ran_out, refuse};
 use resp_core::{ProtocolVersion, as_resp2, encode, encode_within, parse_redis_value};
 
 /// Of types that take memory while they are written, and of others.
-const REPLY: &[u8] = b"*5\r\n-MINE x y\r\n=6\r\nown:xy\r\n>2\r\n$4\r\nmine\r\n:1\r\n%1\r\n+a\r\n,1.5\r\n$-1\r\n";
+const REPLY: &[u8] =
+    b"*5\r\n-MINE x y\r\n=6\r\nown:xy\r\n>2\r\n$4\r\nmine\r\n:1\r\n%1\r\n+a\r\n,1.5\r\n$-1\r\n";
 
-const IN_RESP3: &[u8] = b":1*5\r\n-MINE x y\r\n=6\r\nown:xy\r\n>2\r\n$4\r\nmine\r\n:1\r\n%1\r\n+a\r\n,1.5\r\n_\r\n";
+const IN_RESP3: &[u8] =
+    b":1*5\r\n-MINE x y\r\n=6\r\nown:xy\r\n>2\r\n$4\r\nmine\r\n:1\r\n%1\r\n+a\r\n,1.5\r\n_\r\n";
 
 const IN_RESP2: &[u8] =
     b":1*5\r\n-MINE x y\r\n$2\r\nxy\r\n*2\r\n$4\r\nmine\r\n:1\r\n*2\r\n+a\r\n$3\r\n1.5\r\n$-1\r\n";
