@@ -1,7 +1,9 @@
 //! Values that are written: all bytes of one, or none and memory runs out.
 
-use crate::heap::{made, ran_out, refuse};
-use resp_core::{ProtocolVersion, as_resp2, encode, encode_within, parse_redis_value};
+use crate::heap::{Test, made, ran_out, refuse};
+use resp_core::{
+    ProtocolVersion, RedisResult, Value, as_resp2, encode, encode_within, parse_redis_value,
+};
 
 /// Of types that take memory while they are written, and of others.
 const REPLY: &[u8] =
@@ -13,34 +15,42 @@ const IN_RESP3: &[u8] =
 const IN_RESP2: &[u8] =
     b":1*5\r\n-MINE x y\r\n$2\r\nxy\r\n*2\r\n$4\r\nmine\r\n:1\r\n*2\r\n+a\r\n$3\r\n1.5\r\n$-1\r\n";
 
-/// `:1` and the value, or `:1` alone where memory runs out.
-macro_rules! appends {
-    ($rt:expr; $call:path, $protocol:expr $(, $depth:expr)? => $wanted:expr) => {
-        let value = parse_redis_value($rt.alloc(), REPLY).expect(&$rt, "no refusal");
-        let mut out = Vec::from_slice($rt.alloc(), b":1").expect(&$rt, "no refusal");
-        refuse($rt.alloc());
-        let answer = $call(&value, $protocol, $($depth,)? &mut out);
-        if ran_out(&$rt, &answer) {
-            assert_eq!(&$rt; out.as_slice(), b":1".as_slice());
-        } else {
-            assert_eq!(&$rt; out.as_slice(), $wanted);
-        }
-    };
+fn reply(rt: &impl Test, bytes: &[u8]) -> Value {
+    parse_redis_value(rt.alloc(), bytes).expect(rt, "no refusal")
+}
+
+/// The bytes to which a value is appended.
+fn before(rt: &impl Test) -> Vec<u8> {
+    Vec::from_slice(rt.alloc(), b":1").expect(rt, "no refusal")
+}
+
+/// The value was appended; or memory ran out, and the bytes are as they were.
+fn assert_appended(rt: &impl Test, answer: &RedisResult<()>, out: &[u8], wanted: &[u8]) {
+    let wanted = if ran_out(rt, answer) { b":1" } else { wanted };
+    assert_eq!(rt; out, wanted);
 }
 
 #[test]
 fn values_in_resp3(rt: HostRuntime) {
-    appends! { rt; encode, ProtocolVersion::RESP3 => IN_RESP3 }
+    let value = reply(&rt, REPLY);
+    let mut out = before(&rt);
+    refuse(rt.alloc());
+    let answer = encode(&value, ProtocolVersion::RESP3, &mut out);
+    assert_appended(&rt, &answer, out.as_slice(), IN_RESP3);
 }
 
 #[test]
 fn values_in_resp2(rt: HostRuntime) {
-    appends! { rt; encode_within, ProtocolVersion::RESP2, 3 => IN_RESP2 }
+    let value = reply(&rt, REPLY);
+    let mut out = before(&rt);
+    refuse(rt.alloc());
+    let answer = encode_within(&value, ProtocolVersion::RESP2, 3, &mut out);
+    assert_appended(&rt, &answer, out.as_slice(), IN_RESP2);
 }
 
 #[test]
 fn forms(rt: HostRuntime) {
-    let value = parse_redis_value(rt.alloc(), REPLY).expect(&rt, "no refusal");
-    let wanted = parse_redis_value(rt.alloc(), &IN_RESP2[2..]).expect(&rt, "no refusal");
+    let value = reply(&rt, REPLY);
+    let wanted = reply(&rt, &IN_RESP2[2..]);
     makes! { rt; as_resp2(rt.alloc(), &value) => wanted }
 }
