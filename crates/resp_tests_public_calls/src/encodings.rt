@@ -9,7 +9,7 @@ use resp_testing::{answer_text, bytes_text};
 
 const REFUSED: &str = "the value has no encoding - Client :1";
 
-/// What is answered where a value of up to so many levels is appended to `:1`, and what stands then.
+/// What is answered where a value of so many levels is appended to `:1`, and what stands then.
 fn appended(rt: &impl Test, value: &Value, protocol: ProtocolVersion, depth: usize) -> String {
     let alloc = rt.alloc();
     let mut out = Vec::from_slice(alloc, b":1").expect(rt, "memory");

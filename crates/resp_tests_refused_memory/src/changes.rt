@@ -43,8 +43,8 @@ fn applies<C: Change>(rt: &impl Test, change: C, object: &mut C::Object, before:
     }
 }
 
-/// The call makes of the object what it makes with ample memory; or memory runs out, the object still
-/// shows as before, and the call then makes that.
+/// The call makes of the object what it makes with ample memory; or memory runs out, the object
+/// still shows as before, and the call then makes that.
 fn changes_one<C: Change>(rt: &impl Test, change: C, size: usize) {
     let (before, after) = before_and_after(rt, change, size);
     let mut object = C::Object::of_size(rt, size);

@@ -42,8 +42,8 @@ fn stands(rt: &impl Test, mut con: Link, request: usize) {
     equal(rt, sent(con).len(), wanted);
 }
 
-/// The call over the link, whose request has so many bytes, answered what shows like this, or memory
-/// ran out in it; the link stands as it should.
+/// The call over the link, whose request has so many bytes, answered what shows like this, or
+/// memory ran out in it; the link stands as it should.
 pub fn answered<T: Debug + Drop>(
     rt: &impl Test,
     (con, request): (Link, usize),
