@@ -21,10 +21,6 @@ pub no_level : (p : ProtocolVersion) (d : ℕ) (v : Value) (a : List ℕ) → d 
 no_level RESP2 d v a e = appends_refused (encoding_in RESP2 d v) a (ap (λ k. encoding_in RESP2 k v) e)
 no_level RESP3 d v a e = appends_refused (encoding_in RESP3 d v) a (ap (λ k. encoding_in RESP3 k v) e)
 
-pub resp2_level : (r : Result (Unit {0}) WriteError) (d : ℕ) (v : Value) (a b : List ℕ) → 0 < d → AppendsText r (resp2_spelling (encoding_in RESP2 (d - 1)) (out-Value v)) a b → AppendsText r (encoding_in RESP2 d v) a b
-resp2_level r zero v a b l h = absurd (omega arith)
-resp2_level r (suc d) v a b l h = let e : suc d - 1 ≡ d = omega arith in subst (λ k. AppendsText r (resp2_spelling (encoding_in RESP2 k) (out-Value v)) a b) e h
-
 pub resp3_level : (r : Result (Unit {0}) WriteError) (d : ℕ) (v : Value) (a b : List ℕ) → 0 < d → AppendsText r (spelling (encoding_in RESP3 (d - 1)) (out-Value v)) a b → AppendsText r (encoding_in RESP3 d v) a b
 resp3_level r zero v a b l h = absurd (omega arith)
 resp3_level r (suc d) v a b l h = let e : suc d - 1 ≡ d = omega arith in subst (λ k. AppendsText r (spelling (encoding_in RESP3 k) (out-Value v)) a b) e h

@@ -10,7 +10,7 @@ use Rattle.resp_errors.specs.declared.server_error.ServerError.{ServerError as E
 use Rattle.resp_encode.specs.Resp2.{flat, resp2_step, resp2_of, is_resp2_step, is_resp2, IsResp2}
 
 -- the RESP2 form of a layer, and whether its type is one of RESP2's
-abbrev form : Value-F Value → Value
+abbrev pub form : Value-F Value → Value
 form x = resp2_step (map-Value Value Value resp2_of x)
 
 abbrev is_typed : Value-F Value → Bool
@@ -53,7 +53,7 @@ typed_value p = p.0
 abbrev typed_pair : Typed × Typed → Value × Value
 typed_pair p = (p.0.0, p.1.0)
 
-abbrev pair_form : Value × Value → Value × Value
+abbrev pub pair_form : Value × Value → Value × Value
 pair_form p = (resp2_of p.0, resp2_of p.1)
 
 typed-elements : (ps : List Typed) → list_all (λ b. b) (map is_resp2 (map resp2_of (map typed_value ps))) ≡ true

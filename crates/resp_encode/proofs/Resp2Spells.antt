@@ -3,7 +3,7 @@ use Rattle.std.proofs.Common.{◌≡◌, ℕ, zero, suc, ◌*◌, ◌^◌, Bool,
 use Rattle.std.proofs.lemmas.Fmt.{decimal_digit}
 use Rattle.std.proofs.lemmas.List.{length-map}
 use Rattle.std.specs.Fmt.{◌++?◌, decimal}
-use Rattle.resp_value.specs.declared.value.Value.{Value, Nil, Okay, Int, BulkString, Array, ServerError, out-Value, roll-out-Value, map-Value, fold-roll-Value}
+use Rattle.resp_value.specs.declared.value.Value.{Value, Nil, Okay, Int, BulkString, Array, ServerError, out-Value, roll-out-Value, fold-roll-Value}
 use Rattle.resp_value.specs.declared.value.Value.TheOpen.{Value-F}
 use Rattle.resp_value.specs.declared.value.Value.TheVariants.{rolls-BulkString}
 use Rattle.resp_value.specs.Names.{name_of_push_kind}
@@ -19,14 +19,8 @@ use Rattle.resp_encode.specs.Resp2.{flat, resp2_step, resp2_of}
 use Rattle.resp_encode.specs.Encoding.{given, is_line, line, length_line, joined, aggregate, is_own_code}
 use Rattle.resp_encode.specs.Resp2Encoding.{resp2_error_of, resp2_spelling, resp2_encoding, is_resp2_byte, is_resp2_start}
 use Rattle.resp_encode.proofs.OwnNames.{error-read}
+use Rattle.resp_encode.proofs.Resp2Forms.{form, pair_form}
 use Rattle.resp_encode.proofs.EncodedSpells.{given-parts, halves, kept, integer-signed, graphic-spells, text-spells, int-spells, simple-spells, bulk-spells, joined-spells, array-spells, length-flat}
-
--- the form of a layer whose elements are in their form
-abbrev form : Value-F Value → Value
-form x = resp2_step (map-Value Value Value resp2_of x)
-
-abbrev pair_form : Value × Value → Value × Value
-pair_form p = (resp2_of p.0, resp2_of p.1)
 
 flat-forms : (ps : List (Value × Value)) → map resp2_of (flat ps) ≡ flat (map pair_form ps)
 flat-forms [] = refl
