@@ -5,7 +5,7 @@ pub use Rattle.resp_command.specs.CommandQuery.{CommandQuery}
 pub use Rattle.resp_command.specs.Connection.{Connection, Exchange, incoming, unobservable}
 pub use Rattle.resp_command.specs.Cursors.{HoldsCursor, with_cursor, with_cursor_arg}
 pub use Rattle.resp_command.specs.Cursors.{with_extended_arg}
-pub use Rattle.resp_command.specs.Packed.{packed}
+pub use Rattle.resp_command.specs.Packed.{as_value, packed}
 pub use Rattle.resp_command.specs.ScanLaw.{Calls, LawOfScans, WholeScan}
 pub use Rattle.resp_command.specs.ScanReplies.{Given, Gives, GivesFirst, IsBatch, IsPage, IsFirstPage}
 pub use Rattle.resp_command.specs.ScanReplies.{ReadsPage}
@@ -17,5 +17,10 @@ pub use Rattle.resp_command.specs.ShownArgs.{args_left, referent, shown_args}
 pub use Rattle.resp_command.specs.Taken.{Taken, Taking, TakesOneThing}
 pub use Rattle.resp_link.specs.Linking.{connection_of}
 pub use Rattle.resp_link.specs.Receiving.{Inflow, inflow_of, unread}
-pub use Rattle.resp_link.specs.Sink.{Sink, sink_of}
+pub use Rattle.resp_link.specs.Sink.{SendsAll, Sink, sink_of}
 pub use Rattle.resp_retry.specs.Retried.{Retried, TriedAgain}
+pub use Rattle.resp_server.specs.ArgIters.{owned_args_left, request_args_left}
+pub use Rattle.resp_server.specs.RequestLaw.{LawOfReading}
+pub use Rattle.resp_server.specs.Requests.{after_name, is_request, name_of}
+pub use Rattle.resp_server.specs.Sending.{SendsValue}
+pub use Rattle.resp_server.specs.Taking.{TakesRequest, no_request}

@@ -12,4 +12,5 @@ pub use resp_parse::laws::{
     law_of_completion, law_of_levels, law_of_limits, law_of_prefixes, law_of_sizes,
 };
 pub use resp_pipeline::laws::law_of_pipelines;
+pub use resp_server::laws::law_of_reading;
 pub use resp_value::{ExactClone, StructuralEq, law_of_clones, law_of_equal_values};

@@ -7,5 +7,5 @@ mod sink;
 mod writer_sink;
 
 pub use link::ByteLink;
-pub use sink::CommandSink;
+pub use sink::{CommandSink, send_all};
 pub use writer_sink::Writing;

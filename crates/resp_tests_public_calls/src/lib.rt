@@ -31,6 +31,8 @@ mod pipelines;
 #[cfg(test)]
 mod replies;
 #[cfg(test)]
+mod requests;
+#[cfg(test)]
 mod values;
 #[cfg(test)]
 mod writing;

@@ -1,0 +1,3 @@
+pub mod PassedOn
+pub mod Sent
+pub mod Words
