@@ -1,9 +1,11 @@
 #!/bin/sh
 # Has a redis-server write an append-only file, and checks it whole, cut short and with a byte turned,
-# each beside redis-check-aof. Debian has the package redis-server, which brings both. `rt run`
-# builds the program before this.
-program=$(cd "$(dirname "$0")" && pwd)/out/example_aof
+# each beside redis-check-aof. Debian has the package redis-server, which brings both. The program is
+# proved and built first where `rt run` hasn't yet left it in out/.
+cd "$(dirname "$0")" || exit 1
+program=$PWD/out/example_aof
 port=${1:-7378}
+[ -x "$program" ] || rt run > /dev/null
 work=$(mktemp -d)
 trap 'rm -r "$work"' EXIT
 redis-server --port "$port" --save '' --appendonly yes --aof-use-rdb-preamble no --dir "$work" > /dev/null &

@@ -1,9 +1,12 @@
 #!/bin/sh
 # Joins the program to a redis-server, publishes two messages, and shows what it prints. Debian has
-# the packages redis-server and socat. `rt run` builds the program before this.
+# the packages redis-server and socat. The program is proved and built first where `rt run` hasn't yet
+# left it in out/.
 set -e
-program=$(cd "$(dirname "$0")" && pwd)/out/example_subscriber
+cd "$(dirname "$0")"
+program=$PWD/out/example_subscriber
 port=${1:-7377}
+[ -x "$program" ] || rt run < stdin > /dev/null
 work=$(mktemp -d)
 redis-server --port "$port" --save '' --appendonly no --dir "$work" > /dev/null &
 server=$!
