@@ -1,4 +1,4 @@
-//! `resp_bench`: how fast replies are parsed and commands are packed.
+//! `resp_bench`: how fast replies are parsed, commands are packed and values are encoded.
 //!
 //! `resp_bench parse FILE PIECE ROUNDS` feeds the bytes of a file to a parser, PIECE bytes at a
 //! time (0: 16,384), takes each value and drops it. `resp_bench pack WHAT COUNT ROUNDS` packs
@@ -6,21 +6,29 @@
 //! packed alone into a buffer at hand; `big`, one of an argument of 1 MiB, built and packed;
 //! `big-only`, the same, packed alone; `pipe`, a pipeline of 1,000 of the first.
 //!
-//! `resp_bench hold FILE PIECE LIMIT` feeds them to a parser of values of at most LIMIT bytes and
+//! `resp_bench encode WHAT COUNT ROUNDS` encodes a value COUNT times, each into a new buffer:
+//! `set`, the array of three bulk strings that is spelled as the command `set` is packed; `reply`,
+//! an array of 100 bulk strings of 20 bytes. `set-kept` and `reply-kept` encode them into one
+//! buffer, which is cleared each time.
+//!
+//! `resp_bench hold FILE PIECE LIMIT` feeds a file to a parser of values of at most LIMIT bytes and
 //! 1,000 levels, until it refuses, and prints why: what memory that takes shows from outside.
 //!
-//! Each of the others does one round untimed and then ROUNDS timed ones, and prints how many replies or
-//! commands a round reads or packs, how many bytes those are, and the nanoseconds of CPU time
-//! of the best timed round, 0 if there is none. The exit status is 1 for wrong words, and 2
+//! Each of the others does one round untimed and then ROUNDS timed ones, and prints how many
+//! replies, commands or values a round has, how many bytes those are, and the nanoseconds of CPU
+//! time of the best timed round, 0 if there is none. The exit status is 1 for wrong words, and 2
 //! where the file can't be read or a call is refused.
 #![tactic(auto)]
 
+mod encoding;
 mod packing;
 mod parsing;
 
+use encoding::{Encoding, encode_round};
 use packing::{Load, Packing, pack_round};
 use parsing::parse_round;
 use resp_core::{Limits, RedisError, RedisResult};
+use std::alloc::Global;
 use std::process::ExitCode;
 use std::time::CpuClock;
 use std::{env, fs, io};
@@ -28,7 +36,7 @@ use std::{env, fs, io};
 /// What one round did.
 #[derive(Clone, Copy, Debug)]
 pub struct Round {
-    /// Replies or commands.
+    /// Replies, commands or values.
     pub units: u64,
     /// The bytes that spell them.
     pub bytes: u64,
@@ -51,6 +59,7 @@ fn run(rt: &HostRuntime) -> u8 {
                 "parse" => parse(rt, what.as_str(), size, rounds),
                 "hold" => hold(rt, what.as_str(), size, rounds as usize),
                 "pack" => pack(rt, what.as_str(), size, rounds),
+                "encode" => encode(rt, what.as_str(), size, rounds),
                 _ => 1,
             }
         }
@@ -67,26 +76,62 @@ fn words(rt: &HostRuntime) -> io::Result<Vec<String>> {
     Ok(words)
 }
 
-fn parse(rt: &HostRuntime, file: &str, piece: usize, rounds: u64) -> u8 {
-    match fs::read(rt, file) {
-        Ok(bytes) => parse_rounds(rt, bytes.as_slice(), piece, rounds),
-        Err(_) => 2,
+/// What a round does.
+#[derive(Clone, Copy)]
+enum Work<'a> {
+    Parse {
+        bytes: &'a [u8],
+        piece: usize,
+    },
+    Pack {
+        packing: Packing,
+        load: &'a Load,
+        count: usize,
+    },
+    Encode {
+        encoding: &'a Encoding,
+        count: usize,
+    },
+}
+
+impl Work<'_> {
+    fn round(&self, alloc: Global) -> RedisResult<Round> {
+        match self {
+            Work::Parse { bytes, piece } => parse_round(alloc, Limits::default(), bytes, *piece),
+            Work::Pack {
+                packing,
+                load,
+                count,
+            } => pack_round(alloc, *packing, load, *count),
+            Work::Encode { encoding, count } => encode_round(alloc, encoding, *count),
+        }
     }
 }
 
-fn parse_rounds(rt: &HostRuntime, bytes: &[u8], piece: usize, rounds: u64) -> u8 {
-    let Ok(round) = parse_round(rt.alloc(), Limits::default(), bytes, piece) else {
+/// Does one round untimed and then the timed ones, and prints what a round did and the best time.
+fn time(rt: &HostRuntime, work: &Work<'_>, rounds: u64) -> u8 {
+    let Ok(round) = work.round(rt.alloc()) else {
         return 2;
     };
     let mut best = None;
     for _ in 0..rounds {
         let start = now(rt);
-        let Ok(_) = parse_round(rt.alloc(), Limits::default(), bytes, piece) else {
+        let Ok(_) = work.round(rt.alloc()) else {
             return 2;
         };
         best = quicker(best, now(rt).saturating_sub(start));
     }
     print(rt, round, best)
+}
+
+fn parse(rt: &HostRuntime, file: &str, piece: usize, rounds: u64) -> u8 {
+    match fs::read(rt, file) {
+        Ok(bytes) => {
+            let bytes = bytes.as_slice();
+            time(rt, &Work::Parse { bytes, piece }, rounds)
+        }
+        Err(_) => 2,
+    }
 }
 
 fn hold(rt: &HostRuntime, file: &str, piece: usize, limit: usize) -> u8 {
@@ -123,24 +168,30 @@ fn pack(rt: &HostRuntime, what: &str, count: usize, rounds: u64) -> u8 {
         return 1;
     };
     match packing.load(rt.alloc()) {
-        Ok(load) => pack_rounds(rt, packing, &load, count, rounds),
+        Ok(load) => {
+            let work = Work::Pack {
+                packing,
+                load: &load,
+                count,
+            };
+            time(rt, &work, rounds)
+        }
         Err(_) => 2,
     }
 }
 
-fn pack_rounds(rt: &HostRuntime, packing: Packing, load: &Load, count: usize, rounds: u64) -> u8 {
-    let Ok(round) = pack_round(rt.alloc(), packing, load, count) else {
-        return 2;
-    };
-    let mut best = None;
-    for _ in 0..rounds {
-        let start = now(rt);
-        let Ok(_) = pack_round(rt.alloc(), packing, load, count) else {
-            return 2;
-        };
-        best = quicker(best, now(rt).saturating_sub(start));
+fn encode(rt: &HostRuntime, what: &str, count: usize, rounds: u64) -> u8 {
+    match Encoding::named(rt.alloc(), what) {
+        Ok(Some(encoding)) => {
+            let work = Work::Encode {
+                encoding: &encoding,
+                count,
+            };
+            time(rt, &work, rounds)
+        }
+        Ok(None) => 1,
+        Err(_) => 2,
     }
-    print(rt, round, best)
 }
 
 /// The less of two times, of which the first may be missing.

@@ -98,7 +98,7 @@ pub fn pack_round(
 }
 
 #[inline(never)]
-fn set_command(alloc: Global) -> RedisResult<Cmd> {
+pub fn set_command(alloc: Global) -> RedisResult<Cmd> {
     let mut command = cmd(alloc, "SET")?;
     command.push_arg(KEY)?;
     command.push_arg(VALUE)?;
