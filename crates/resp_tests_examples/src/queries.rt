@@ -2,10 +2,11 @@
 //! cluster. The errors are those of the Redis cluster specification.
 
 use example_arguments::{fields_of, rename, set_fields};
-use example_proxy::{forward, relay};
+use example_proxy::{forward, hand_on_pushes, relay};
 use example_redirect::query_redirected;
-use resp_core::{ProtocolVersion, Value};
+use resp_core::{ByteLink, ConnectionLike, ErrorKind, ProtocolVersion, Reading, Value, Writing};
 use resp_testing::{MemoryLink, answer_text, command, debug_text, link_over, sent_text};
+use std::io::Cursor;
 use std::process::Abort;
 
 /// A link on which these bytes come in.
@@ -84,6 +85,73 @@ fn a_proxy_between_two_versions(rt: HostRuntime) {
         replies.as_slice(),
         b"*2\r\n+a\r\n:1\r\n*1\r\n_\r\n".as_slice()
     );
+}
+
+/// What a client of this version is sent for two requests and the pushes around their replies.
+fn client_is_sent(
+    rt: &(impl Abort + AllocGlobal),
+    incoming: &str,
+    protocol: ProtocolVersion,
+) -> Vec<u8> {
+    let mut upstream = link(rt, incoming);
+    let mut replies = Vec::new(rt.alloc());
+    for _ in 0..2 {
+        relay(&mut upstream, GET.as_bytes(), protocol, &mut replies).expect(rt, "a reply");
+        hand_on_pushes(&mut upstream, protocol, &mut replies).expect(rt, "memory");
+        assert!(rt; upstream.pushes().is_empty());
+    }
+    replies
+}
+
+#[test]
+fn a_proxy_hands_pushes_on(rt: HostRuntime) {
+    let of_resp3 = "$1\r\na\r\n>2\r\n$10\r\ninvalidate\r\n*1\r\n$1\r\nx\r\n\
+        >3\r\n$7\r\nmessage\r\n$4\r\nnews\r\n_\r\n%1\r\n+a\r\n#t\r\n";
+    let of_resp2 = "$-1\r\n*2\r\n:1\r\n*-1\r\n";
+    for (incoming, protocol, wanted) in [
+        (
+            of_resp3,
+            ProtocolVersion::RESP3,
+            "$1\r\na\r\n%1\r\n+a\r\n#t\r\n>2\r\n$10\r\ninvalidate\r\n*1\r\n$1\r\nx\r\n\
+            >3\r\n$7\r\nmessage\r\n$4\r\nnews\r\n_\r\n",
+        ),
+        (
+            of_resp3,
+            ProtocolVersion::RESP2,
+            "$1\r\na\r\n*2\r\n+a\r\n:1\r\n",
+        ),
+        (of_resp2, ProtocolVersion::RESP3, "_\r\n*2\r\n:1\r\n_\r\n"),
+    ] {
+        let sent = client_is_sent(&rt, incoming, protocol);
+        assert_eq!(&rt; sent.as_slice(), wanted.as_bytes());
+    }
+}
+
+#[test]
+fn a_push_without_bytes_is_lost(rt: HostRuntime) {
+    let mut incoming = Vec::new(rt.alloc());
+    incoming
+        .extend_from_slice(b">2\r\n+invalidate\r\n:1\r\n>2\r\n+x\r\n")
+        .expect(&rt, "memory");
+    for _ in 0..100 {
+        incoming.extend_from_slice(b"*1\r\n").expect(&rt, "memory");
+    }
+    incoming
+        .extend_from_slice(b":1\r\n+OK\r\n")
+        .expect(&rt, "memory");
+    let source = Reading::new(Cursor::new(incoming));
+    let sink = Writing::new(Vec::new(rt.alloc()));
+    let made = ByteLink::over_with_depth_limit(rt.alloc(), source, sink, 1000);
+    let mut upstream = made.expect(&rt, "a limit");
+    let mut replies = Vec::new(rt.alloc());
+    let protocol = ProtocolVersion::RESP3;
+    relay(&mut upstream, GET.as_bytes(), protocol, &mut replies).expect(&rt, "a reply");
+    match hand_on_pushes(&mut upstream, protocol, &mut replies) {
+        Ok(()) => assert_eq!(&rt; "handed on", "refused"),
+        Err(error) => assert_eq!(&rt; error.kind(), ErrorKind::Client),
+    }
+    assert_eq!(&rt; replies.as_slice(), b"+OK\r\n".as_slice());
+    assert!(&rt; upstream.pushes().is_empty());
 }
 
 const GET: &str = "*2\r\n$3\r\nGET\r\n$1\r\nx\r\n";
