@@ -1,1 +1,4 @@
-pub mod Answers
+pub mod Connections
+pub mod Integers
+pub mod KeyCommands
+pub mod Sessions

@@ -1,68 +1,100 @@
 //! Commands.
 
-use resp_core::ProtocolVersion;
+use crate::refusal::Refusal;
+use resp_core::{Items, ProtocolVersion};
 
-/// What the words of a command ask for.
+/// What a client asks for.
+#[derive(Drop)]
+pub enum Request {
+    /// To answer a command, or to queue it in a transaction.
+    Perform(Command),
+    /// `MULTI`: to queue commands from here on.
+    Multi,
+    /// `EXEC`: to answer those that are queued.
+    Exec,
+    /// `EXEC` with arguments, which forgets those that are queued.
+    ExecWithArguments,
+    /// `DISCARD`: to forget those that are queued.
+    Discard,
+    /// `QUIT`: to answer nothing more.
+    Quit,
+    /// No command: its name or the number of its arguments is wrong, which fails a transaction.
+    Unread(Refusal),
+}
+
+/// A command that may be queued.
 #[derive(Drop)]
 pub enum Command {
-    /// `PING`
-    Ping,
-    /// `ECHO message`
-    Echo(Vec<u8>),
-    /// `HELLO version`: replies in this version from here on.
-    Hello(ProtocolVersion),
+    /// One about keys.
+    Keys(KeyCommand),
+    /// One about the connection.
+    Connection(ConnectionCommand),
+    /// One whose arguments are refused.
+    Refused(Refusal),
+}
+
+/// A command about keys.
+#[derive(Drop)]
+pub enum KeyCommand {
     /// `GET key`
     Get(Vec<u8>),
-    /// `SET key value`
-    Set(Vec<u8>, Vec<u8>),
-    /// `DEL key`
-    Del(Vec<u8>),
-    /// `EXISTS key`
-    Exists(Vec<u8>),
-    /// Anything else.
-    Unknown,
+    /// `SET key value` with its options.
+    Set(Vec<u8>, Items<u8>, SetOptions),
+    /// `DEL key..`
+    Del(Vec<Vec<u8>>),
+    /// `EXISTS key..`
+    Exists(Vec<Vec<u8>>),
+    /// `INCR key`
+    Incr(Vec<u8>),
+    /// `EXPIRE key seconds`
+    Expire(Vec<u8>),
+    /// `HSET key`, with fields and their values.
+    HSet(Vec<u8>, Vec<(Vec<u8>, Items<u8>)>),
+    /// `HGETALL key`
+    HGetAll(Vec<u8>),
 }
 
-/// The command of these words; upper and lower case are the same in its name.
-pub fn command_of(words: Vec<Vec<u8>>) -> Command {
-    let mut words = words.into_iter();
-    let Some(name) = words.next() else {
-        return Command::Unknown;
-    };
-    match (words.next(), words.next(), words.next()) {
-        (None, None, None) if is_named(&name, b"PING") => Command::Ping,
-        (Some(word), None, None) => command_of_one(&name, word),
-        (Some(key), Some(value), None) if is_named(&name, b"SET") => Command::Set(key, value),
-        _ => Command::Unknown,
-    }
+/// A command about the connection.
+#[derive(Drop)]
+pub enum ConnectionCommand {
+    /// `PING [message]`
+    Ping(Option<Items<u8>>),
+    /// `ECHO message`
+    Echo(Items<u8>),
+    /// `HELLO [version]`: replies in this version from here on.
+    Hello(Option<ProtocolVersion>),
+    /// `SELECT 0`
+    Select,
+    /// `CLIENT ID`
+    Id,
+    /// `CLIENT GETNAME`
+    GetName,
+    /// `CLIENT SETNAME name`; the empty name is none.
+    SetName(Items<u8>),
+    /// `CLIENT SETINFO`, which is forgotten.
+    SetInfo,
+    /// `COMMAND`
+    Commands,
+    /// `COMMAND DOCS`
+    Documents,
 }
 
-/// The command of this name and one word.
-fn command_of_one(name: &Vec<u8>, word: Vec<u8>) -> Command {
-    if is_named(name, b"GET") {
-        Command::Get(word)
-    } else if is_named(name, b"DEL") {
-        Command::Del(word)
-    } else if is_named(name, b"EXISTS") {
-        Command::Exists(word)
-    } else if is_named(name, b"ECHO") {
-        Command::Echo(word)
-    } else if is_named(name, b"HELLO") {
-        hello(word.as_slice())
-    } else {
-        Command::Unknown
-    }
+/// The options of `SET` but for the expiry, which is forgotten.
+#[derive(Clone, Copy)]
+pub struct SetOptions {
+    /// When the key is set.
+    pub condition: Condition,
+    /// `GET`: whether the reply is the string that the key held before.
+    pub get: bool,
 }
 
-/// `HELLO` with this version.
-fn hello(version: &[u8]) -> Command {
-    match version {
-        b"2" => Command::Hello(ProtocolVersion::RESP2),
-        b"3" => Command::Hello(ProtocolVersion::RESP3),
-        _ => Command::Unknown,
-    }
-}
-
-fn is_named(word: &Vec<u8>, name: &[u8]) -> bool {
-    word.as_slice().eq_ignore_ascii_case(name)
+/// When a key is set.
+#[derive(Clone, Copy)]
+pub enum Condition {
+    /// In any case.
+    Always,
+    /// `NX`: only if the key is not there.
+    IfAbsent,
+    /// `XX`: only if the key is there.
+    IfPresent,
 }

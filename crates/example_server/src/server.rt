@@ -1,82 +1,80 @@
 //! Serving a reader and a writer.
 
-use crate::command::{Command, command_of};
-use crate::store::{Store, answer};
-use resp_core::{
-    IoKind, Parser, ProtocolVersion, RedisError, RedisResult, Value, encode, from_redis_value,
-};
+use crate::command::Request;
+use crate::reading::request_of;
+use crate::session::{Session, answer};
+use resp_core::{IoKind, Parser, RedisError, RedisResult, Value, encode, from_redis_value};
 use std::alloc::Global;
 use std::io::{Read, Write};
 
-/// A client: what it keeps in the server, and the version in which it is answered.
-#[derive(Drop)]
-struct Session {
-    alloc: Global,
-    store: Store,
-    protocol: ProtocolVersion,
-}
-
-/// Answers the commands of a reader, until it ends.
+/// Answers the commands of a reader, until it ends or one is `QUIT`.
 pub fn serve<R: Read, W: Write>(alloc: Global, reader: &mut R, writer: &mut W) -> RedisResult<()> {
-    let mut parser = Parser::new(alloc);
-    answer_all(alloc, &mut parser, reader, writer)?;
-    if parser.in_progress() {
-        return Err(RedisError::from(IoKind::UnexpectedEof));
-    }
-    Ok(())
-}
-
-/// Feeds the parser with all that the reader gives, and answers the commands as they are whole.
-fn answer_all<R: Read, W: Write>(
-    alloc: Global,
-    parser: &mut Parser,
-    reader: &mut R,
-    writer: &mut W,
-) -> RedisResult<()> {
-    let mut session = Session::new(alloc);
+    let mut server = Server::new(alloc);
     let mut chunk = [0; 4096];
     for _ in 0..u64::MAX {
         let n = reader.read(&mut chunk[..])?;
         if n == 0 {
             break;
         }
-        parser.feed(&chunk[..n])?;
-        let replies = session.answers(parser)?;
+        server.parser.feed(&chunk[..n])?;
+        let replies = server.replies()?;
         writer.write_all(replies.as_slice())?;
         writer.flush()?;
+        if server.has_quit {
+            return Ok(());
+        }
+    }
+    if server.parser.in_progress() {
+        return Err(RedisError::from(IoKind::UnexpectedEof));
     }
     Ok(())
 }
 
-impl Session {
-    fn new(alloc: Global) -> Session {
-        Session {
+/// A server with its client.
+#[derive(Drop)]
+struct Server {
+    alloc: Global,
+    parser: Parser,
+    session: Session,
+    has_quit: bool,
+}
+
+impl Server {
+    fn new(alloc: Global) -> Server {
+        Server {
             alloc,
-            store: Store::new(alloc),
-            protocol: ProtocolVersion::RESP2,
+            parser: Parser::new(alloc),
+            session: Session::new(alloc),
+            has_quit: false,
         }
     }
 
-    /// The replies to the commands that the parser holds whole.
-    fn answers(&mut self, parser: &mut Parser) -> RedisResult<Vec<u8>> {
+    /// The replies to the commands that the parser holds whole, up to `QUIT`.
+    fn replies(&mut self) -> RedisResult<Vec<u8>> {
         let mut replies = Vec::new(self.alloc);
         for _ in 0..u64::MAX {
-            let Some(request) = parser.take_value()? else {
+            if self.has_quit {
+                break;
+            }
+            let Some(request) = self.parser.take_value()? else {
                 break;
             };
-            self.answer_one(request, &mut replies)?;
+            self.reply(request, &mut replies)?;
         }
         Ok(replies)
     }
 
     /// Appends the reply to a request.
-    fn answer_one(&mut self, request: Value, replies: &mut Vec<u8>) -> RedisResult<()> {
-        let words = from_redis_value::<Vec<Vec<u8>>>(self.alloc, request)?;
-        let command = command_of(words);
-        if let Command::Hello(version) = &command {
-            self.protocol = *version;
-        }
-        let reply = answer(self.alloc, &mut self.store, command)?;
-        encode(&reply.into_value(self.alloc)?, self.protocol, replies)
+    fn reply(&mut self, request: Value, replies: &mut Vec<u8>) -> RedisResult<()> {
+        let request = request_of(self.alloc, words_of(self.alloc, request)?)?;
+        self.has_quit = matches!(&request, Request::Quit);
+        let answer = answer(self.alloc, &mut self.session, request)?;
+        let value = answer.into_value(self.alloc)?;
+        encode(&value, self.session.state.connection.protocol, replies)
     }
+}
+
+/// The words of a request, an array of bulk strings.
+fn words_of(alloc: Global, request: Value) -> RedisResult<Vec<Vec<u8>>> {
+    Ok(from_redis_value::<Vec<Vec<u8>>>(alloc, request)?)
 }

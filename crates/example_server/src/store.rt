@@ -1,44 +1,52 @@
-//! What the server keeps.
+//! What the server keeps, and the commands about keys.
 
 ghost use Rattle.std.specs.Prelude.{◌≡◌, IfOk, OnErr};
 ghost use Rattle.std.specs.BTreeMap.{IsUnchanged};
-ghost use Rattle.std.specs.Option.{option_copied, option_map};
-ghost use Rattle.example_server.specs.Answers.{Answers};
+ghost use Rattle.example_server.specs.KeyCommands.{AnswersKeys, KeepsOnFailure};
 
-use crate::command::Command;
+use crate::command::KeyCommand;
+use crate::counting::incr;
+use crate::hashes::{hgetall, hset};
+use crate::keys::{del, exists, expire};
 use crate::reply::Reply;
+use crate::strings::{get, set};
+use resp_core::Items;
 use std::alloc::{AllocError, Global};
 use std::collections::BTreeMap;
 
-/// Values by their keys.
-pub type Store = BTreeMap<Vec<u8>, Vec<u8>>;
+/// What the keys hold.
+pub type Store = BTreeMap<Vec<u8>, Entry>;
 
-/// Answers a command. Fails only with out of memory; the store is then as it was.
-pub fn answer(alloc: Global, store: &mut Store, command: Command) -> Result<Reply, AllocError>
-    ensures answers { IfOk result (Answers store.old store.new command) }
-    ensures unchanged { OnErr result (IsUnchanged store.old store.new) }
-{
-    match command {
-        Command::Ping => Ok(Reply::Pong),
-        Command::Echo(message) => Ok(Reply::Found(Some(message))),
-        Command::Hello(version) => Ok(Reply::Greeting(version)),
-        Command::Get(key) => Ok(Reply::Found(copy_of(alloc, store.get(&key))?)),
-        Command::Set(key, value) => {
-            store.insert(key, value)?;
-            Ok(Reply::Okay)
-        }
-        Command::Del(key) => Ok(Reply::Counted(store.remove(&key).is_some())),
-        Command::Exists(key) => Ok(Reply::Counted(store.contains_key(&key))),
-        Command::Unknown => Ok(Reply::Unknown),
-    }
+/// What a key holds.
+#[derive(Drop)]
+pub enum Entry {
+    /// A string.
+    Text(Items<u8>),
+    /// A hash.
+    Hash(Fields),
 }
 
-fn copy_of(alloc: Global, value: Option<&Vec<u8>>) -> Result<Option<Vec<u8>>, AllocError>
-    ensures { IfOk result (λ copy. option_map (λ v. v.items) copy
-        ≡ option_map (λ v. v.items) (option_copied value.entry)) }
+/// Fields and their values.
+pub type Fields = BTreeMap<Vec<u8>, Items<u8>>;
+
+/// Answers a command about keys. Fails only with out of memory; the store is then as it was, but
+/// that `HSET` may have taken the hash away.
+pub fn answer_keys(
+    alloc: Global,
+    store: &mut Store,
+    command: KeyCommand,
+) -> Result<Reply, AllocError>
+    ensures answers { IfOk result (AnswersKeys store.old store.new command) }
+    ensures kept { OnErr result (KeepsOnFailure store.old store.new command) }
 {
-    match value {
-        Some(value) => Ok(Some(Vec::from_slice(alloc, value.as_slice())?)),
-        None => Ok(None),
+    match command {
+        KeyCommand::Get(key) => get(alloc, store, &key),
+        KeyCommand::Set(key, value, options) => set(alloc, store, key, value, options),
+        KeyCommand::Del(keys) => Ok(Reply::Count(del(store, keys))),
+        KeyCommand::Exists(keys) => Ok(Reply::Count(exists(store, keys.as_slice()))),
+        KeyCommand::Incr(key) => incr(alloc, store, key),
+        KeyCommand::Expire(key) => Ok(expire(store, &key)),
+        KeyCommand::HSet(key, fields) => hset(alloc, store, key, fields),
+        KeyCommand::HGetAll(key) => hgetall(alloc, store, &key),
     }
 }

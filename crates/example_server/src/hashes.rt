@@ -1,0 +1,98 @@
+//! Commands about hashes.
+
+ghost use Rattle.std.specs.Prelude.{◌≡◌, ◌-◌, IfOk, OnOk, MatchResult, map, length};
+ghost use Rattle.std.specs.BTreeMap.{IsUnchanged};
+ghost use Rattle.example_server.specs.KeyCommands.{GetsAll, SetsFields, PutsFields, KeepsOtherKeys};
+ghost use Rattle.example_server.specs.KeyCommands.{held, fields_in, with_fields, shown};
+
+use crate::refusal::Refusal;
+use crate::reply::Reply;
+use crate::store::{Entry, Fields, Store};
+use resp_core::Items;
+use std::alloc::{AllocError, Global};
+use std::collections::BTreeMap;
+
+/// `HSET`: how many of the fields are new.
+pub fn hset(
+    alloc: Global,
+    store: &mut Store,
+    key: Vec<u8>,
+    pairs: Vec<(Vec<u8>, Items<u8>)>,
+) -> Result<Reply, AllocError>
+    ensures { IfOk result (SetsFields store.old store.new key pairs.items) }
+{
+    match take_fields(alloc, store, &key) {
+        Ok(fields) => put_fields(store, key, fields, pairs),
+        Err(refusal) => Ok(Reply::Refused(refusal)),
+    }
+}
+
+/// Takes the fields out of the hash that a key holds; there are none where nothing is held.
+fn take_fields(alloc: Global, store: &mut Store, key: &Vec<u8>) -> Result<Fields, Refusal>
+    ensures { MatchResult result
+        (λ fields. (fields_in (held store.old key.now) ≡ Ok fields.entries)
+        × KeepsOtherKeys store.old store.new key.now)
+        (λ why. (fields_in (held store.old key.now) ≡ Err why)
+        × IsUnchanged store.old store.new) }
+{
+    match store.get(key) {
+        Some(Entry::Text(_)) => Err(Refusal::WrongType),
+        Some(Entry::Hash(_)) => match store.remove(key) {
+            Some(Entry::Hash(fields)) => Ok(fields),
+            Some(Entry::Text(_text)) => unreachable!(),
+            None => unreachable!(),
+        },
+        None => Ok(BTreeMap::new(alloc)),
+    }
+}
+
+/// Sets fields, and gives a key the hash that they make.
+fn put_fields(
+    store: &mut Store,
+    key: Vec<u8>,
+    fields: Fields,
+    pairs: Vec<(Vec<u8>, Items<u8>)>,
+) -> Result<Reply, AllocError>
+    ensures { IfOk result (PutsFields store.old store.new key fields.entries pairs.items) }
+{
+    let mut fields = fields;
+    let added = set_fields(&mut fields, pairs)?;
+    store.insert(key, Entry::Hash(fields))?;
+    Ok(Reply::Count(added))
+}
+
+/// Sets fields, the last value of each, and says how many are new.
+fn set_fields(fields: &mut Fields, pairs: Vec<(Vec<u8>, Items<u8>)>) -> Result<usize, AllocError>
+    ensures set { OnOk result (fields.new.entries ≡ with_fields fields.old.entries pairs.items) }
+    ensures added { IfOk result (λ added. added
+        ≡ length fields.new.entries - length fields.old.entries) }
+{
+    let before = fields.len();
+    for (field, value) in pairs {
+        fields.insert(field, value)?;
+    }
+    Ok(fields.len() - before)
+}
+
+/// `HGETALL`
+pub fn hgetall(alloc: Global, store: &Store, key: &Vec<u8>) -> Result<Reply, AllocError>
+    ensures { IfOk result (GetsAll store.now store.now key.now) }
+{
+    match store.get(key) {
+        Some(Entry::Hash(fields)) => Ok(Reply::Fields(copies(alloc, fields)?)),
+        Some(Entry::Text(_)) => Ok(Reply::Refused(Refusal::WrongType)),
+        None => Ok(Reply::Fields(Items::new(alloc))),
+    }
+}
+
+/// The fields with their values, in the order of their bytes.
+fn copies(alloc: Global, fields: &Fields) -> Result<Items<(Items<u8>, Items<u8>)>, AllocError>
+    ensures { IfOk result (λ pairs. pairs ≡ map shown fields.now.entries) }
+{
+    let mut pairs = Items::new(alloc);
+    for (field, value) in fields.iter() {
+        let field = Items::from_slice(alloc, field.as_slice())?;
+        pairs.push((field, Items::from_slice(alloc, value.as_slice())?))?;
+    }
+    Ok(pairs)
+}

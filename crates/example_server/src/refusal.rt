@@ -1,0 +1,171 @@
+//! Refusals, in the words of a server.
+
+use crate::names::CommandName;
+use resp_core::{RedisResult, ServerError, Text, Value};
+use std::alloc::{AllocError, Global};
+
+/// Why a command isn't answered.
+#[derive(Drop)]
+pub enum Refusal {
+    /// There is no command of this name; its words.
+    UnknownCommand(Vec<Vec<u8>>),
+    /// The command has no such subcommand.
+    UnknownSubcommand(CommandName, Vec<u8>),
+    /// The command takes fewer or more arguments.
+    WrongNumber(CommandName),
+    /// `HELLO` has no such option.
+    HelloOption(Vec<u8>),
+    /// `EXPIRE` has no such option.
+    ExpireOption(Vec<u8>),
+    /// A version of the protocol is no integer.
+    VersionNotInteger,
+    /// There is no such version of the protocol.
+    NoSuchVersion,
+    /// There is no such database.
+    NoSuchDatabase,
+    /// The name of a client has a byte outside `!` to `~`.
+    ClientName,
+    /// The options are none of the command's.
+    Syntax,
+    /// `SET` has a time that is in no future.
+    ExpireTime,
+    /// The key holds a value of another type.
+    WrongType,
+    /// A value or an argument is no integer.
+    NotInteger,
+    /// The next integer has more than 64 bits.
+    Overflow,
+    /// `MULTI` after `MULTI`.
+    NestedMulti,
+    /// `EXEC` without `MULTI`.
+    ExecWithoutMulti,
+    /// `DISCARD` without `MULTI`.
+    DiscardWithoutMulti,
+    /// `EXEC` with arguments.
+    ExecWithArguments,
+    /// `EXEC` where a command was not read since `MULTI`.
+    ExecAborted,
+}
+
+/// How many bytes an error repeats at most of a name, and of arguments.
+const REPEATED: usize = 128;
+
+impl Refusal {
+    /// The refusal as an error reply.
+    ///
+    /// A CR or LF in a word is a space in it, and what isn't UTF-8 is U+FFFD.
+    pub fn into_value(self, alloc: Global) -> RedisResult<Value> {
+        let mut line = self.line(alloc)?;
+        for byte in line.iter_mut() {
+            if *byte == b'\r' || *byte == b'\n' {
+                *byte = b' ';
+            }
+        }
+        let text = Text::from_utf8_lossy(alloc, line.as_slice())?;
+        Ok(Value::ServerError(ServerError::from_text(alloc, text.as_str())?))
+    }
+
+    fn line(&self, alloc: Global) -> Result<Vec<u8>, AllocError> {
+        match self {
+            Refusal::UnknownCommand(words) => unknown_command(alloc, words.as_slice()),
+            Refusal::UnknownSubcommand(name, word) => unknown_subcommand(alloc, *name, word),
+            Refusal::WrongNumber(name) => wrong_number(alloc, *name),
+            Refusal::HelloOption(word) => {
+                let mut line = Vec::from_slice(alloc, b"ERR Syntax error in HELLO option '")?;
+                line.extend_from_slice(word.as_slice())?;
+                line.push(b'\'')?;
+                Ok(line)
+            }
+            Refusal::ExpireOption(word) => {
+                let mut line = Vec::from_slice(alloc, b"ERR Unsupported option ")?;
+                line.extend_from_slice(word.as_slice())?;
+                Ok(line)
+            }
+            other => Vec::from_slice(alloc, other.fixed_text().as_bytes()),
+        }
+    }
+
+    /// The text of a refusal that repeats nothing of the command.
+    fn fixed_text(&self) -> &'static str {
+        match self {
+            Refusal::VersionNotInteger => "ERR Protocol version is not an integer or out of range",
+            Refusal::NoSuchVersion => "NOPROTO unsupported protocol version",
+            Refusal::NoSuchDatabase => "ERR DB index is out of range",
+            Refusal::ClientName => {
+                "ERR Client names cannot contain spaces, newlines or special characters."
+            }
+            Refusal::ExpireTime => "ERR invalid expire time in 'set' command",
+            Refusal::WrongType => {
+                "WRONGTYPE Operation against a key holding the wrong kind of value"
+            }
+            Refusal::NotInteger => "ERR value is not an integer or out of range",
+            Refusal::Overflow => "ERR increment or decrement would overflow",
+            Refusal::NestedMulti => "ERR MULTI calls can not be nested",
+            Refusal::ExecWithoutMulti => "ERR EXEC without MULTI",
+            Refusal::DiscardWithoutMulti => "ERR DISCARD without MULTI",
+            Refusal::ExecWithArguments => {
+                "EXECABORT Transaction discarded because of: \
+                 wrong number of arguments for 'exec' command"
+            }
+            Refusal::ExecAborted => "EXECABORT Transaction discarded because of previous errors.",
+            _ => "ERR syntax error",
+        }
+    }
+}
+
+/// A name, and as much of its arguments as fits.
+fn unknown_command(alloc: Global, words: &[Vec<u8>]) -> Result<Vec<u8>, AllocError> {
+    let mut line = Vec::from_slice(alloc, b"ERR unknown command '")?;
+    let Some((name, arguments)) = words.split_first() else {
+        return Ok(line);
+    };
+    line.extend_from_slice(front(name.as_slice(), REPEATED))?;
+    line.extend_from_slice(b"', with args beginning with: ")?;
+    line.extend_from_slice(repeated(alloc, arguments)?.as_slice())?;
+    Ok(line)
+}
+
+/// The first arguments in quotes, each with a space after it.
+fn repeated(alloc: Global, arguments: &[Vec<u8>]) -> Result<Vec<u8>, AllocError> {
+    let mut quoted = Vec::new(alloc);
+    for argument in arguments {
+        if quoted.len() < REPEATED {
+            let room = REPEATED - quoted.len();
+            quoted.push(b'\'')?;
+            quoted.extend_from_slice(front(argument.as_slice(), room))?;
+            quoted.extend_from_slice(b"' ")?;
+        }
+    }
+    Ok(quoted)
+}
+
+/// The first bytes, at most so many.
+fn front(bytes: &[u8], most: usize) -> &[u8] {
+    if bytes.len() <= most {
+        bytes
+    } else {
+        &bytes[..most]
+    }
+}
+
+fn unknown_subcommand(
+    alloc: Global,
+    name: CommandName,
+    word: &Vec<u8>,
+) -> Result<Vec<u8>, AllocError> {
+    let mut line = Vec::from_slice(alloc, b"ERR unknown subcommand '")?;
+    line.extend_from_slice(front(word.as_slice(), REPEATED))?;
+    line.extend_from_slice(b"'. Try ")?;
+    for byte in name.text().as_bytes() {
+        line.push(byte.to_ascii_uppercase())?;
+    }
+    line.extend_from_slice(b" HELP.")?;
+    Ok(line)
+}
+
+fn wrong_number(alloc: Global, name: CommandName) -> Result<Vec<u8>, AllocError> {
+    let mut line = Vec::from_slice(alloc, b"ERR wrong number of arguments for '")?;
+    line.extend_from_slice(name.text().as_bytes())?;
+    line.extend_from_slice(b"' command")?;
+    Ok(line)
+}
