@@ -1,4 +1,6 @@
 //! Requests, out of the words that a client sends.
+//!
+//! No clause says which request words make: that is tested, by the commands of `stdin`.
 
 use crate::command::{Command, ConnectionCommand, KeyCommand, Request};
 use crate::integers::integer_of;

@@ -64,9 +64,13 @@ impl Server {
         Ok(replies)
     }
 
-    /// Appends the reply to a request.
+    /// Appends the reply to a request; one of no words has none.
     fn reply(&mut self, request: Value, replies: &mut Vec<u8>) -> RedisResult<()> {
-        let request = request_of(self.alloc, words_of(self.alloc, request)?)?;
+        let words = words_of(self.alloc, request)?;
+        if words.is_empty() {
+            return Ok(());
+        }
+        let request = request_of(self.alloc, words)?;
         self.has_quit = matches!(&request, Request::Quit);
         let answer = answer(self.alloc, &mut self.session, request)?;
         let value = answer.into_value(self.alloc)?;
