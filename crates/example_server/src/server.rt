@@ -3,7 +3,7 @@
 use crate::command::Request;
 use crate::reading::request_of;
 use crate::session::{Session, answer};
-use resp_core::{IoKind, Parser, RedisError, RedisResult, Value, encode, from_redis_value};
+use resp_core::{ErrorKind, IoKind, Parser, RedisError, RedisResult, Value, encode};
 use std::alloc::Global;
 use std::io::{Read, Write};
 
@@ -65,11 +65,12 @@ impl Server {
     }
 
     /// Appends the reply to a request; one of no words has none.
-    fn reply(&mut self, request: Value, replies: &mut Vec<u8>) -> RedisResult<()> {
-        let words = words_of(self.alloc, request)?;
-        if words.is_empty() {
-            return Ok(());
-        }
+    fn reply(&mut self, value: Value, replies: &mut Vec<u8>) -> RedisResult<()> {
+        let words = match resp_core::Request::from_value(value) {
+            Ok(request) => words_of(self.alloc, request)?,
+            Err(Value::Array(words)) if words.is_empty() => return Ok(()),
+            Err(_) => return Err(not_a_request()),
+        };
         let request = request_of(self.alloc, words)?;
         self.has_quit = matches!(&request, Request::Quit);
         let answer = answer(self.alloc, &mut self.session, request)?;
@@ -78,7 +79,16 @@ impl Server {
     }
 }
 
-/// The words of a request, an array of bulk strings.
-fn words_of(alloc: Global, request: Value) -> RedisResult<Vec<Vec<u8>>> {
-    Ok(from_redis_value::<Vec<Vec<u8>>>(alloc, request)?)
+/// The words of a request, the name of a command first.
+fn words_of(alloc: Global, request: resp_core::Request) -> RedisResult<Vec<Vec<u8>>> {
+    let mut words = Vec::with_capacity(alloc, request.len())?;
+    for word in request.into_args() {
+        words.push(word)?;
+    }
+    Ok(words)
+}
+
+/// What ends the server: a client sent a value that is no request.
+fn not_a_request() -> RedisError {
+    RedisError::from((ErrorKind::Client, "Protocol error: expected an array of bulk strings"))
 }
