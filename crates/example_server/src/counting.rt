@@ -1,6 +1,6 @@
 //! `INCR`.
 
-ghost use Rattle.std.specs.Prelude.{◌≡◌, IfOk, OnErr};
+ghost use Rattle.std.specs.Prelude.{IfOk, OnErr};
 ghost use Rattle.std.specs.BTreeMap.{IsUnchanged};
 ghost use Rattle.std.specs.Option.{option_copied};
 ghost use Rattle.example_server.specs.KeyCommands.{Increments, CountsUp};

@@ -1,7 +1,7 @@
 //! Commands about keys, whatever they hold.
 
 ghost use Rattle.std.specs.Prelude.{◌≡◌, ◌-◌, length, count_by, is_some};
-ghost use Rattle.std.specs.BTreeMap.{btree_map_len, get as value_at};
+ghost use Rattle.std.specs.BTreeMap.{get as value_at};
 ghost use Rattle.example_server.specs.KeyCommands.{cmp, without, Expires};
 
 use crate::reply::Reply;

@@ -1,7 +1,6 @@
 //! What the server keeps, and the commands about keys.
 
-ghost use Rattle.std.specs.Prelude.{◌≡◌, IfOk, OnErr};
-ghost use Rattle.std.specs.BTreeMap.{IsUnchanged};
+ghost use Rattle.std.specs.Prelude.{IfOk, OnErr};
 ghost use Rattle.example_server.specs.KeyCommands.{AnswersKeys, KeepsOnFailure};
 
 use crate::command::KeyCommand;
