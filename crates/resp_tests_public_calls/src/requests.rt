@@ -1,9 +1,7 @@
 //! Requests, as a server reads them, and values that are sent over a sink.
 
 use crate::checks::{Test, assert_text, reply, string};
-use resp_core::{
-    Parser, ProtocolVersion, Request, Text, Value, Writing, cmd, send_value,
-};
+use resp_core::{Parser, ProtocolVersion, Request, Text, Value, Writing, cmd, send_value};
 use resp_testing::{answer_text, bytes_text, debug_text, refusal_text};
 
 const REFUSED: &str = "request is not an array of bulk strings - Client";
@@ -41,7 +39,12 @@ fn answers_next(rt: &impl Test, parser: &mut Parser, piece: &str, wanted: &str) 
 fn requests_in_pieces(rt: HostRuntime) {
     let mut parser = Parser::new(rt.alloc());
     answers_next(&rt, &mut parser, "*2\r\n$3\r\nGET\r\n$1", "none yet");
-    answers_next(&rt, &mut parser, "\r\nk\r\n*1\r\n$4\r\nPING\r\n", "[\"GET\", \"k\"]");
+    answers_next(
+        &rt,
+        &mut parser,
+        "\r\nk\r\n*1\r\n$4\r\nPING\r\n",
+        "[\"GET\", \"k\"]",
+    );
     answers_next(&rt, &mut parser, "", "[\"PING\"]");
     answers_next(&rt, &mut parser, "", "none yet");
 }
@@ -61,7 +64,11 @@ fn other_values_are_taken_and_refused(rt: HostRuntime) {
 
 #[test]
 fn a_value_is_given_back(rt: HostRuntime) {
-    for bytes in [b"*0\r\n".as_slice(), b"$1\r\na\r\n", b"*2\r\n$1\r\na\r\n$-1\r\n"] {
+    for bytes in [
+        b"*0\r\n".as_slice(),
+        b"$1\r\na\r\n",
+        b"*2\r\n$1\r\na\r\n$-1\r\n",
+    ] {
         let back = Request::from_value(reply(&rt, bytes)).err();
         assert!(rt; back.expect(&rt, "given back") == reply(&rt, bytes));
     }
@@ -70,7 +77,7 @@ fn a_value_is_given_back(rt: HostRuntime) {
 #[test]
 fn names_and_arguments(rt: HostRuntime) {
     let request = request(&rt, b"*3\r\n$3\r\nSeT\r\n$0\r\n\r\n$2\r\n\r\n\r\n");
-    assert_eq!(rt; request.name(), b"SeT");
+    assert_eq!(rt; request.name(), b"SeT".as_slice());
     assert!(rt; request.is_named("set") && request.is_named("SET") && !request.is_named("se"));
     assert_eq!(rt; request.len(), 3);
     let mut args = request.args();
@@ -102,8 +109,16 @@ fn sent(rt: &impl Test, value: &Value, protocol: ProtocolVersion) -> String {
 #[test]
 fn values_over_a_sink(rt: HostRuntime) {
     let value = reply(&rt, b"~1\r\n#t\r\n");
-    assert_text(&rt, sent(&rt, &value, ProtocolVersion::RESP3), "() :1~1\r\n#t\r\n");
-    assert_text(&rt, sent(&rt, &value, ProtocolVersion::RESP2), "() :1*1\r\n:1\r\n");
+    assert_text(
+        &rt,
+        sent(&rt, &value, ProtocolVersion::RESP3),
+        "() :1~1\r\n#t\r\n",
+    );
+    assert_text(
+        &rt,
+        sent(&rt, &value, ProtocolVersion::RESP2),
+        "() :1*1\r\n:1\r\n",
+    );
     let value = Value::SimpleString(Text::from(string(&rt, "OK")));
     let wanted = "the value has no encoding - Client :1";
     assert_text(&rt, sent(&rt, &value, ProtocolVersion::RESP3), wanted);

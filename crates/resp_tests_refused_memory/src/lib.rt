@@ -38,11 +38,15 @@ mod no_memory;
 #[cfg(test)]
 mod no_memory_errors;
 #[cfg(test)]
+mod no_memory_requests;
+#[cfg(test)]
 mod parsing;
 #[cfg(test)]
 mod programs;
 #[cfg(test)]
 mod queries;
+#[cfg(test)]
+mod requests;
 #[cfg(test)]
 mod scans;
 #[cfg(test)]
