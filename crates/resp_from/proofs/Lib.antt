@@ -1,4 +1,5 @@
 pub mod Conversions
+pub mod DigitBytes
 pub mod Filling
 pub mod Groups
 pub mod InTurn

@@ -22,13 +22,17 @@ SignedText w text x =
 abbrev pub UnsignedNumber : ℕ → ℤ → ℕ → Type 0
 UnsignedNumber k n x = (x < 2 ^ k) × (n ≡ pos x)
 
+-- the bytes are text, and write the integer x as the type reads texts
+abbrev pub OfTextBytes : {X : Type 0} → (List ℕ → X → Type 0) → List ℕ → X → Type 0
+OfTextBytes Writes bytes x = IsUtf8 bytes × Writes bytes x
+
 -- a reply without its attribute is the integer x: by its number, or by its text, as the type reads
 -- them
 abbrev pub IsInteger : {X : Type 0} → (ℤ → X → Type 0) → (List ℕ → X → Type 0) → Value-F Value → X
     → Type 0
 IsInteger Number Writes (Value-F.Int n) x = Number n x
 IsInteger Number Writes (Value-F.SimpleString text) x = Writes text x
-IsInteger Number Writes (Value-F.BulkString bytes) x = IsUtf8 bytes × Writes bytes x
+IsInteger Number Writes (Value-F.BulkString bytes) x = OfTextBytes Writes bytes x
 IsInteger Number Writes _ x = ⊥
 
 -- the reply is the integer x

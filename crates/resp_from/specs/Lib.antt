@@ -2,6 +2,7 @@ pub mod Attributes
 pub mod Booleans
 pub mod Conversion
 pub mod Integers
+pub mod lemmas
 pub mod Lists
 pub mod Maps
 pub mod Results

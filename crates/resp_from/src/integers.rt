@@ -2,13 +2,15 @@
 //!
 //! Each type has its impl written out, since a macro of a repository may not write impls.
 
-ghost use Rattle.std.specs.Prelude.{◌≡◌, ℤ, ℕ, List, Bool, IfErr, MatchResult, Ok};
+ghost use Rattle.std.specs.Prelude.{◌≡◌, ℤ, ℕ, List, Bool, IfErr, IfSome, MatchResult, Ok, pos};
 ghost use Rattle.std.specs.Result.{IsErrAnd};
+ghost use Rattle.std.specs.Str.Parse.{IsNumeral, digits_value};
 ghost use Rattle.resp_from.specs.Conversion.{AnyButMemory, Converts, Decides, IsDescribed};
-ghost use Rattle.resp_from.specs.Integers.{OfInteger};
+ghost use Rattle.resp_from.specs.Integers.{OfInteger, OfTextBytes};
 
 use crate::attributes::strip_attribute_ref;
 use crate::conversion::FromRedisValue;
+use crate::digits::few_digits;
 use resp_value::{ParsingError, Value};
 use std::alloc::Global;
 use std::num::{ParseIntError, TryFromIntError};
@@ -37,6 +39,32 @@ pub trait IntegerFromRedisValue: Sized + Drop {
     /// The integer that a text writes in decimal; refused where it writes none of the type.
     fn from_text(text: &str) -> Result<Self, ParsingError>
         ensures decides { Decides (of_text text.now) result };
+
+    // Digits alone write the number that they are.
+    ghost numerals: { (text : List ℕ) → (x : Self) → IsNumeral 10 text
+        → of_number (pos (digits_value 10 text)) x → of_text text x };
+}
+
+/// The integer that a few digits alone write; None where it isn't one of the type, and of any other
+/// bytes.
+fn read_few_digits<T: IntegerFromRedisValue>(bytes: &[u8]) -> Option<T>
+    ensures { IfSome result (λ x. OfTextBytes T.of_text bytes.now x) }
+{
+    let number = few_digits(bytes)? as i64;
+    T::from_number(number).ok()
+}
+
+/// The integer that bytes write, as text.
+fn read_bytes<T: IntegerFromRedisValue>(bytes: &[u8]) -> Result<T, ParsingError>
+    ensures decides { Decides (OfTextBytes T.of_text bytes.now) result }
+{
+    if let Some(number) = read_few_digits(bytes) {
+        return Ok(number);
+    }
+    match std::str::from_utf8(bytes) {
+        Ok(text) => T::from_text(text),
+        Err(_) => Err(ParsingError::from("Invalid UTF-8")),
+    }
 }
 
 fn read_integer<T: IntegerFromRedisValue>(value: &Value) -> Result<T, ParsingError>
@@ -45,10 +73,7 @@ fn read_integer<T: IntegerFromRedisValue>(value: &Value) -> Result<T, ParsingErr
     match strip_attribute_ref(value) {
         Value::Int(number) => T::from_number(i64::from(*number)),
         Value::SimpleString(text) => T::from_text(text.as_str()),
-        Value::BulkString(bytes) => match std::str::from_utf8(bytes.as_slice()) {
-            Ok(text) => T::from_text(text),
-            Err(_) => Err(ParsingError::from("Invalid UTF-8")),
-        },
+        Value::BulkString(bytes) => read_bytes(bytes.as_slice()),
         _ => Err(ParsingError::from("Response type not convertible to numeric")),
     }
 }
@@ -107,6 +132,7 @@ impl IntegerFromRedisValue for i8 {
     ghost use Rattle.std.specs.Prelude.{false};
     ghost use Rattle.std.specs.Int.{w8};
     ghost use Rattle.resp_from.specs.Integers.{SignedNumber, SignedText};
+    ghost use Rattle.resp_from.specs.lemmas.Numerals.{signed_numerals};
 
     const IS_BYTE: bool = false;
 
@@ -115,6 +141,8 @@ impl IntegerFromRedisValue for i8 {
     ghost of_number = { SignedNumber w8 };
 
     ghost of_text = { SignedText w8 };
+
+    ghost numerals = { signed_numerals w8 };
 
     fn from_number(number: i64) -> Result<i8, ParsingError> {
         in_range(i8::try_from(number))
@@ -129,6 +157,7 @@ impl IntegerFromRedisValue for i16 {
     ghost use Rattle.std.specs.Prelude.{false};
     ghost use Rattle.std.specs.Int.{w16};
     ghost use Rattle.resp_from.specs.Integers.{SignedNumber, SignedText};
+    ghost use Rattle.resp_from.specs.lemmas.Numerals.{signed_numerals};
 
     const IS_BYTE: bool = false;
 
@@ -137,6 +166,8 @@ impl IntegerFromRedisValue for i16 {
     ghost of_number = { SignedNumber w16 };
 
     ghost of_text = { SignedText w16 };
+
+    ghost numerals = { signed_numerals w16 };
 
     fn from_number(number: i64) -> Result<i16, ParsingError> {
         in_range(i16::try_from(number))
@@ -151,6 +182,7 @@ impl IntegerFromRedisValue for i32 {
     ghost use Rattle.std.specs.Prelude.{false};
     ghost use Rattle.std.specs.Int.{w32};
     ghost use Rattle.resp_from.specs.Integers.{SignedNumber, SignedText};
+    ghost use Rattle.resp_from.specs.lemmas.Numerals.{signed_numerals};
 
     const IS_BYTE: bool = false;
 
@@ -159,6 +191,8 @@ impl IntegerFromRedisValue for i32 {
     ghost of_number = { SignedNumber w32 };
 
     ghost of_text = { SignedText w32 };
+
+    ghost numerals = { signed_numerals w32 };
 
     fn from_number(number: i64) -> Result<i32, ParsingError> {
         in_range(i32::try_from(number))
@@ -173,6 +207,7 @@ impl IntegerFromRedisValue for i64 {
     ghost use Rattle.std.specs.Prelude.{false};
     ghost use Rattle.std.specs.Int.{w64};
     ghost use Rattle.resp_from.specs.Integers.{SignedNumber, SignedText};
+    ghost use Rattle.resp_from.specs.lemmas.Numerals.{signed_numerals};
 
     const IS_BYTE: bool = false;
 
@@ -181,6 +216,8 @@ impl IntegerFromRedisValue for i64 {
     ghost of_number = { SignedNumber w64 };
 
     ghost of_text = { SignedText w64 };
+
+    ghost numerals = { signed_numerals w64 };
 
     fn from_number(number: i64) -> Result<i64, ParsingError> {
         in_range(i64::try_from(number))
@@ -195,6 +232,7 @@ impl IntegerFromRedisValue for i128 {
     ghost use Rattle.std.specs.Prelude.{false};
     ghost use Rattle.std.specs.Int.{w128};
     ghost use Rattle.resp_from.specs.Integers.{SignedNumber, SignedText};
+    ghost use Rattle.resp_from.specs.lemmas.Numerals.{signed_numerals};
 
     const IS_BYTE: bool = false;
 
@@ -203,6 +241,8 @@ impl IntegerFromRedisValue for i128 {
     ghost of_number = { SignedNumber w128 };
 
     ghost of_text = { SignedText w128 };
+
+    ghost numerals = { signed_numerals w128 };
 
     fn from_number(number: i64) -> Result<i128, ParsingError> {
         in_range(i128::try_from(number))
@@ -217,6 +257,7 @@ impl IntegerFromRedisValue for isize {
     ghost use Rattle.std.specs.Prelude.{false};
     ghost use Rattle.std.specs.Int.{w64};
     ghost use Rattle.resp_from.specs.Integers.{SignedNumber, SignedText};
+    ghost use Rattle.resp_from.specs.lemmas.Numerals.{signed_numerals};
 
     const IS_BYTE: bool = false;
 
@@ -225,6 +266,8 @@ impl IntegerFromRedisValue for isize {
     ghost of_number = { SignedNumber w64 };
 
     ghost of_text = { SignedText w64 };
+
+    ghost numerals = { signed_numerals w64 };
 
     fn from_number(number: i64) -> Result<isize, ParsingError> {
         in_range(isize::try_from(number))
@@ -238,6 +281,7 @@ impl IntegerFromRedisValue for isize {
 impl IntegerFromRedisValue for u8 {
     ghost use Rattle.std.specs.Prelude.{true};
     ghost use Rattle.resp_from.specs.Integers.{UnsignedNumber, UnsignedText};
+    ghost use Rattle.resp_from.specs.lemmas.Numerals.{unsigned_numerals};
 
     const IS_BYTE: bool = true;
 
@@ -246,6 +290,8 @@ impl IntegerFromRedisValue for u8 {
     ghost of_number = { UnsignedNumber 8 };
 
     ghost of_text = { UnsignedText 8 };
+
+    ghost numerals = { unsigned_numerals 8 };
 
     fn from_number(number: i64) -> Result<u8, ParsingError> {
         in_range(u8::try_from(number))
@@ -259,6 +305,7 @@ impl IntegerFromRedisValue for u8 {
 impl IntegerFromRedisValue for u16 {
     ghost use Rattle.std.specs.Prelude.{false};
     ghost use Rattle.resp_from.specs.Integers.{UnsignedNumber, UnsignedText};
+    ghost use Rattle.resp_from.specs.lemmas.Numerals.{unsigned_numerals};
 
     const IS_BYTE: bool = false;
 
@@ -267,6 +314,8 @@ impl IntegerFromRedisValue for u16 {
     ghost of_number = { UnsignedNumber 16 };
 
     ghost of_text = { UnsignedText 16 };
+
+    ghost numerals = { unsigned_numerals 16 };
 
     fn from_number(number: i64) -> Result<u16, ParsingError> {
         in_range(u16::try_from(number))
@@ -280,6 +329,7 @@ impl IntegerFromRedisValue for u16 {
 impl IntegerFromRedisValue for u32 {
     ghost use Rattle.std.specs.Prelude.{false};
     ghost use Rattle.resp_from.specs.Integers.{UnsignedNumber, UnsignedText};
+    ghost use Rattle.resp_from.specs.lemmas.Numerals.{unsigned_numerals};
 
     const IS_BYTE: bool = false;
 
@@ -288,6 +338,8 @@ impl IntegerFromRedisValue for u32 {
     ghost of_number = { UnsignedNumber 32 };
 
     ghost of_text = { UnsignedText 32 };
+
+    ghost numerals = { unsigned_numerals 32 };
 
     fn from_number(number: i64) -> Result<u32, ParsingError> {
         in_range(u32::try_from(number))
@@ -301,6 +353,7 @@ impl IntegerFromRedisValue for u32 {
 impl IntegerFromRedisValue for u64 {
     ghost use Rattle.std.specs.Prelude.{false};
     ghost use Rattle.resp_from.specs.Integers.{UnsignedNumber, UnsignedText};
+    ghost use Rattle.resp_from.specs.lemmas.Numerals.{unsigned_numerals};
 
     const IS_BYTE: bool = false;
 
@@ -309,6 +362,8 @@ impl IntegerFromRedisValue for u64 {
     ghost of_number = { UnsignedNumber 64 };
 
     ghost of_text = { UnsignedText 64 };
+
+    ghost numerals = { unsigned_numerals 64 };
 
     fn from_number(number: i64) -> Result<u64, ParsingError> {
         in_range(u64::try_from(number))
@@ -322,6 +377,7 @@ impl IntegerFromRedisValue for u64 {
 impl IntegerFromRedisValue for u128 {
     ghost use Rattle.std.specs.Prelude.{false};
     ghost use Rattle.resp_from.specs.Integers.{UnsignedNumber, UnsignedText};
+    ghost use Rattle.resp_from.specs.lemmas.Numerals.{unsigned_numerals};
 
     const IS_BYTE: bool = false;
 
@@ -330,6 +386,8 @@ impl IntegerFromRedisValue for u128 {
     ghost of_number = { UnsignedNumber 128 };
 
     ghost of_text = { UnsignedText 128 };
+
+    ghost numerals = { unsigned_numerals 128 };
 
     fn from_number(number: i64) -> Result<u128, ParsingError> {
         in_range(u128::try_from(number))
@@ -343,6 +401,7 @@ impl IntegerFromRedisValue for u128 {
 impl IntegerFromRedisValue for usize {
     ghost use Rattle.std.specs.Prelude.{false};
     ghost use Rattle.resp_from.specs.Integers.{UnsignedNumber, UnsignedText};
+    ghost use Rattle.resp_from.specs.lemmas.Numerals.{unsigned_numerals};
 
     const IS_BYTE: bool = false;
 
@@ -351,6 +410,8 @@ impl IntegerFromRedisValue for usize {
     ghost of_number = { UnsignedNumber 64 };
 
     ghost of_text = { UnsignedText 64 };
+
+    ghost numerals = { unsigned_numerals 64 };
 
     fn from_number(number: i64) -> Result<usize, ParsingError> {
         in_range(usize::try_from(number))

@@ -5,6 +5,7 @@ mod arrays;
 mod attributes;
 mod booleans;
 mod conversion;
+mod digits;
 mod integers;
 mod lists;
 mod maps;
