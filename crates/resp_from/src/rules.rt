@@ -18,9 +18,9 @@ pub fn convert_each<T: FromRedisValue>(
 ) -> Result<Vec<T>, ParsingError>
     ensures converts { ConvertsList (AllZip T.of_value replies.items) result }
 {
-    let mut all = Vec::new(alloc);
+    let mut all = Vec::with_capacity(alloc, replies.len())?;
     for reply in replies {
-        all.push(T::from_redis_value(alloc, reply)?)?;
+        all.push_reserved(T::from_redis_value(alloc, reply)?);
     }
     Ok(all)
 }
