@@ -109,7 +109,7 @@ fn groups_of(alloc: Global, width: usize, replies: Vec<Value>) -> Result<Vec<Val
     requires { 0 < width }
     ensures converts { ConvertsList (AreGroups width replies.items) result }
 {
-    let mut groups = Vec::new(alloc);
+    let mut groups = Vec::with_capacity(alloc, replies.len() / width)?;
     let mut group = Items::new(alloc);
     for reply in replies {
         group.push(reply)?;

@@ -1,11 +1,41 @@
 //! Texts of replies.
 
+ghost use Rattle.resp_value.specs.declared.value.Value.{out-Value};
+ghost use Rattle.resp_value.specs.declared.value.Value.TheOpen.{Value-F};
+ghost use Rattle.resp_from.specs.Conversion.{Converts, Decides};
+ghost use Rattle.resp_from.specs.Texts.{IsText};
+
 use crate::attributes::strip_attribute;
 use crate::conversion::FromRedisValue;
 use crate::refusals::refuse;
 use itoa::Buffer;
-use resp_value::{ParsingError, Text, Value};
+use resp_value::{Items, ParsingError, Text, Value};
 use std::alloc::Global;
+
+/// The text that the bytes of a bulk string are.
+fn utf8_text(bytes: Items<u8>) -> Result<Text, ParsingError>
+    ensures decides { Decides (IsText (Value-F.BulkString bytes)) result }
+{
+    match String::from_utf8(bytes.into_vec()) {
+        Ok(text) => Ok(Text::from(text)),
+        Err(_) => Err(ParsingError::from("Invalid UTF-8")),
+    }
+}
+
+/// The text of a reply, of which no attribute is removed.
+#[inline(never)]
+fn plain_text(alloc: Global, value: Value) -> Result<Text, ParsingError>
+    ensures converts { Converts (IsText (out-Value value)) result }
+{
+    match value {
+        Value::BulkString(bytes) => utf8_text(bytes),
+        Value::SimpleString(text) => Ok(text),
+        Value::Okay => Ok(Text::from_str(alloc, "OK")?),
+        Value::VerbatimString { text, .. } => Ok(text),
+        Value::Int(n) => Ok(Text::from_str(alloc, Buffer::new().format(n))?),
+        other => refuse(other, "Response type not string compatible"),
+    }
+}
 
 /// A text is a bulk string of UTF-8, a simple string, `OK`, a verbatim text, or an integer in
 /// decimal. At most one attribute is removed.
@@ -19,16 +49,9 @@ impl FromRedisValue for Text {
     ghost of_value = { OfText };
 
     fn from_redis_value(alloc: Global, value: Value) -> Result<Text, ParsingError> {
-        match strip_attribute(value) {
-            Value::BulkString(bytes) => match String::from_utf8(bytes.into_vec()) {
-                Ok(text) => Ok(Text::from(text)),
-                Err(_) => Err(ParsingError::from("Invalid UTF-8")),
-            },
-            Value::SimpleString(text) => Ok(text),
-            Value::Okay => Ok(Text::from_str(alloc, "OK")?),
-            Value::VerbatimString { text, .. } => Ok(text),
-            Value::Int(n) => Ok(Text::from_str(alloc, Buffer::new().format(n))?),
-            other => refuse(other, "Response type not string compatible"),
+        match value {
+            Value::BulkString(bytes) => utf8_text(bytes),
+            other => plain_text(alloc, strip_attribute(other)),
         }
     }
 }

@@ -41,7 +41,18 @@ fn require_len(values: Vec<Value>, width: usize) -> Result<Vec<Value>, ParsingEr
 fn find_values(alloc: Global, width: usize, reply: Value) -> Result<Vec<Value>, ParsingError>
     ensures finds { FindsValues (values_of_width width (out-Value (stripped reply))) result }
 {
-    match strip_attribute(reply) {
+    match reply {
+        Value::Array(items) => require_len(items.into_vec(), width),
+        other => find_plain_values(alloc, width, strip_attribute(other)),
+    }
+}
+
+/// The `width` values that a reply holds, of which no attribute is removed.
+#[inline(never)]
+fn find_plain_values(alloc: Global, width: usize, reply: Value) -> Result<Vec<Value>, ParsingError>
+    ensures finds { FindsValues (values_of_width width (out-Value reply)) result }
+{
+    match reply {
         Value::Array(items) => require_len(items.into_vec(), width),
         Value::Set(items) => require_len(items.into_vec(), width),
         Value::Map(pairs) => require_len(values_in_turn(alloc, pairs)?, width),

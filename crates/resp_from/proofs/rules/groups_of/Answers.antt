@@ -11,7 +11,7 @@ pub loop-reply-preserved-then-len-width : goal.loop-reply-preserved-then-len-wid
 loop-reply-preserved-then-len-width c =
     let grown : c.push.new.self ≡ c.loop-reply.group ++ c.in-Some.reply ∷ [] = search rules in
     let arrays : c.push-then-len-width.new.self.items ≡ c.loop-reply.groups.items ++ Array (c.loop-reply.group ++ c.in-Some.reply ∷ []) ∷ [] = c.in_ok-push-2.ensures.items ∙ ap (λ g. c.loop-reply.groups.items ++ Array g ∷ []) grown in
-    let full : length (c.loop-reply.group ++ c.in-Some.reply ∷ []) ≡ c.args.width = ap length (sym grown) ∙ (sym c.len.ensures ∙ c.if-len-width.true) in
+    let full : length (c.loop-reply.group ++ c.in-Some.reply ∷ []) ≡ c.args.width = ap length (sym grown) ∙ (sym c.len-in-loop-reply.ensures ∙ c.if-len-width.true) in
     record {
       same = c.loop-reply.invariant.same ∙ (ap (λ vs. c.loop-reply.yielded ++ vs) c.in-Some.ensures.steps.0 ∙ sym (append_assoc c.loop-reply.yielded (c.in-Some.reply ∷ []) (into_iter_items c.next.new.self)));
       cut = rw (arrays, c.new-group-then-len-width.ensures) (IsCutting-group c.args.width c.loop-reply.yielded c.loop-reply.groups.items c.loop-reply.group c.in-Some.reply c.loop-reply.invariant.cut full c.requires);
