@@ -39,6 +39,13 @@ pub record OfList {X : Type 0} (n : ℕ) (Of : Value → X → Type 0) (replies 
   pub cut : ArePieces n replies pieces
   pub each : AllZip Of pieces xs
 
+-- each group of n is a value
+pub record OfGroups {X : Type 0} (n : ℕ) (Of : Value → X → Type 0) (replies : List Value)
+    (xs : List X) : Type 0 where
+  pub pieces : List Value
+  pub cut : AreGroups n replies pieces
+  pub each : AllZip Of pieces xs
+
 -- an answer for each piece of the list
 pub record AnswersEach {X : Type 0} (n : ℕ) (Of : Value → X → Type 0) (replies : List Value)
     (answers : List (Result X ParsingError)) : Type 0 where

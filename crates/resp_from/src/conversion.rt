@@ -8,7 +8,7 @@ ghost use Rattle.resp_from.specs.Conversion.{AnyError, OfVia, OrMemory, Converts
 ghost use Rattle.resp_from.specs.Conversion.{ConvertsMaybe};
 ghost use Rattle.resp_from.specs.Rules.{OfList, OfEach, OfBytes};
 
-use crate::rules::{answer_each, convert_bytes, convert_each, convert_one, copies_of, pieces_of};
+use crate::rules::{answer_each, convert_bytes, convert_list, convert_one, copies_of, pieces_of};
 use resp_value::{Items, ParsingError, Value};
 use std::alloc::Global;
 
@@ -60,7 +60,7 @@ pub trait FromRedisValue: Sized + Drop {
     final fn from_redis_values(alloc: Global, values: Vec<Value>) -> Result<Vec<Self>, ParsingError>
         ensures converts { ConvertsList (OfList WIDTH of_value values.items) result }
     {
-        convert_each(alloc, pieces_of(alloc, Self::WIDTH, values)?)
+        convert_list(alloc, Self::WIDTH, values)
     }
 
     /// The values of a borrowed list of replies, as `from_redis_values` gives them.

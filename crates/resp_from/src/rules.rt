@@ -5,7 +5,8 @@ ghost use Rattle.std.specs.List.{AllZip, list_all};
 ghost use Rattle.resp_errors.specs.declared.parsing_error.ParsingError.TheVariants as parsing;
 ghost use Rattle.resp_value.specs.declared.value.Value.{Int, out-Value};
 ghost use Rattle.resp_from.specs.Conversion.{ConvertsList, Decides};
-ghost use Rattle.resp_from.specs.Rules.{AreGroups, ArePieces, has_values};
+ghost use Rattle.resp_from.specs.Rules.{AreGroups, ArePieces, OfGroups, OfList, has_values};
+ghost use Rattle.resp_from.specs.Rules.{is_one_each};
 
 use crate::conversion::FromRedisValue;
 use resp_value::{Items, ParsingError, Value};
@@ -91,6 +92,45 @@ pub fn copies_of(alloc: Global, replies: &[Value]) -> Result<Vec<Value>, AllocEr
     Ok(copies)
 }
 
+/// The values of a list of replies, of a type of this width.
+pub fn convert_list<T: FromRedisValue>(
+    alloc: Global,
+    width: usize,
+    replies: Vec<Value>,
+) -> Result<Vec<T>, ParsingError>
+    ensures converts { ConvertsList (OfList width T.of_value replies.items) result }
+{
+    if one_each(&replies, width) {
+        convert_each(alloc, replies)
+    } else {
+        convert_groups(alloc, width, replies)
+    }
+}
+
+/// One value for each group of so many replies.
+fn convert_groups<T: FromRedisValue>(
+    alloc: Global,
+    width: usize,
+    replies: Vec<Value>,
+) -> Result<Vec<T>, ParsingError>
+    requires { 0 < width }
+    ensures converts { ConvertsList (OfGroups width T.of_value replies.items) result }
+{
+    if replies.len() % width != 0 {
+        return Err(ParsingError::from("Bulk response of wrong dimension"));
+    }
+    let mut all = Vec::with_capacity(alloc, replies.len() / width)?;
+    let mut group = Items::new(alloc);
+    for reply in replies {
+        group.push(reply)?;
+        if group.len() == width {
+            all.push(T::from_redis_value(alloc, Value::Array(group))?)?;
+            group = Items::new(alloc);
+        }
+    }
+    Ok(all)
+}
+
 /// The pieces of a list that stand for one value each, of a type of this width.
 pub fn pieces_of(
     alloc: Global,
@@ -99,10 +139,16 @@ pub fn pieces_of(
 ) -> Result<Vec<Value>, ParsingError>
     ensures converts { ConvertsList (ArePieces width replies.items) result }
 {
-    if width == 0 || all_hold(&replies, width) {
+    if one_each(&replies, width) {
         return Ok(replies);
     }
     groups_of(alloc, width, replies)
+}
+
+fn one_each(replies: &[Value], width: usize) -> bool
+    ensures { result ≡ is_one_each width replies.now }
+{
+    width == 0 || all_hold(replies, width)
 }
 
 fn groups_of(alloc: Global, width: usize, replies: Vec<Value>) -> Result<Vec<Value>, ParsingError>
