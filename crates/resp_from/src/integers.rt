@@ -94,9 +94,7 @@ impl<T: IntegerFromRedisValue> FromRedisValue for T {
 
     #[tactic(auto, using(crate::proofs::Conversions::decided))]
     fn from_redis_value(_alloc: Global, value: Value) -> Result<T, ParsingError> {
-        let number = read_integer(&value);
-        drop(value);
-        number
+        read_integer(&value)
     }
 
     #[tactic(auto, using(crate::proofs::Conversions::decided))]

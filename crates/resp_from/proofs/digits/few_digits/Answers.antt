@@ -1,8 +1,9 @@
-use Rattle.std.proofs.Common.{◌≡◌, ◌≤◌, true, length, get_or, sym, ◌∙◌, arith}
+use Rattle.std.proofs.Common.{◌≡◌, ◌+◌, ◌-◌, ◌*◌, ◌≤◌, true, length, take, get_or, sym, ◌∙◌, arith}
 use Rattle.std.proofs.lemmas.Int.Digits.{digits_more, digits_value_more}
 use Rattle.std.proofs.lemmas.Str.{digit_value_digit}
 use Rattle.std.specs.Char.{is_ascii_digit}
-use Rattle.resp_from.proofs.DigitBytes.{digit_range, digits_utf8}
+use Rattle.std.specs.Str.Parse.{digits_value}
+use Rattle.resp_from.proofs.DigitBytes.{digit_range, digits_small, digits_utf8}
 use Rattle.resp_from.proofs.digits.few_digits.Goals as goal
 
 pub loop-at-preserved : goal.loop-at-preserved
@@ -13,13 +14,16 @@ loop-at-preserved c =
     let range = digit_range byte digit in
     let worth = digit_value_digit byte range in
     let more = digits_value_more 10 bytes c.loop-at.at c.loop-at-test.true in
+    let digits = digits_more 10 bytes c.loop-at.at c.loop-at-test.true c.loop-at.invariant.digits (omega (arith, worth, range.1)) in
+    let few : length bytes ≤ 18 = omega arith in
+    let value : c.loop-at.value * 10 + (byte - 48) ≡ digits_value 10 (take (c.loop-at.at + 1) bytes) = omega (arith, more, worth, range.0, c.loop-at.invariant.value) in
     record {
-      digits = digits_more 10 bytes c.loop-at.at c.loop-at-test.true c.loop-at.invariant.digits (omega (arith, worth, range.1));
-      value = omega (arith, more, worth, range.0, c.loop-at.invariant.value);
-      small = omega (arith, range.1, c.if-value-ge-LARGE.false);
+      digits = digits;
+      value = value;
+      small = omega (arith, value, digits_small bytes (c.loop-at.at + 1) few digits);
     }
 
-pub returns-else-is_empty-clause-text : goal.returns-else-is_empty-clause-text
-returns-else-is_empty-clause-text c =
+pub returns-clause-text : goal.returns-clause-text
+returns-clause-text c =
     let all : length c.args.bytes.now ≤ c.loop-at.at = omega arith in
     digits_utf8 c.args.bytes.now c.loop-at.at all c.loop-at.invariant.digits

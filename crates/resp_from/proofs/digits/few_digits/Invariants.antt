@@ -7,5 +7,5 @@ abbrev pub invariant-loop-at : goal.invariant-loop-at
 invariant-loop-at l = record {
   digits : AllDigits 10 (take l.at l.bytes);
   value : l.value ≡ digits_value 10 (take l.at l.bytes);
-  small : l.value < 2 ^ 63;
+  small : l.value < 10 ^ 18;
 }
