@@ -64,13 +64,16 @@ impl Server {
         Ok(replies)
     }
 
-    /// Appends the reply to a request; one of no words has none.
+    /// Appends the reply to what a client sent.
     fn reply(&mut self, value: Value, replies: &mut Vec<u8>) -> RedisResult<()> {
-        let words = match resp_core::Request::from_value(value) {
-            Ok(request) => words_of(self.alloc, request)?,
-            Err(Value::Array(words)) if words.is_empty() => return Ok(()),
-            Err(_) => return Err(not_a_request()),
-        };
+        match resp_core::Request::from_value(value) {
+            Ok(request) => self.reply_to(words_of(self.alloc, request)?, replies),
+            Err(other) => other_value(&other),
+        }
+    }
+
+    /// Appends the reply to a request of these words.
+    fn reply_to(&mut self, words: Vec<Vec<u8>>, replies: &mut Vec<u8>) -> RedisResult<()> {
         let request = request_of(self.alloc, words)?;
         self.has_quit = matches!(&request, Request::Quit);
         let answer = answer(self.alloc, &mut self.session, request)?;
@@ -88,7 +91,14 @@ fn words_of(alloc: Global, request: resp_core::Request) -> RedisResult<Vec<Vec<u
     Ok(words)
 }
 
-/// What ends the server: a client sent a value that is no request.
-fn not_a_request() -> RedisError {
-    RedisError::from((ErrorKind::Client, "Protocol error: expected an array of bulk strings"))
+/// What becomes of a value that is no request: an array of no words has no reply, and any other
+/// value ends the server.
+fn other_value(value: &Value) -> RedisResult<()> {
+    match value {
+        Value::Array(words) if words.is_empty() => Ok(()),
+        _ => Err(RedisError::from((
+            ErrorKind::Client,
+            "Protocol error: expected an array of bulk strings",
+        ))),
+    }
 }

@@ -12,6 +12,9 @@ pub fn encode_both(alloc: Global, row: &Row) -> RedisResult<String> {
     match row.words() {
         [bytes] => {
             let value = parse_redis_value(alloc, bytes.as_slice())?;
+            if let Some(other) = written_otherwise(alloc, &value)? {
+                return Ok(other);
+            }
             let mut text = encoded(alloc, &value, ProtocolVersion::RESP3)?;
             add_part(
                 &mut text,
