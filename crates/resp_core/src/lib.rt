@@ -15,6 +15,9 @@
 
 pub mod laws;
 
+/// The version of the library, as CHANGELOG.md has it.
+pub const VERSION: &str = "0.1.0";
+
 pub use resp_args::{
     ArgList, ArgPart, ArgWriter, ExistenceCheck, ExpireOption, Expiry, FieldExistenceCheck, Joined,
     NumericBehavior, ProtocolVersion, RedisWrite, SetExpiry, ToRedisArgs, ToSingleRedisArg,
