@@ -1,7 +1,6 @@
 -- A request, and then its replies.
-use Rattle.std.proofs.Common.{◌≡◌, ◌&&◌, ℕ, ◌<◌, List, [], ◌∷◌, ◌++◌, length, true, false, Bool, append-nil, append_assoc, sym, ap, ◌∙◌, refl, Result, Ok, Err, inr}
+use Rattle.std.proofs.Common.{◌≡◌, ◌&&◌, ℕ, ◌<◌, List, [], ◌∷◌, ◌++◌, length, true, false, Bool, append-nil, sym, ap, ◌∙◌, refl, Result, Ok, Err, inr}
 use Rattle.resp_value.specs.declared.value.Value.{Value}
-use Rattle.resp_value.specs.declared.value.PushInfo.{PushInfo}
 use Rattle.resp_errors.specs.declared.kinds.IoKind.{IoKind}
 use Rattle.resp_errors.specs.declared.kinds.FrameFault.{FrameFault}
 use Rattle.resp_errors.specs.declared.redis_error.RedisError.{RedisError}
@@ -9,9 +8,9 @@ use Rattle.resp_errors.specs.declared.redis_error.RedisError.TheVariants.{Io}
 use Rattle.resp_parse.specs.Limited.{HasFault, Awaits}
 use Rattle.resp_link.specs.Linking.{connection_of, Exchanges}
 use Rattle.resp_link.specs.Sink.{Sink, SendsAll}
-use Rattle.resp_command.specs.Taken.{Taken, took, met_fault, ended_early, pushes_in, replies_in, PrefixReads, all, all_but_last}
+use Rattle.resp_command.specs.Taken.{Taken, took, met_fault, ended_early, pushes_in, replies_in, all, all_but_last}
 use Rattle.resp_command.proofs.Values.{reads_one, reads_both}
-use Rattle.resp_link.specs.Receiving.{Inflow, inflowing, ReadsOn, AwaitsMore, ReadsPush, StopsReceiving, Receives, CannotReceive, malformed, early_end, source_failed, out_of_memory, no_room}
+use Rattle.resp_link.specs.Receiving.{Inflow, inflowing, AwaitsMore, ReadsPush, StopsReceiving, Receives, CannotReceive, malformed, early_end, source_failed, out_of_memory, no_room}
 use Rattle.resp_command.specs.Connection as connection
 use Rattle.resp_command.specs.Connection.{Connection, SameKind, Sent, Exchange, TookTooFew, TookSome, BrokenMidway}
 

@@ -1,7 +1,6 @@
 -- What a link over a source and a sink is as a connection.
-use Rattle.std.specs.Prelude.{◌≡◌, ℕ, ◌&&◌, Bool, true, false, List, ◌++◌, Result}
+use Rattle.std.specs.Prelude.{◌≡◌, ℕ, ◌&&◌, Bool, true, false, List, Result}
 use Rattle.resp_value.specs.declared.value.Value.{Value}
-use Rattle.resp_value.specs.declared.value.PushInfo.{PushInfo}
 use Rattle.resp_errors.specs.declared.redis_error.RedisError.{RedisError}
 use Rattle.resp_link.specs.Sink.{Sink}
 use Rattle.resp_parse.specs.State.{State, IsBetweenValues}

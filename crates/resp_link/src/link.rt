@@ -1,6 +1,7 @@
 //! A connection over bytes.
 
 ghost use Rattle.std.specs.Prelude.{◌≡◌, ◌↔◌, ◌+◌, [], true, false, Ok, IsOk, IfOk, IfErr, length};
+ghost use Rattle.std.specs.Prelude.{if◌then◌else◌};
 ghost use Rattle.resp_parse.specs.State.{IsBetweenValues, IsBetweenValues-prop};
 ghost use Rattle.resp_parse.specs.Limits.{AreLimits, RefusesLimits, IsDepthLimit, of_depth, usual};
 ghost use Rattle.resp_parse.specs.Limits.{depth_refused};
@@ -20,6 +21,9 @@ use std::alloc::Global;
 use std::io::{Read, Write};
 use std::mem;
 
+/// Room of at most so many bytes is kept from request to request.
+const KEPT: usize = 4096;
+
 /// A connection over a source and a sink of bytes.
 ///
 /// A call writes its request whole and flushes, then takes the replies. The source is asked, for at
@@ -31,6 +35,8 @@ pub struct ByteLink<S, K> {
     inbox: Inbox<S>,
     sink: K,
     broken: bool,
+    /// Room for the next request.
+    room: Vec<u8>,
     ghost between: { BetweenUnless broken inbox.parser } by { Prim.hlevel IsBetweenValues-prop },
 }
 
@@ -156,6 +162,7 @@ impl<S: ReplySource, K: CommandSink> ByteLink<S, K> {
             },
             sink,
             broken: false,
+            room: Vec::new(alloc),
         }
     }
 
@@ -208,6 +215,7 @@ impl<S: ReplySource, K: CommandSink> ByteLink<S, K> {
             inbox,
             sink,
             broken: _,
+            room,
         } = self;
         let Inbox {
             source,
@@ -216,12 +224,40 @@ impl<S: ReplySource, K: CommandSink> ByteLink<S, K> {
         } = inbox;
         drop(parser);
         drop(pushes);
+        drop(room);
         (source, sink)
     }
 
     // A call says that the link is broken before it sends, and that it isn't once its replies are
     // there: so one that returns early at a `?` leaves it broken, where what was sent may still be
     // answered, and a later call would take that answer for its own.
+
+    /// Sends the request of a command, and takes its reply where one is waited for.
+    fn exchange(&mut self, bytes: Vec<u8>, no_response: bool) -> RedisResult<Value>
+        requires { self.old.broken ≡ false }
+        ensures exchanged { Exchanges
+            (connection_at S.source K.sink self.old)
+            (connection_at S.source K.sink self.new)
+            bytes.items (if no_response then 0 else 1) result (AnswersReply (λ reply. result ≡ Ok reply)) }
+    {
+        if no_response {
+            let answer = self.exchange_none(bytes.as_slice());
+            self.keep_room(bytes);
+            return answer;
+        }
+        let answer = self.exchange_one(bytes.as_slice());
+        self.keep_room(bytes);
+        answer
+    }
+
+    /// Keeps the room of a request for the next one, if it is no larger than is kept.
+    fn keep_room(&mut self, bytes: Vec<u8>)
+        ensures { connection_at S.source K.sink self.new ≡ connection_at S.source K.sink self.old }
+    {
+        if bytes.capacity() <= KEPT {
+            self.room = bytes;
+        }
+    }
 
     /// Sends a request that needs no reply.
     fn exchange_none(&mut self, bytes: &[u8]) -> RedisResult<Value>
@@ -287,11 +323,10 @@ impl<S: ReplySource, K: CommandSink> ConnectionLike for ByteLink<S, K> {
         if cmd.is_empty() {
             return Err(empty_command());
         }
-        let bytes = cmd.get_packed_command()?;
-        if cmd.is_no_response() {
-            return self.exchange_none(bytes.as_slice());
-        }
-        self.exchange_one(bytes.as_slice())
+        let mut bytes = mem::replace(&mut self.room, Vec::new(self.alloc));
+        bytes.clear();
+        cmd.write_packed_command(&mut bytes)?;
+        self.exchange(bytes, cmd.is_no_response())
     }
 
     fn req_packed_command(&mut self, bytes: &[u8]) -> RedisResult<Value> {

@@ -1,6 +1,5 @@
-use Rattle.std.proofs.Common.{arith, [], ◌∷◌, ◌++◌, ◌+◌}
+use Rattle.std.proofs.Common.{arith, [], ◌∷◌, ◌++◌}
 use Rattle.std.proofs.lemmas.Result.{err_from_is_err_and}
-use Rattle.resp_link.specs.Receiving.{inflow_of}
 use Rattle.resp_link.proofs.Receiving.{receives_none, receives_both, cannot_receive_after}
 use Rattle.resp_link.proofs.inbox.Inbox.skip_replies.Goals as goal
 

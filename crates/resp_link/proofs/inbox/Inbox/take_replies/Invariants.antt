@@ -1,4 +1,4 @@
-use Rattle.std.proofs.Common.{◌-◌, ◌≤◌, ◌≡◌}
+use Rattle.std.proofs.Common.{◌≤◌}
 use Rattle.resp_parse.specs.State.{IsBetweenValues}
 use Rattle.resp_link.specs.Receiving.{inflow_of, Receives}
 use Rattle.resp_link.proofs.inbox.Inbox.take_replies.Given as goal

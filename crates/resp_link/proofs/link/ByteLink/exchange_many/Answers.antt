@@ -1,4 +1,4 @@
-use Rattle.std.proofs.Common.{arith, ◌+◌, ◌++◌, []}
+use Rattle.std.proofs.Common.{arith, ◌++◌, []}
 use Rattle.std.proofs.lemmas.Result.{err_from_is_err_and}
 use Rattle.resp_link.proofs.Receiving.{receives_none, receives_both, cannot_receive_after, kept_after}
 use Rattle.resp_link.proofs.LinkExchanges.{replied, unanswered}
