@@ -6,7 +6,7 @@ set -e
 cd "$(dirname "$0")"
 program=$PWD/out/example_subscriber
 port=${1:-7377}
-[ -x "$program" ] || rt run < stdin > /dev/null
+[ -x "$program" ] || rt run -- $(cat args) < stdin > /dev/null
 work=$(mktemp -d)
 redis-server --port "$port" --save '' --appendonly no --dir "$work" > /dev/null &
 server=$!
