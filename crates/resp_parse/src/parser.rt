@@ -352,6 +352,14 @@ impl Parser {
         self.fault_offset
     }
 
+    /// How many bytes are held that weren't parsed. Between values, these are the bytes that follow
+    /// the last one.
+    pub fn unparsed_len(&self) -> usize
+        ensures unparsed { result ≡ length self.now.unparsed }
+    {
+        self.buffer[self.consumed..].len()
+    }
+
     /// Whether bytes stand after the last value that was handed out. A parser that has failed
     /// answers as it would have at its failure, the bytes that it was filled with included.
     pub fn in_progress(&self) -> bool

@@ -1,0 +1,2 @@
+mod AsBox
+pub mod Outcomes

@@ -1,0 +1,147 @@
+-- What the calls of a parser mean for the session that holds it.
+use Rattle.std.proofs.Common.{◌≡◌, ◌≢◌, ◌⊎◌, ◌↔◌, ◌+◌, ◌-◌, ◌≤◌, ℕ, Bool, true, false, List, [], ◌∷◌, ◌++◌, length, Option, Some, None, IsTrue, inl, inr, Result, Ok, Err, is_err, IsSome, refl, sym, ap, subst, ◌∙◌, arith, IfSome}
+use Rattle.std.specs.Option.{unwrap_or}
+use Rattle.std.proofs.lemmas.Bool.{false_from_ne_true}
+use Rattle.std.proofs.lemmas.List.{length-append}
+use Rattle.resp_value.specs.declared.value.Value.{Value}
+use Rattle.resp_errors.specs.declared.kinds.FrameFault.{FrameFault}
+use Rattle.resp_errors.specs.declared.parsing_error.ParsingError.TheVariants as parsing
+use Rattle.resp_errors.specs.declared.redis_error.RedisError.{RedisError}
+use Rattle.resp_errors.specs.declared.redis_error.RedisError.TheVariants as form
+use Rattle.resp_parse.specs.declared.limits.Limits.{Limits}
+use Rattle.resp_parse.specs.Limited.{HasValue, HasFault, FaultShownAt}
+use Rattle.resp_parse.specs.State.{State, StandsAfter, FailedAfter, HasOffset}
+use Rattle.resp_parse.specs.Calls.{CannotTake, Feeds}
+use Rattle.resp_c.specs.declared.session.Session.{Session}
+use Rattle.resp_c.specs.Sessions.{HasFailed, Works, GoesOnAfter, MeetsFault, Taken, Appended, FirstOf, status_of, noted, number_of}
+
+-- a session that hasn't failed works
+pub works_of : (s : Session) → (HasFailed s → ⊥) → Works s
+works_of s h = record {
+  parser = false_from_ne_true s.parser.failed (λ e. h (inl e));
+  kept = false_from_ne_true s.lost (λ e. h (inr e));
+}
+
+-- a parser that works stands after the bytes since its last value
+pub stands_now : (s : State) → s.failed ≡ false → StandsAfter s s.since
+unfolding StandsAfter
+stands_now s h = (h, refl)
+
+pub failed_after : (s : State) (b : List ℕ) → FailedAfter s b → s.failed ≡ true
+unfolding FailedAfter
+failed_after s b h = h.0
+
+abbrev IsSome' : List ℕ → Type 0
+IsSome' [] = ⊥
+IsSome' (x ∷ xs) = Unit {0}
+
+pub stands_works : (s : State) (b : List ℕ) → StandsAfter s b → s.failed ≡ false
+unfolding StandsAfter
+stands_works s b h = h.0
+
+-- bytes that aren't some are none
+pub none_unless : (b : List ℕ) → (b ≢ [] → ⊥) → b ≡ []
+none_unless [] h = refl
+none_unless (x ∷ xs) h = absurd (h (λ e. subst IsSome' e tt))
+
+abbrev fault_or : FrameFault → RedisError → FrameFault
+fault_or d (form.Parse (parsing.Fault f)) = f
+fault_or d _ = d
+
+abbrev IsParse : RedisError → Type 0
+IsParse (form.Parse p) = Unit {0}
+IsParse _ = ⊥
+
+-- the fault that was answered is the one that shows
+pub has_fault : (l : Limits) (b : List ℕ) (f : FrameFault) → CannotTake l b (form.Parse (parsing.Fault f)) → HasFault l b f
+has_fault l b f (CannotTake.malformed g eq shown) = subst (λ (h : FrameFault). HasFault l b h) (sym (ap (fault_or f) eq)) shown
+has_fault l b f (CannotTake.out_of_memory eq) = absurd (subst IsParse eq tt)
+
+-- what a parser that worked answers where there is no value
+abbrev Refuses : Session → Session → RedisError → Type 0
+Refuses s t e = (b : List ℕ) → StandsAfter s.parser b → CannotTake t.parser.limits b e × FailedAfter t.parser b
+
+memory_ran_out : (s t : Session) (e : RedisError) → Works s → Refuses s t e → Taken s t 3
+memory_ran_out s t e w h = Taken.memory refl (inl (failed_after t.parser s.parser.since (h s.parser.since (stands_now s.parser w.parser)).1))
+
+pub refused : (s t : Session) (e : RedisError) → Works s → Refuses s t e → t.fault ≡ noted e s.fault → Taken s t (status_of e)
+refused s t (form.Parse (parsing.Fault f)) w h n = Taken.malformed refl w (λ b g. record {
+  fault = f;
+  shown = has_fault t.parser.limits b f (h b g.stands).0;
+  number = n;
+  failed = (h b g.stands).1;
+})
+refused s t (form.Parse (parsing.Described d)) w h n = memory_ran_out s t _ w h
+refused s t (form.Parse parsing.OutOfMemory) w h n = memory_ran_out s t _ w h
+refused s t (form.General k x d) w h n = memory_ran_out s t _ w h
+refused s t (form.Io k) w h n = memory_ran_out s t _ w h
+refused s t (form.Server e) w h n = memory_ran_out s t _ w h
+refused s t (form.Pipeline es) w h n = memory_ran_out s t _ w h
+refused s t (form.Aborted es) w h n = memory_ran_out s t _ w h
+refused s t form.OutOfMemory w h n = memory_ran_out s t _ w h
+
+pub note_refused : (s m t : Session) (e : RedisError) (status : ℕ) → Works s → Refuses s m e → m.fault ≡ s.fault → status ≡ status_of e → t ≡ record m { fault = noted e m.fault } → Taken s t status
+note_refused s m t e status w h f is same =
+    subst (Taken s t) (sym is) (subst (λ (u : Session). Taken s u (status_of e)) (sym same) (refused s (record m { fault = noted e m.fault }) e w h (ap (noted e) f)))
+
+abbrev IsTrue' : Bool → Type 0
+IsTrue' true = Unit {0}
+IsTrue' false = ⊥
+
+true_is_not_false : true ≡ false → ⊥
+true_is_not_false e = subst IsTrue' e tt
+
+-- a session of which `has_failed` is false works
+pub works_unless : (s : Session) → (false ≡ true ↔ HasFailed s) → Works s
+works_unless s h = works_of s (λ f. true_is_not_false (sym (h.1 f)))
+
+-- what `in_progress` says of a session that works
+pub none_held : (s : State) → ((b : List ℕ) → StandsAfter s b ⊎ FailedAfter s b → (false ≡ true ↔ (b ≢ []))) → (b : List ℕ) → StandsAfter s b → b ≡ []
+none_held s h b st = none_unless b (λ some. true_is_not_false (sym ((h b (inl st)).1 some)))
+
+-- a refused feed changes nothing
+pub feed_refused : (s t : State) (bytes : List ℕ) (r : Result (Unit {0}) RedisError) → s.failed ≡ false → ((b : List ℕ) → StandsAfter s b → Feeds b bytes s t r) → is_err r ≡ true → t ≡ s
+feed_refused s t bytes (Ok u) w h e = absurd (true_is_not_false (sym e))
+feed_refused s t bytes (Err x) w h e = (h s.since (stands_now s w)).1
+
+-- the value at the start of bytes that are all there
+pub first_value : (l : Limits) (bytes rest : List ℕ) (taken : ℕ) (v : Value) (s t : Session) (status : ℕ) → HasValue l bytes v rest → l ≡ s.parser.limits
+    → taken ≡ length bytes - length rest → Appended v s t status → FirstOf bytes taken t status
+first_value l bytes rest taken v s t status h le is (Appended.memory eq same) = FirstOf.memory eq
+first_value l bytes rest taken v s t status h le is (Appended.done eq flat same) =
+    let limits : l ≡ t.parser.limits = le ∙ sym (ap (λ (u : Session). u.parser.limits) same) in
+    let whole : length bytes ≡ length h.prefix + length rest = ap length h.whole ∙ length-append h.prefix rest in
+    FirstOf.value eq (record {
+      value = v;
+      rest = rest;
+      spelled = subst (λ (m : Limits). HasValue m bytes v rest) limits h;
+      reply = flat;
+      taken_is = omega (arith, is, whole);
+    })
+
+-- where a fault shows of which an offset was kept
+shown_at : (l : Limits) (bytes : List ℕ) (taken : ℕ) (o p : Option ℕ) → IsSome o → p ≡ o → IfSome p (FaultShownAt l bytes) → taken ≡ unwrap_or p 0 → FaultShownAt l bytes taken
+shown_at l bytes taken o (Some n) some same shown is = subst (FaultShownAt l bytes) (sym is) shown
+shown_at l bytes taken o None some same shown is = absurd (true_is_not_false (sym (subst IsSome (sym same) some)))
+
+-- why there is no value
+pub first_refused : (l : Limits) (bytes : List ℕ) (taken : ℕ) (t : Session) (e : RedisError) (before : ℕ) (o p : Option ℕ) → CannotTake l bytes e → l ≡ t.parser.limits → t.fault ≡ noted e before
+    → HasOffset e o → p ≡ o → IfSome p (FaultShownAt l bytes) → taken ≡ unwrap_or p 0 → FirstOf bytes taken t (status_of e)
+first_refused l bytes taken t (form.Parse (parsing.Fault f)) before o p h le n some same shown is =
+    FirstOf.malformed refl f (subst (λ (m : Limits). HasFault m bytes f) le (has_fault l bytes f h)) n
+    (subst (λ (m : Limits). FaultShownAt m bytes taken) le (shown_at l bytes taken o p some same shown is))
+first_refused l bytes taken t (form.Parse (parsing.Described d)) before o p h le n some same shown is = FirstOf.memory refl
+first_refused l bytes taken t (form.Parse parsing.OutOfMemory) before o p h le n some same shown is = FirstOf.memory refl
+first_refused l bytes taken t (form.General k x d) before o p h le n some same shown is = FirstOf.memory refl
+first_refused l bytes taken t (form.Io k) before o p h le n some same shown is = FirstOf.memory refl
+first_refused l bytes taken t (form.Server e) before o p h le n some same shown is = FirstOf.memory refl
+first_refused l bytes taken t (form.Pipeline es) before o p h le n some same shown is = FirstOf.memory refl
+first_refused l bytes taken t (form.Aborted es) before o p h le n some same shown is = FirstOf.memory refl
+first_refused l bytes taken t form.OutOfMemory before o p h le n some same shown is = FirstOf.memory refl
+
+-- the same after the session has noted it
+pub first_noted : (l : Limits) (bytes : List ℕ) (taken : ℕ) (m t : Session) (e : RedisError) (o p : Option ℕ) (status : ℕ) → CannotTake l bytes e → l ≡ m.parser.limits
+    → HasOffset e o → p ≡ o → IfSome p (FaultShownAt l bytes) → taken ≡ unwrap_or p 0 → status ≡ status_of e → t ≡ record m { fault = noted e m.fault } → FirstOf bytes taken t status
+first_noted l bytes taken m t e o p status h le some same shown is status_is noted_is =
+    subst (FirstOf bytes taken t) (sym status_is) (subst (λ (u : Session). FirstOf bytes taken u (status_of e)) (sym noted_is)
+    (first_refused l bytes taken (record m { fault = noted e m.fault }) e m.fault o p h le refl some same shown is))

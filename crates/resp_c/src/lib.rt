@@ -1,0 +1,156 @@
+//! The parser and the packer for C: `resp_c.h` says what a C program calls.
+#![tactic(auto)]
+
+ghost use Rattle.std.specs.Prelude.{◌≡◌, None};
+ghost use Rattle.resp_parse.specs.Limits.{usual};
+ghost use Rattle.resp_c.specs.Calls.{Called, Opened, Shown, Told, FirstRead, FaultIs};
+ghost use Rattle.resp_c.specs.Sessions.{Fed, Taken, StateIs};
+
+mod handle;
+mod parts;
+mod session;
+mod slot;
+mod status;
+mod view;
+
+use crate::handle::RespParser;
+use crate::session::Session;
+use crate::status::{CLOSED, DONE, MEMORY, RANGE};
+use crate::view::RespView;
+use resp_parse::Limits;
+use std::alloc::Global;
+
+/// Opens a parser of usual limits, 100 levels and 2^63 - 1 bytes; one that was open is closed.
+#[unsafe(no_mangle)]
+pub extern "C" fn resp_parser_open(alloc: Global, parser: &mut RespParser) -> u32
+    ensures opened { Opened usual parser.old.slot.value parser.new.slot.value result }
+{
+    open(alloc, parser, Limits::default())
+}
+
+/// Opens a parser of values of up to `depth` levels and `bytes` bytes; one that was open is closed.
+#[unsafe(no_mangle)]
+pub extern "C" fn resp_parser_open_within(
+    alloc: Global,
+    parser: &mut RespParser,
+    depth: usize,
+    bytes: usize,
+) -> u32
+    ensures opened { Opened (record { depth = depth; bytes = bytes }) parser.old.slot.value
+        parser.new.slot.value result }
+{
+    open(alloc, parser, Limits { depth, bytes })
+}
+
+/// Opens a parser within limits.
+fn open(alloc: Global, parser: &mut RespParser, limits: Limits) -> u32
+    ensures opened { Opened limits parser.old.slot.value parser.new.slot.value result }
+{
+    let Ok(session) = Session::within(alloc, limits) else {
+        return RANGE;
+    };
+    let Ok(session) = Box::new(alloc, session) else {
+        return MEMORY;
+    };
+    resp_parser_close(alloc, parser);
+    parser.put(session);
+    DONE
+}
+
+/// Closes a parser, and frees what it holds.
+#[unsafe(no_mangle)]
+pub extern "C" fn resp_parser_close(alloc: Global, parser: &mut RespParser)
+    ensures closed { parser.new.slot.value ≡ None }
+{
+    if let Some(session) = parser.take(alloc) {
+        drop(session);
+    }
+}
+
+/// Adds bytes.
+#[unsafe(no_mangle)]
+pub extern "C" fn resp_parser_feed(alloc: Global, parser: &mut RespParser, bytes: &[u8]) -> u32
+    ensures fed { Called (Fed bytes.now) parser.old.slot.value parser.new.slot.value result }
+{
+    let Some(mut session) = parser.take(alloc) else {
+        return CLOSED;
+    };
+    let status = session.feed(bytes);
+    parser.put(session);
+    status
+}
+
+/// Takes the next value, and shows it.
+#[unsafe(no_mangle)]
+pub extern "C" fn resp_parser_next(
+    alloc: Global,
+    parser: &mut RespParser,
+    view: &mut RespView,
+) -> u32
+    ensures taken { Called Taken parser.old.slot.value parser.new.slot.value result }
+    ensures shown { Shown parser.new.slot.value view.old view.new }
+{
+    let Some(mut session) = parser.take(alloc) else {
+        return CLOSED;
+    };
+    let status = session.next();
+    view.show(&session.reply);
+    parser.put(session);
+    status
+}
+
+/// Reads the value at the start of bytes that are all there, and shows it: what the parser holds
+/// isn't touched, but for the reply that it gave last.
+#[unsafe(no_mangle)]
+pub extern "C" fn resp_parser_first(
+    alloc: Global,
+    parser: &mut RespParser,
+    bytes: &[u8],
+    view: &mut RespView,
+    taken: &mut usize,
+) -> u32
+    ensures first { Called (FirstRead bytes.now taken.new) parser.old.slot.value
+        parser.new.slot.value result }
+    ensures shown { Shown parser.new.slot.value view.old view.new }
+{
+    let Some(mut session) = parser.take(alloc) else {
+        return CLOSED;
+    };
+    let status = session.first(alloc, bytes, taken);
+    view.show(&session.reply);
+    parser.put(session);
+    status
+}
+
+/// The state of a parser: 0 for none, 1 between values, 2 within one, 3 after a failure.
+#[unsafe(no_mangle)]
+pub extern "C" fn resp_parser_state(alloc: Global, parser: &mut RespParser) -> u32
+    ensures state { Told StateIs parser.old.slot.value parser.new.slot.value result }
+{
+    let Some(session) = parser.take(alloc) else {
+        return 0;
+    };
+    let state = session.state();
+    parser.put(session);
+    state
+}
+
+/// The number of the fault that was met last, or 0; `offset` is after how many bytes since the last
+/// value it showed, or 0.
+#[unsafe(no_mangle)]
+pub extern "C" fn resp_parser_fault(
+    alloc: Global,
+    parser: &mut RespParser,
+    offset: &mut usize,
+) -> u32
+    ensures fault { Told (FaultIs offset.new) parser.old.slot.value parser.new.slot.value result }
+{
+    *offset = 0;
+    let Some(session) = parser.take(alloc) else {
+        return 0;
+    };
+    let fault = session.fault;
+    *offset = session.parser.fault_offset().unwrap_or(0);
+    parser.put(session);
+    fault
+}

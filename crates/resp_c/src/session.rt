@@ -1,0 +1,179 @@
+//! A parser with the reply that it gave last.
+
+ghost use Rattle.std.specs.Prelude.{◌≡◌, ◌↔◌, [], IfErr, IfOk, IsTrue};
+ghost use Rattle.resp_parse.specs.Limits.{AreLimits};
+ghost use Rattle.resp_parse.specs.State.{StandsAfter};
+ghost use Rattle.resp_c.specs.Sessions.{IsNew, HasFailed, Fed, Taken, FirstOf, StateIs};
+ghost use Rattle.resp_c.specs.Sessions.{Holds, Appended, Kept, number_of};
+ghost use Rattle.resp_c.specs.Sessions.{status_of, noted};
+
+use crate::status::{BETWEEN_VALUES, DONE, FAILED, FAULT, HAS_FAILED, IN_PROGRESS, MEMORY, MORE};
+use resp_flat::FlatReply;
+use resp_parse::{Limits, Parser};
+use resp_value::{FrameFault, ParsingError, RedisError, RedisResult, Value};
+use std::alloc::Global;
+
+/// A parser, and the reply that it gave last.
+#[derive(Drop)]
+pub struct Session {
+    pub parser: Parser,
+    pub reply: FlatReply,
+    /// The number of the fault that was met last; 0 before one was.
+    pub fault: u32,
+    /// Whether a value was lost, since memory ran out over it.
+    pub lost: bool,
+}
+
+impl Session {
+    /// A parser that holds no bytes, within these limits.
+    pub fn within(alloc: Global, limits: Limits) -> RedisResult<Session>
+        ensures new { IfOk result (IsNew limits) }
+        ensures accepts { IfErr result (λ e. AreLimits limits → ⊥) }
+    {
+        Ok(Session {
+            parser: Parser::with_limits(alloc, limits)?,
+            reply: FlatReply::new(alloc),
+            fault: 0,
+            lost: false,
+        })
+    }
+
+    /// Whether the parser has failed, or a value was lost.
+    fn has_failed(&self) -> bool
+        ensures failed { IsTrue result ↔ HasFailed self.now }
+    {
+        self.lost || self.parser.is_failed()
+    }
+
+    /// 1 between values, 2 with a part of one, and 3 after a failure.
+    pub fn state(&self) -> u32
+        ensures state { StateIs self.now result }
+    {
+        if self.has_failed() {
+            return HAS_FAILED;
+        }
+        if self.parser.in_progress() {
+            IN_PROGRESS
+        } else {
+            BETWEEN_VALUES
+        }
+    }
+
+    /// Adds bytes.
+    pub fn feed(&mut self, bytes: &[u8]) -> u32
+        ensures fed { Fed bytes.now self.old self.new result }
+    {
+        if self.has_failed() {
+            return FAILED;
+        }
+        if self.parser.feed(bytes).is_err() {
+            return MEMORY;
+        }
+        DONE
+    }
+
+    /// Takes the next value.
+    pub fn next(&mut self) -> u32
+        ensures taken { Taken self.old self.new result }
+    {
+        self.reply.clear();
+        if self.has_failed() {
+            return FAILED;
+        }
+        match self.parser.take_value() {
+            Ok(Some(value)) => self.keep(&value),
+            Ok(None) => MORE,
+            Err(error) => self.note(&error),
+        }
+    }
+
+    /// The value that these bytes begin with, read by itself, and how many of them spell it; or
+    /// after how many a fault shows.
+    pub fn first(&mut self, alloc: Global, bytes: &[u8], taken: &mut usize) -> u32
+        ensures first { FirstOf bytes.now taken.new self.new result }
+        ensures parser { self.new.parser ≡ self.old.parser }
+        ensures lost { self.new.lost ≡ self.old.lost }
+    {
+        *taken = 0;
+        self.reply.clear();
+        let Ok(mut parser) = parser_over(alloc, self.parser.limits(), bytes) else {
+            return MEMORY;
+        };
+        match parser.take_value() {
+            Ok(Some(value)) => {
+                *taken = bytes.len() - parser.unparsed_len();
+                self.append(&value)
+            }
+            Ok(None) => MORE,
+            Err(error) => {
+                *taken = parser.fault_offset().unwrap_or(0);
+                self.note(&error)
+            }
+        }
+    }
+
+    /// Keeps the number of a fault; an error that is none is memory that ran out.
+    fn note(&mut self, error: &RedisError) -> u32
+        ensures status { result ≡ status_of error.now }
+        ensures noted { self.new ≡ record self.old { fault = noted error.now self.old.fault } }
+    {
+        match error {
+            RedisError::Parse(ParsingError::Fault(fault)) => {
+                self.fault = fault_number(*fault);
+                FAULT
+            }
+            _ => MEMORY,
+        }
+    }
+
+    /// Puts a value in the reply, which is empty.
+    fn append(&mut self, value: &Value) -> u32
+        requires empty { Holds self.old.reply [] [] }
+        ensures appended { Appended value.now self.old self.new result }
+    {
+        if self.reply.append(value).is_ok() {
+            return DONE;
+        }
+        self.reply.clear();
+        MEMORY
+    }
+
+    /// The same of a value that was taken; it is lost where memory runs out.
+    fn keep(&mut self, value: &Value) -> u32
+        requires empty { Holds self.old.reply [] [] }
+        ensures kept { Kept value.now self.old self.new result }
+    {
+        let status = self.append(value);
+        self.lost = status == MEMORY;
+        status
+    }
+}
+
+/// A parser that holds these bytes.
+fn parser_over(alloc: Global, limits: Limits, bytes: &[u8]) -> RedisResult<Parser>
+    ensures limits { IfOk result (λ p. p.limits ≡ limits) }
+    ensures stands { IfOk result (λ p. StandsAfter p bytes.now) }
+{
+    let mut parser = Parser::with_limits(alloc, limits)?;
+    parser.feed(bytes)?;
+    Ok(parser)
+}
+
+/// The number of a fault.
+fn fault_number(fault: FrameFault) -> u32
+    ensures { result ≡ number_of fault }
+{
+    match fault {
+        FrameFault::TooDeep => 1,
+        FrameFault::UnknownType => 2,
+        FrameFault::LineNotUtf8 => 3,
+        FrameFault::NotInteger => 4,
+        FrameFault::NegativeLength => 5,
+        FrameFault::BodyEnd => 6,
+        FrameFault::NotBoolean => 7,
+        FrameFault::NotDouble => 8,
+        FrameFault::NoVerbatimFormat => 9,
+        FrameFault::BadPushKind => 10,
+        FrameFault::TooLong => 11,
+    }
+}

@@ -1,0 +1,2 @@
+pub mod TokenSizes
+pub mod Appending
