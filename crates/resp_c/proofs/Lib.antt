@@ -1,2 +1,4 @@
 mod AsBox
+pub mod Bools
+pub mod Cutting
 pub mod Outcomes

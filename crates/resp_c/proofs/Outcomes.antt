@@ -13,6 +13,7 @@ use Rattle.resp_parse.specs.Limited.{HasValue, HasFault, FaultShownAt}
 use Rattle.resp_parse.specs.State.{State, StandsAfter, FailedAfter, HasOffset}
 use Rattle.resp_parse.specs.Calls.{CannotTake, Feeds}
 use Rattle.resp_c.specs.declared.session.Session.{Session}
+use Rattle.resp_c.proofs.Bools.{true_is_not_false}
 use Rattle.resp_c.specs.Sessions.{HasFailed, Works, GoesOnAfter, MeetsFault, Taken, Appended, FirstOf, status_of, noted, number_of}
 
 -- a session that hasn't failed works
@@ -83,13 +84,6 @@ refused s t form.OutOfMemory w h n = memory_ran_out s t _ w h
 pub note_refused : (s m t : Session) (e : RedisError) (status : ℕ) → Works s → Refuses s m e → m.fault ≡ s.fault → status ≡ status_of e → t ≡ record m { fault = noted e m.fault } → Taken s t status
 note_refused s m t e status w h f is same =
     subst (Taken s t) (sym is) (subst (λ (u : Session). Taken s u (status_of e)) (sym same) (refused s (record m { fault = noted e m.fault }) e w h (ap (noted e) f)))
-
-abbrev IsTrue' : Bool → Type 0
-IsTrue' true = Unit {0}
-IsTrue' false = ⊥
-
-true_is_not_false : true ≡ false → ⊥
-true_is_not_false e = subst IsTrue' e tt
 
 -- a session of which `has_failed` is false works
 pub works_unless : (s : Session) → (false ≡ true ↔ HasFailed s) → Works s

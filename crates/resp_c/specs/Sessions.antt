@@ -1,5 +1,5 @@
 -- What the calls of a session do: what is returned, and what the session is then.
-use Rattle.std.specs.Prelude.{◌≡◌, ◌≢◌, ◌⊎◌, ◌+◌, ℕ, Bool, true, false, List, [], ◌++◌, length}
+use Rattle.std.specs.Prelude.{◌≡◌, ◌≢◌, ◌⊎◌, ◌+◌, ℕ, true, false, List, [], ◌++◌, length}
 use Rattle.resp_value.specs.declared.value.Value.{Value}
 use Rattle.resp_errors.specs.declared.kinds.FrameFault.{FrameFault}
 use Rattle.resp_errors.specs.declared.kinds.FrameFault.TheVariants as frame
@@ -8,7 +8,7 @@ use Rattle.resp_errors.specs.declared.redis_error.RedisError.{RedisError}
 use Rattle.resp_errors.specs.declared.redis_error.RedisError.TheVariants as form
 use Rattle.resp_parse.specs.declared.limits.Limits.{Limits}
 use Rattle.resp_parse.specs.Limited.{HasValue, HasFault, FaultShownAt, Awaits}
-use Rattle.resp_parse.specs.State.{State, StandsAfter, FailedAfter, IsBetweenValues}
+use Rattle.resp_parse.specs.State.{StandsAfter, FailedAfter, IsBetweenValues}
 use Rattle.resp_flat.specs.declared.token.Token.{Token}
 use Rattle.resp_flat.specs.declared.flat_reply.FlatReply.{FlatReply}
 use Rattle.resp_flat.specs.FlatReplies.{IsFlatOf}

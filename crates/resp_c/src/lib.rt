@@ -1,12 +1,15 @@
 //! The parser and the packer for C: `resp_c.h` says what a C program calls.
 #![tactic(auto)]
 
-ghost use Rattle.std.specs.Prelude.{◌≡◌, None};
+ghost use Rattle.std.specs.Prelude.{◌≡◌, None, length};
 ghost use Rattle.resp_parse.specs.Limits.{usual};
 ghost use Rattle.resp_c.specs.Calls.{Called, Opened, Shown, Told, FirstRead, FaultIs};
 ghost use Rattle.resp_c.specs.Sessions.{Fed, Taken, StateIs};
+ghost use Rattle.resp_c.specs.Packing.{PackedInto, FitBoth, total, cuts, request_of};
+ghost use Rattle.resp_command.specs.Packed.{packed_or_none};
 
 mod handle;
+mod packing;
 mod parts;
 mod session;
 mod slot;
@@ -14,6 +17,7 @@ mod status;
 mod view;
 
 use crate::handle::RespParser;
+use crate::packing::{give, pack, pack_pipeline};
 use crate::session::Session;
 use crate::status::{CLOSED, DONE, MEMORY, RANGE};
 use crate::view::RespView;
@@ -153,4 +157,54 @@ pub extern "C" fn resp_parser_fault(
     *offset = session.parser.fault_offset().unwrap_or(0);
     parser.put(session);
     fault
+}
+
+/// Packs a command: its arguments' bytes stand one after another in `args`, and `sizes` has the size
+/// of each. `size` is how many bytes the request has.
+#[unsafe(no_mangle)]
+pub extern "C" fn resp_pack(
+    alloc: Global,
+    args: &[u8],
+    sizes: &[usize],
+    out: &mut [u8],
+    size: &mut usize,
+) -> u32
+    ensures packed { PackedInto (total sizes.now ≡ length args.now)
+        (packed_or_none (cuts sizes.now args.now)) out.old out.new size.new result }
+{
+    *size = 0;
+    match pack(alloc, args, sizes) {
+        Ok(bytes) => give(bytes.as_slice(), out, size),
+        Err(status) => status,
+    }
+}
+
+/// Packs commands, in a transaction where `atomic`: `counts` has how many arguments each has.
+#[unsafe(no_mangle)]
+pub extern "C" fn resp_pack_pipeline(
+    alloc: Global,
+    args: &[u8],
+    sizes: &[usize],
+    counts: &[usize],
+    atomic: bool,
+    out: &mut [u8],
+    size: &mut usize,
+) -> u32
+    ensures packed { PackedInto (FitBoth counts.now sizes.now args.now)
+        (request_of atomic (cuts counts.now (cuts sizes.now args.now))) out.old out.new size.new
+        result }
+{
+    *size = 0;
+    match pack_pipeline(alloc, args, sizes, counts, atomic) {
+        Ok(bytes) => give(bytes.as_slice(), out, size),
+        Err(status) => status,
+    }
+}
+
+/// The version: major, minor and patch, 8 bits each.
+#[unsafe(no_mangle)]
+pub extern "C" fn resp_version() -> u32
+    ensures version { result ≡ 256 }
+{
+    256
 }
