@@ -3,6 +3,7 @@ pub mod BreaksFound
 pub mod CutTexts
 pub mod DoublesReadBack
 pub mod EncodedSpells
+pub mod FlatWires
 pub mod Levels
 pub mod LossyTexts
 pub mod NumbersReadBack

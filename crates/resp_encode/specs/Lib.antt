@@ -1,5 +1,6 @@
 pub mod Appending
 pub mod Encoding
 pub mod Encodings
+pub mod FlatLaw
 pub mod Resp2
 pub mod Resp2Encoding

@@ -3,6 +3,7 @@
 ghost use Rattle.std.specs.Prelude.{◌≡◌, ℕ};
 ghost use Rattle.resp_value.specs.declared.value.Value.{Value};
 ghost use Rattle.resp_encode.specs.Encoding.{LawOfEncoding};
+ghost use Rattle.resp_encode.specs.FlatLaw.{LawOfFlatReplies};
 ghost use Rattle.resp_encode.specs.Resp2.{resp2_of, IsResp2};
 ghost use Rattle.resp_encode.specs.Resp2Encoding.{LawOfResp2Encoding};
 
@@ -28,4 +29,9 @@ pub fn law_of_encoding()
 /// begins with one of the five type bytes of RESP2.
 pub fn law_of_resp2_encoding()
     ensures law { (d : ℕ) (v : Value) → LawOfResp2Encoding d v }
+{}
+
+/// The tokens and the text of a flat reply are those of one value, of all that a server can send.
+pub fn law_of_flat_replies()
+    ensures law { (d : ℕ) (v w : Value) → LawOfFlatReplies d v w }
 {}
