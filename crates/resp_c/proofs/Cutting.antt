@@ -1,10 +1,10 @@
 -- Lists that are cut into pieces of given sizes.
-use Rattle.std.proofs.Common.{◌≡◌, ℕ, zero, suc, ◌+◌, ◌≤◌, ◌<◌, length, get_or, List, [], ◌∷◌, take, drop, Result, Ok, Err, IsErr, IsErrAnd, is_err, OnOk, Bool, true, false, ◌++◌, IfErr, subst, refl, ap, sym, ◌∙◌, arith}
+use Rattle.std.proofs.Common.{◌≡◌, ℕ, zero, suc, ◌+◌, ◌≤◌, ◌<◌, length, get_or, List, [], ◌∷◌, take, drop, Result, Ok, Err, IsErr, IsErrAnd, is_err, OnOk, false, ◌++◌, IfErr, subst, refl, ap, sym, ◌∙◌, arith}
 use Rattle.std.proofs.lemmas.List.{drop-drop, drop_more, map-append}
 use Rattle.resp_command.specs.Command.{Command, new_command}
 use Rattle.resp_pipeline.specs.Pipeline.{Plan, with_command, args_of_commands}
 use Rattle.resp_c.proofs.Bools.{true_is_not_false}
-use Rattle.resp_c.specs.Packing.{cuts, total, FitBoth, Refuses}
+use Rattle.resp_c.specs.Packing.{cuts, total, Refuses}
 
 -- what is left after some and then others
 pub drop_after : {A : Type 0} (k m : ℕ) (xs : List A) → drop m (drop k xs) ≡ drop (k + m) xs

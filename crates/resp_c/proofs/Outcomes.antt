@@ -1,5 +1,5 @@
 -- What the calls of a parser mean for the session that holds it.
-use Rattle.std.proofs.Common.{◌≡◌, ◌≢◌, ◌⊎◌, ◌↔◌, ◌+◌, ◌-◌, ◌≤◌, ℕ, Bool, true, false, List, [], ◌∷◌, ◌++◌, length, Option, Some, None, IsTrue, inl, inr, Result, Ok, Err, is_err, IsSome, refl, sym, ap, subst, ◌∙◌, arith, IfSome}
+use Rattle.std.proofs.Common.{◌≡◌, ◌≢◌, ◌⊎◌, ◌↔◌, ◌+◌, ◌-◌, ℕ, true, false, List, [], ◌∷◌, length, Option, Some, None, inl, inr, Result, Ok, Err, is_err, IsSome, refl, sym, ap, subst, ◌∙◌, arith, IfSome}
 use Rattle.std.specs.Option.{unwrap_or}
 use Rattle.std.proofs.lemmas.Bool.{false_from_ne_true}
 use Rattle.std.proofs.lemmas.List.{length-append}
@@ -14,7 +14,7 @@ use Rattle.resp_parse.specs.State.{State, StandsAfter, FailedAfter, HasOffset}
 use Rattle.resp_parse.specs.Calls.{CannotTake, Feeds}
 use Rattle.resp_c.specs.declared.session.Session.{Session}
 use Rattle.resp_c.proofs.Bools.{true_is_not_false}
-use Rattle.resp_c.specs.Sessions.{HasFailed, Works, GoesOnAfter, MeetsFault, Taken, Appended, FirstOf, status_of, noted, number_of}
+use Rattle.resp_c.specs.Sessions.{HasFailed, Works, Taken, Appended, FirstOf, status_of, with_fault}
 
 -- a session that hasn't failed works
 pub works_of : (s : Session) → (HasFailed s → ⊥) → Works s
@@ -65,25 +65,34 @@ Refuses s t e = (b : List ℕ) → StandsAfter s.parser b → CannotTake t.parse
 memory_ran_out : (s t : Session) (e : RedisError) → Works s → Refuses s t e → Taken s t 3
 memory_ran_out s t e w h = Taken.memory refl (inl (failed_after t.parser s.parser.since (h s.parser.since (stands_now s.parser w.parser)).1))
 
-pub refused : (s t : Session) (e : RedisError) → Works s → Refuses s t e → t.fault ≡ noted e s.fault → Taken s t (status_of e)
-refused s t (form.Parse (parsing.Fault f)) w h n = Taken.malformed refl w (λ b g. record {
+-- where a fault shows of which an offset was kept
+shown_at : (l : Limits) (bytes : List ℕ) (taken : ℕ) (o p : Option ℕ) → IsSome o → p ≡ o → IfSome p (FaultShownAt l bytes) → taken ≡ unwrap_or p 0 → FaultShownAt l bytes taken
+shown_at l bytes taken o (Some n) some same shown is = subst (FaultShownAt l bytes) (sym is) shown
+shown_at l bytes taken o None some same shown is = absurd (true_is_not_false (sym (subst IsSome (sym same) some)))
+
+-- m is the session after its parser refused, which told this place
+pub refused : (s m : Session) (e : RedisError) (p : Option ℕ) (place : ℕ) → Works s → Refuses s m e → HasOffset e m.parser.fault_offset → p ≡ m.parser.fault_offset
+    → ((b : List ℕ) → FailedAfter m.parser b → IfSome p (FaultShownAt m.parser.limits b)) → place ≡ unwrap_or p 0 → Taken s (with_fault e place m) (status_of e)
+refused s m (form.Parse (parsing.Fault f)) p place w h some same shows is = Taken.malformed refl w (λ b g. record {
   fault = f;
-  shown = has_fault t.parser.limits b f (h b g.stands).0;
-  number = n;
+  shown = has_fault m.parser.limits b f (h b g.stands).0;
+  number = refl;
+  place = shown_at m.parser.limits b place m.parser.fault_offset p some same (shows b (h b g.stands).1) is;
   failed = (h b g.stands).1;
 })
-refused s t (form.Parse (parsing.Described d)) w h n = memory_ran_out s t _ w h
-refused s t (form.Parse parsing.OutOfMemory) w h n = memory_ran_out s t _ w h
-refused s t (form.General k x d) w h n = memory_ran_out s t _ w h
-refused s t (form.Io k) w h n = memory_ran_out s t _ w h
-refused s t (form.Server e) w h n = memory_ran_out s t _ w h
-refused s t (form.Pipeline es) w h n = memory_ran_out s t _ w h
-refused s t (form.Aborted es) w h n = memory_ran_out s t _ w h
-refused s t form.OutOfMemory w h n = memory_ran_out s t _ w h
+refused s m (form.Parse (parsing.Described d)) p place w h some same shows is = memory_ran_out s m _ w h
+refused s m (form.Parse parsing.OutOfMemory) p place w h some same shows is = memory_ran_out s m _ w h
+refused s m (form.General k x d) p place w h some same shows is = memory_ran_out s m _ w h
+refused s m (form.Io k) p place w h some same shows is = memory_ran_out s m _ w h
+refused s m (form.Server e) p place w h some same shows is = memory_ran_out s m _ w h
+refused s m (form.Pipeline es) p place w h some same shows is = memory_ran_out s m _ w h
+refused s m (form.Aborted es) p place w h some same shows is = memory_ran_out s m _ w h
+refused s m form.OutOfMemory p place w h some same shows is = memory_ran_out s m _ w h
 
-pub note_refused : (s m t : Session) (e : RedisError) (status : ℕ) → Works s → Refuses s m e → m.fault ≡ s.fault → status ≡ status_of e → t ≡ record m { fault = noted e m.fault } → Taken s t status
-note_refused s m t e status w h f is same =
-    subst (Taken s t) (sym is) (subst (λ (u : Session). Taken s u (status_of e)) (sym same) (refused s (record m { fault = noted e m.fault }) e w h (ap (noted e) f)))
+pub note_refused : (s m t : Session) (e : RedisError) (p : Option ℕ) (place status : ℕ) → Works s → Refuses s m e → HasOffset e m.parser.fault_offset → p ≡ m.parser.fault_offset
+    → ((b : List ℕ) → FailedAfter m.parser b → IfSome p (FaultShownAt m.parser.limits b)) → place ≡ unwrap_or p 0 → status ≡ status_of e → t ≡ with_fault e place m → Taken s t status
+note_refused s m t e p place status w h some same shows is status_is noted =
+    subst (Taken s t) (sym status_is) (subst (λ (u : Session). Taken s u (status_of e)) (sym noted) (refused s m e p place w h some same shows is))
 
 -- a session of which `has_failed` is false works
 pub works_unless : (s : Session) → (false ≡ true ↔ HasFailed s) → Works s
@@ -113,29 +122,24 @@ first_value l bytes rest taken v s t status h le is (Appended.done eq flat same)
       taken_is = omega (arith, is, whole);
     })
 
--- where a fault shows of which an offset was kept
-shown_at : (l : Limits) (bytes : List ℕ) (taken : ℕ) (o p : Option ℕ) → IsSome o → p ≡ o → IfSome p (FaultShownAt l bytes) → taken ≡ unwrap_or p 0 → FaultShownAt l bytes taken
-shown_at l bytes taken o (Some n) some same shown is = subst (FaultShownAt l bytes) (sym is) shown
-shown_at l bytes taken o None some same shown is = absurd (true_is_not_false (sym (subst IsSome (sym same) some)))
-
 -- why there is no value
-pub first_refused : (l : Limits) (bytes : List ℕ) (taken : ℕ) (t : Session) (e : RedisError) (before : ℕ) (o p : Option ℕ) → CannotTake l bytes e → l ≡ t.parser.limits → t.fault ≡ noted e before
-    → HasOffset e o → p ≡ o → IfSome p (FaultShownAt l bytes) → taken ≡ unwrap_or p 0 → FirstOf bytes taken t (status_of e)
-first_refused l bytes taken t (form.Parse (parsing.Fault f)) before o p h le n some same shown is =
-    FirstOf.malformed refl f (subst (λ (m : Limits). HasFault m bytes f) le (has_fault l bytes f h)) n
-    (subst (λ (m : Limits). FaultShownAt m bytes taken) le (shown_at l bytes taken o p some same shown is))
-first_refused l bytes taken t (form.Parse (parsing.Described d)) before o p h le n some same shown is = FirstOf.memory refl
-first_refused l bytes taken t (form.Parse parsing.OutOfMemory) before o p h le n some same shown is = FirstOf.memory refl
-first_refused l bytes taken t (form.General k x d) before o p h le n some same shown is = FirstOf.memory refl
-first_refused l bytes taken t (form.Io k) before o p h le n some same shown is = FirstOf.memory refl
-first_refused l bytes taken t (form.Server e) before o p h le n some same shown is = FirstOf.memory refl
-first_refused l bytes taken t (form.Pipeline es) before o p h le n some same shown is = FirstOf.memory refl
-first_refused l bytes taken t (form.Aborted es) before o p h le n some same shown is = FirstOf.memory refl
-first_refused l bytes taken t form.OutOfMemory before o p h le n some same shown is = FirstOf.memory refl
+pub first_refused : (l : Limits) (bytes : List ℕ) (taken : ℕ) (m : Session) (e : RedisError) (o p : Option ℕ) → CannotTake l bytes e → l ≡ m.parser.limits
+    → HasOffset e o → p ≡ o → IfSome p (FaultShownAt l bytes) → taken ≡ unwrap_or p 0 → FirstOf bytes taken (with_fault e taken m) (status_of e)
+first_refused l bytes taken m (form.Parse (parsing.Fault f)) o p h le some same shown is =
+    FirstOf.malformed refl f (subst (λ (n : Limits). HasFault n bytes f) le (has_fault l bytes f h)) refl
+    (subst (λ (n : Limits). FaultShownAt n bytes taken) le (shown_at l bytes taken o p some same shown is)) refl
+first_refused l bytes taken m (form.Parse (parsing.Described d)) o p h le some same shown is = FirstOf.memory refl
+first_refused l bytes taken m (form.Parse parsing.OutOfMemory) o p h le some same shown is = FirstOf.memory refl
+first_refused l bytes taken m (form.General k x d) o p h le some same shown is = FirstOf.memory refl
+first_refused l bytes taken m (form.Io k) o p h le some same shown is = FirstOf.memory refl
+first_refused l bytes taken m (form.Server e) o p h le some same shown is = FirstOf.memory refl
+first_refused l bytes taken m (form.Pipeline es) o p h le some same shown is = FirstOf.memory refl
+first_refused l bytes taken m (form.Aborted es) o p h le some same shown is = FirstOf.memory refl
+first_refused l bytes taken m form.OutOfMemory o p h le some same shown is = FirstOf.memory refl
 
 -- the same after the session has noted it
 pub first_noted : (l : Limits) (bytes : List ℕ) (taken : ℕ) (m t : Session) (e : RedisError) (o p : Option ℕ) (status : ℕ) → CannotTake l bytes e → l ≡ m.parser.limits
-    → HasOffset e o → p ≡ o → IfSome p (FaultShownAt l bytes) → taken ≡ unwrap_or p 0 → status ≡ status_of e → t ≡ record m { fault = noted e m.fault } → FirstOf bytes taken t status
-first_noted l bytes taken m t e o p status h le some same shown is status_is noted_is =
-    subst (FirstOf bytes taken t) (sym status_is) (subst (λ (u : Session). FirstOf bytes taken u (status_of e)) (sym noted_is)
-    (first_refused l bytes taken (record m { fault = noted e m.fault }) e m.fault o p h le refl some same shown is))
+    → HasOffset e o → p ≡ o → IfSome p (FaultShownAt l bytes) → taken ≡ unwrap_or p 0 → status ≡ status_of e → t ≡ with_fault e taken m → FirstOf bytes taken t status
+first_noted l bytes taken m t e o p status h le some same shown is status_is noted =
+    subst (FirstOf bytes taken t) (sym status_is) (subst (λ (u : Session). FirstOf bytes taken u (status_of e)) (sym noted)
+    (first_refused l bytes taken m e o p h le some same shown is))

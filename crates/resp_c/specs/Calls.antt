@@ -1,6 +1,5 @@
 -- What the calls of a handle do.
 use Rattle.std.specs.Prelude.{◌≡◌, ℕ, List, Option, None, Some}
-use Rattle.std.specs.Option.{unwrap_or}
 use Rattle.resp_parse.specs.declared.limits.Limits.{Limits}
 use Rattle.resp_parse.specs.Limits.{AreLimits}
 use Rattle.resp_c.specs.declared.session.Session.{Session}
@@ -44,4 +43,4 @@ pub record FirstRead (bytes : List ℕ) (taken : ℕ) (s t : Session) (status : 
 -- the fault that was met last, and its place
 pub record FaultIs (offset : ℕ) (s : Session) (fault : ℕ) : Type 0 where
   pub fault_is : fault ≡ s.fault
-  pub offset_is : offset ≡ unwrap_or s.parser.fault_offset 0
+  pub offset_is : offset ≡ s.place

@@ -53,14 +53,15 @@ pub record Works (s : Session) : Type 0 where
 -- The status of a call: 0 for more bytes that are needed, 1 for done, 2 for a fault, 3 for memory
 -- that ran out, 4 for a session that has failed before.
 
--- that of an error of a parser that hadn't failed, and the number of the last fault after it
+-- that of an error of a parser that hadn't failed
 abbrev pub status_of : RedisError → ℕ
 status_of (form.Parse (parsing.Fault f)) = 2
 status_of _ = 3
 
-abbrev pub noted : RedisError → ℕ → ℕ
-noted (form.Parse (parsing.Fault f)) before = number_of f
-noted _ before = before
+-- after a fault its number and its place are kept
+abbrev pub with_fault : RedisError → ℕ → Session → Session
+with_fault (form.Parse (parsing.Fault f)) place s = record s { fault = number_of f; place = place }
+with_fault _ place s = s
 
 -- bytes were added; or nothing changed
 pub data Fed (bytes : List ℕ) (s t : Session) (status : ℕ) : Type 0 where
@@ -82,6 +83,7 @@ pub record MeetsFault (b : List ℕ) (t : Session) : Type 0 where
   pub fault : FrameFault
   pub shown : HasFault t.parser.limits b fault
   pub number : t.fault ≡ number_of fault
+  pub place : FaultShownAt t.parser.limits b t.place
   pub failed : FailedAfter t.parser b
 
 -- a value; more bytes that are needed; a fault; or the session has failed, now or before
@@ -106,7 +108,7 @@ pub data FirstOf (bytes : List ℕ) (taken : ℕ) (t : Session) (status : ℕ) :
   more : status ≡ 0 → Awaits t.parser.limits bytes → FirstOf bytes taken t status
   value : status ≡ 1 → GivesFirst bytes taken t → FirstOf bytes taken t status
   malformed : status ≡ 2 → (f : FrameFault) → HasFault t.parser.limits bytes f → t.fault ≡ number_of f →
-      FaultShownAt t.parser.limits bytes taken → FirstOf bytes taken t status
+      FaultShownAt t.parser.limits bytes taken → t.place ≡ taken → FirstOf bytes taken t status
   memory : status ≡ 3 → FirstOf bytes taken t status
 
 -- the reply holds these
@@ -124,7 +126,8 @@ pub data Kept (v : Value) (s t : Session) (status : ℕ) : Type 0 where
   done : status ≡ 1 → IsFlatOf t.reply v → t.lost ≡ false → t.parser ≡ s.parser → Kept v s t status
   memory : status ≡ 3 → t.lost ≡ true → Kept v s t status
 
--- 1 between values, 2 with a part of one, and 3 after a failure
+-- 1 where no bytes are held, 2 where some are that aren't part of a value that was taken, and 3 after
+-- a failure
 pub data StateIs (s : Session) (state : ℕ) : Type 0 where
   between : state ≡ 1 → Works s → ((b : List ℕ) → StandsAfter s.parser b → b ≡ []) → StateIs s state
   within : state ≡ 2 → Works s → ((b : List ℕ) → StandsAfter s.parser b → b ≢ []) → StateIs s state

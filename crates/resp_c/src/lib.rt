@@ -126,7 +126,8 @@ pub extern "C" fn resp_parser_first(
     status
 }
 
-/// The state of a parser: 0 for none, 1 between values, 2 within one, 3 after a failure.
+/// The state of a parser: 0 for none; 1 where it holds no bytes; 2 where it holds bytes that aren't
+/// part of a value that was taken; 3 after a failure.
 #[unsafe(no_mangle)]
 pub extern "C" fn resp_parser_state(alloc: Global, parser: &mut RespParser) -> u32
     ensures state { Told StateIs parser.old.slot.value parser.new.slot.value result }
@@ -139,8 +140,8 @@ pub extern "C" fn resp_parser_state(alloc: Global, parser: &mut RespParser) -> u
     state
 }
 
-/// The number of the fault that was met last, or 0; `offset` is after how many bytes since the last
-/// value it showed, or 0.
+/// The number of the fault that was met last, or 0; `offset` is after how many bytes it showed: since
+/// the last value, or of those that were read by themselves.
 #[unsafe(no_mangle)]
 pub extern "C" fn resp_parser_fault(
     alloc: Global,
@@ -154,7 +155,7 @@ pub extern "C" fn resp_parser_fault(
         return 0;
     };
     let fault = session.fault;
-    *offset = session.parser.fault_offset().unwrap_or(0);
+    *offset = session.place;
     parser.put(session);
     fault
 }

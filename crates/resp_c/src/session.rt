@@ -5,7 +5,7 @@ ghost use Rattle.resp_parse.specs.Limits.{AreLimits};
 ghost use Rattle.resp_parse.specs.State.{StandsAfter};
 ghost use Rattle.resp_c.specs.Sessions.{IsNew, HasFailed, Fed, Taken, FirstOf, StateIs};
 ghost use Rattle.resp_c.specs.Sessions.{Holds, Appended, Kept, number_of};
-ghost use Rattle.resp_c.specs.Sessions.{status_of, noted};
+ghost use Rattle.resp_c.specs.Sessions.{status_of, with_fault};
 
 use crate::status::{BETWEEN_VALUES, DONE, FAILED, FAULT, HAS_FAILED, IN_PROGRESS, MEMORY, MORE};
 use resp_flat::FlatReply;
@@ -20,6 +20,9 @@ pub struct Session {
     pub reply: FlatReply,
     /// The number of the fault that was met last; 0 before one was.
     pub fault: u32,
+    /// After how many bytes it showed: since the last value, or of those that were read by
+    /// themselves.
+    pub place: usize,
     /// Whether a value was lost, since memory ran out over it.
     pub lost: bool,
 }
@@ -34,6 +37,7 @@ impl Session {
             parser: Parser::with_limits(alloc, limits)?,
             reply: FlatReply::new(alloc),
             fault: 0,
+            place: 0,
             lost: false,
         })
     }
@@ -45,7 +49,8 @@ impl Session {
         self.lost || self.parser.is_failed()
     }
 
-    /// 1 between values, 2 with a part of one, and 3 after a failure.
+    /// 1 where it holds no bytes, 2 where it holds some that aren't part of a value that was taken,
+    /// and 3 after a failure.
     pub fn state(&self) -> u32
         ensures state { StateIs self.now result }
     {
@@ -83,7 +88,10 @@ impl Session {
         match self.parser.take_value() {
             Ok(Some(value)) => self.keep(&value),
             Ok(None) => MORE,
-            Err(error) => self.note(&error),
+            Err(error) => {
+                let place = self.parser.fault_offset().unwrap_or(0);
+                self.note(&error, place)
+            }
         }
     }
 
@@ -107,19 +115,20 @@ impl Session {
             Ok(None) => MORE,
             Err(error) => {
                 *taken = parser.fault_offset().unwrap_or(0);
-                self.note(&error)
+                self.note(&error, *taken)
             }
         }
     }
 
-    /// Keeps the number of a fault; an error that is none is memory that ran out.
-    fn note(&mut self, error: &RedisError) -> u32
+    /// Keeps the number and the place of a fault; an error that is none is memory that ran out.
+    fn note(&mut self, error: &RedisError, place: usize) -> u32
         ensures status { result ≡ status_of error.now }
-        ensures noted { self.new ≡ record self.old { fault = noted error.now self.old.fault } }
+        ensures noted { self.new ≡ with_fault error.now place self.old }
     {
         match error {
             RedisError::Parse(ParsingError::Fault(fault)) => {
                 self.fault = fault_number(*fault);
+                self.place = place;
                 FAULT
             }
             _ => MEMORY,

@@ -17,9 +17,9 @@ pub const ROOM: u32 = 6;
 /// A limit or a size is out of range.
 pub const RANGE: u32 = 7;
 
-/// The parser is between values.
+/// The parser holds no bytes.
 pub const BETWEEN_VALUES: u32 = 1;
-/// The parser has a part of a value.
+/// The parser holds bytes that aren't part of a value that was taken.
 pub const IN_PROGRESS: u32 = 2;
 /// The parser has failed.
 pub const HAS_FAILED: u32 = 3;

@@ -1,4 +1,4 @@
-use Rattle.std.proofs.Common.{sym, refl}
+use Rattle.std.proofs.Common.{refl}
 use Rattle.resp_c.specs.Calls.{Opened}
 use Rattle.resp_c.proofs.open.Goals as goal
 

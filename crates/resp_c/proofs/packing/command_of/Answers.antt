@@ -1,4 +1,4 @@
-use Rattle.std.proofs.Common.{rules, ℕ, ◌≡◌, ◌<◌, ◌≤◌, ◌∷◌, ◌++◌, [], length, get_or, sym, ◌∙◌, arith, append_assoc}
+use Rattle.std.proofs.Common.{rules, ◌≡◌, ◌<◌, ◌≤◌, ◌∷◌, ◌++◌, [], length, get_or, sym, ◌∙◌, arith, append_assoc}
 use Rattle.resp_c.proofs.Cutting.{cut_next, total-drop}
 use Rattle.resp_c.proofs.packing.command_of.Goals as goal
 

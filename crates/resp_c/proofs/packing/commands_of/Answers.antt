@@ -1,7 +1,6 @@
-use Rattle.std.proofs.Common.{rules, ℕ, ◌≡◌, ◌<◌, ◌≤◌, ◌∷◌, ◌++◌, [], List, length, get_or, map, sym, ap, ◌∙◌, arith, append_assoc}
-use Rattle.std.proofs.lemmas.Grind.{common_steps}
+use Rattle.std.proofs.Common.{rules, ◌≡◌, ◌<◌, ◌≤◌, ◌∷◌, ◌++◌, [], length, get_or, arith, append_assoc}
 use Rattle.resp_pipeline.specs.Pipeline.{args_of_commands}
-use Rattle.resp_c.specs.Packing.{cuts, total, FitBoth}
+use Rattle.resp_c.specs.Packing.{cuts, FitBoth}
 use Rattle.resp_c.proofs.Cutting.{command_next, total-drop, total-parts, exit_refuses, command_added}
 use Rattle.resp_c.proofs.packing.commands_of.Goals as goal
 

@@ -8,4 +8,4 @@ pub returns-then-is_err : goal.returns-then-is_err
 returns-then-is_err c =
     let s = c.args.self.now in
     let same = feed_refused s.parser c.feed.new.self c.args.bytes.now c.feed.result (works_unless s c.if-has_failed.ensures.failed).parser c.feed.ensures.feeds (search rules) in
-    record { fed = Fed.memory refl (ap (λ (p : State). record { parser = p; reply = s.reply; fault = s.fault; lost = s.lost }) same) }
+    record { fed = Fed.memory refl (ap (λ (p : State). record { parser = p; reply = s.reply; fault = s.fault; place = s.place; lost = s.lost }) same) }
