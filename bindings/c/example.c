@@ -9,8 +9,9 @@
 #include <stdio.h>
 
 static const char *const kind_names[] = {
-    "nil", "okay", "int", "simple string", "bulk string", "array", "map", "attribute",
-    "server error", "boolean", "double", "big number", "set", "verbatim string", "push",
+    "nil",    "okay",       "int",       "simple string",   "bulk string",
+    "array",  "map",        "attribute", "server error",    "boolean",
+    "double", "big number", "set",       "verbatim string", "push",
 };
 
 static bool has_text(const resp_token *token)
@@ -111,7 +112,7 @@ static int report(resp_parser *parser, uint32_t status)
         fprintf(stderr, "fault %" PRIu32 " after %zu bytes\n", fault, offset);
     else if (status != RESP_MORE)
         fprintf(stderr, "status %" PRIu32 "\n", status);
-    else if (resp_parser_state(parser) == RESP_STATE_WITHIN)
+    else if (resp_parser_state(parser) == RESP_STATE_IN_PROGRESS)
         fprintf(stderr, "the input ends within a value\n");
     else
         return 0;

@@ -9,11 +9,11 @@
  *   1. It sets a handle to RESP_PARSER_INIT, or all its bytes to zero, before it opens it.
  *   2. It never copies a handle, moves it or compares it, and never reads or writes its fields.
  *   3. It closes a handle before the memory of the handle is freed or used again.
- *   4. It never uses a handle in two threads at once, and uses it only in the thread that opened it.
+ *   4. It uses a handle only in the thread that opened it, and never in two threads at once.
  *   5. It never passes NULL. Where a length is 0, the pointer may be any that isn't NULL.
  *   6. A pointer leads to as many bytes, or sizes, as the length beside it says. They may be read,
  *      those of `out` may be written, and nothing else writes them during the call.
- *   7. What a call writes (a handle, a view, a size, `out`) overlaps nothing else that it is passed.
+ *   7. What a call writes (handle, view, size, `out`) overlaps nothing else that it is passed.
  *   8. It uses what a view shows until the next call with the same handle, whichever that is, and
  *      doesn't write it. To keep a value for longer, it copies the tokens and the text.
  *
@@ -50,21 +50,21 @@ enum resp_status {
 
 /* The kind of a token, in a uint8_t. */
 enum resp_kind {
-    RESP_NIL = 0,             /* A null, or a bulk string, array or set of negative length. */
-    RESP_OKAY = 1,            /* The simple string OK. */
-    RESP_INT = 2,             /* An integer: `number`. */
-    RESP_SIMPLE_STRING = 3,   /* A line of UTF-8: `size` bytes of text. */
-    RESP_BULK_STRING = 4,     /* Any bytes: `size` bytes of text. */
-    RESP_ARRAY = 5,           /* `size` values follow. */
-    RESP_MAP = 6,             /* `size` pairs follow, each a key and then a value. */
-    RESP_ATTRIBUTE = 7,       /* `size` pairs follow, and then the value that they describe. */
-    RESP_SERVER_ERROR = 8,    /* An error: `size` bytes, its code, and with a detail ' ' and the detail. */
-    RESP_BOOLEAN = 9,         /* A truth value: `number` is 1 or 0. */
-    RESP_DOUBLE = 10,         /* A floating point number: `size` bytes, as sent, trimmed. */
-    RESP_BIG_NUMBER = 11,     /* An integer of any size: `size` bytes, as sent, unchecked. */
-    RESP_SET = 12,            /* `size` values follow, without an order. */
+    RESP_NIL = 0,           /* A null, or a bulk string, array or set of negative length. */
+    RESP_OKAY = 1,          /* The simple string OK. */
+    RESP_INT = 2,           /* An integer: `number`. */
+    RESP_SIMPLE_STRING = 3, /* A line of UTF-8: `size` bytes of text. */
+    RESP_BULK_STRING = 4,   /* Any bytes: `size` bytes of text. */
+    RESP_ARRAY = 5,         /* `size` values follow. */
+    RESP_MAP = 6,           /* `size` pairs follow, each a key and then a value. */
+    RESP_ATTRIBUTE = 7,     /* `size` pairs follow, and then the value that they describe. */
+    RESP_SERVER_ERROR = 8,  /* An error: `size` bytes, its code, or the code, ' ' and a detail. */
+    RESP_BOOLEAN = 9,       /* A truth value: `number` is 1 or 0. */
+    RESP_DOUBLE = 10,       /* A floating point number: `size` bytes, as sent, trimmed. */
+    RESP_BIG_NUMBER = 11,   /* An integer of any size: `size` bytes, as sent, unchecked. */
+    RESP_SET = 12,          /* `size` values follow, without an order. */
     RESP_VERBATIM_STRING = 13, /* A text for display: `size` bytes, its format, ':' and the text. */
-    RESP_PUSH = 14            /* `size` values follow. The first names its kind, a bulk string. */
+    RESP_PUSH = 14             /* `size` values follow. The first names its kind, a bulk string. */
 };
 
 /* Why bytes can't begin a value. docs/GRAMMAR.md says at which byte each shows. */
@@ -85,10 +85,10 @@ enum resp_fault {
 
 /* Where a parser stands. */
 enum resp_state {
-    RESP_STATE_CLOSED = 0,  /* No parser is open. */
-    RESP_STATE_BETWEEN = 1, /* Between values: it holds no byte of a value that isn't whole. */
-    RESP_STATE_WITHIN = 2,  /* It holds bytes of which no call has given the value yet. */
-    RESP_STATE_FAILED = 3   /* It has failed. */
+    RESP_STATE_CLOSED = 0,         /* No parser is open. */
+    RESP_STATE_BETWEEN_VALUES = 1, /* Between values: it holds no bytes. */
+    RESP_STATE_IN_PROGRESS = 2,    /* It holds bytes, of a part of a value or of whole ones. */
+    RESP_STATE_HAS_FAILED = 3      /* It has failed. */
 };
 
 /* A handle of a parser. All zero is a handle without one. The fields belong to the library. */
@@ -97,12 +97,15 @@ typedef struct resp_parser {
     bool live;
 } resp_parser;
 
-#define RESP_PARSER_INIT { NULL, false }
+#define RESP_PARSER_INIT                                                                           \
+    {                                                                                              \
+        NULL, false                                                                                \
+    }
 
 /* One value of a reply. The values inside it have the tokens after it. */
 typedef struct resp_token {
-    uint8_t kind;   /* one of enum resp_kind */
-    size_t size;    /* how many bytes of text, or how many values or pairs; 0 where it has neither */
+    uint8_t kind; /* one of enum resp_kind */
+    size_t size;  /* how many bytes of text, or how many values or pairs; 0 where it has neither */
     int64_t number; /* the integer or the truth value; else 0 */
     size_t start;   /* where in the text its bytes begin, or those of the values inside it */
 } resp_token;
@@ -112,7 +115,7 @@ typedef struct resp_token {
  * one after another. The bytes of a leaf are text[start] up to, without, text[start + size]; no NUL
  * stands after them. Where a count is 0 the pointer beside it leads nowhere.
  *
- * The library owns what the pointers lead to, and lends it until the next call with the same handle.
+ * The library owns what the pointers lead to, and lends it until the next call with that handle.
  * The program owns the struct itself; it needs no value before a call fills it.
  */
 typedef struct resp_view {
@@ -183,8 +186,8 @@ uint32_t resp_parser_next(resp_parser *parser, resp_view *view);
  * RESP_MEMORY  memory ran out; *taken has no meaning
  * RESP_CLOSED  no parser is open; the view and *taken are as they were
  */
-uint32_t resp_parser_first(resp_parser *parser, const uint8_t *bytes, size_t size,
-                           resp_view *view, size_t *taken);
+uint32_t resp_parser_first(resp_parser *parser, const uint8_t *bytes, size_t size, resp_view *view,
+                           size_t *taken);
 
 /* Where the parser stands: one of enum resp_state. */
 uint32_t resp_parser_state(resp_parser *parser);
@@ -202,8 +205,8 @@ uint32_t resp_parser_fault(resp_parser *parser, size_t *offset);
  *
  * RESP_DONE    the first *size bytes of `out` are the command, and no byte after them was written
  * RESP_ROOM    the command has *size bytes, more than `room`; `out` is as it was
- * RESP_RANGE   the sizes don't add up to args_size
- * RESP_MEMORY  memory ran out
+ * RESP_RANGE   the sizes don't add up to args_size; *size is 0, and `out` is as it was
+ * RESP_MEMORY  memory ran out; *size is 0, and `out` is as it was
  */
 uint32_t resp_pack(const uint8_t *args, size_t args_size, const size_t *sizes, size_t count,
                    uint8_t *out, size_t room, size_t *size);
@@ -211,8 +214,9 @@ uint32_t resp_pack(const uint8_t *args, size_t args_size, const size_t *sizes, s
 /*
  * Packs several commands, to be sent at once. `counts` holds the number of arguments of each of the
  * `command_count` commands, whose sizes stand one after another in the `size_count` entries of
- * `sizes`. Where `atomic` is true, they stand between MULTI and EXEC. Returns what resp_pack does,
- * and RESP_RANGE also where the counts don't add up to size_count.
+ * `sizes`. Where `atomic` is true, they stand between MULTI and EXEC. A command without arguments
+ * is an empty array here, which a server skips. Returns what resp_pack does, and RESP_RANGE also
+ * where the counts don't add up to size_count.
  */
 uint32_t resp_pack_pipeline(const uint8_t *args, size_t args_size, const size_t *sizes,
                             size_t size_count, const size_t *counts, size_t command_count,

@@ -4,8 +4,8 @@
  *
  *     rows FILE.rows ..
  *
- * crates/resp_vectors/ROWS.md says what a row is. Wanted values are texts of Debug; they are compared
- * token by token. They don't show the pairs of an attribute, which are only counted here.
+ * crates/resp_vectors/ROWS.md says what a row is. Wanted values are texts of Debug, with which the
+ * tokens are compared. They don't show the pairs of an attribute, which are only counted here.
  */
 #include "testing.h"
 
@@ -34,21 +34,32 @@ struct walk {
 };
 
 static const char *const fault_names[] = {
-    "none",         "TooDeep",    "UnknownType", "LineNotUtf8",      "NotInteger",  "NegativeLength",
-    "BodyEnd",      "NotBoolean", "NotDouble",   "NoVerbatimFormat", "BadPushKind", "TooLong",
+    "none",    "TooDeep",    "UnknownType", "LineNotUtf8",      "NotInteger",  "NegativeLength",
+    "BodyEnd", "NotBoolean", "NotDouble",   "NoVerbatimFormat", "BadPushKind", "TooLong",
 };
 
-/* Kinds of pushes and formats that have names of their own; others stand as Other("..") and so on. */
+/* Kinds of pushes, and formats, that have a name of their own; the last stands for all others. */
 static const struct name {
     const char *sent;
     const char *shown;
-} push_names[] = {
-    {"invalidate", "Invalidate"},     {"message", "Message"},           {"pmessage", "PMessage"},
-    {"smessage", "SMessage"},         {"unsubscribe", "Unsubscribe"},   {"punsubscribe", "PUnsubscribe"},
-    {"sunsubscribe", "SUnsubscribe"}, {"subscribe", "Subscribe"},       {"psubscribe", "PSubscribe"},
-    {"ssubscribe", "SSubscribe"},     {NULL, "Other"},
-}, format_names[] = {
-    {"mkd", "Markdown"}, {"txt", "Text"}, {NULL, "Unknown"},
+} push_names[] =
+    {
+        {"invalidate", "Invalidate"},
+        {"message", "Message"},
+        {"pmessage", "PMessage"},
+        {"smessage", "SMessage"},
+        {"unsubscribe", "Unsubscribe"},
+        {"punsubscribe", "PUnsubscribe"},
+        {"sunsubscribe", "SUnsubscribe"},
+        {"subscribe", "Subscribe"},
+        {"psubscribe", "PSubscribe"},
+        {"ssubscribe", "SSubscribe"},
+        {NULL, "Other"},
+},
+  format_names[] = {
+      {"mkd", "Markdown"},
+      {"txt", "Text"},
+      {NULL, "Unknown"},
 };
 
 /* Takes a text off the wanted one, if it stands there. */
@@ -141,7 +152,10 @@ static bool same_plain(struct walk *walk, const uint8_t *text, size_t size)
     for (size_t i = 0; i < size; i++) {
         snprintf(shown, sizeof shown, text[i] < ' ' || text[i] == 127 ? "\\x%02X" : "%c", text[i]);
         if (text[i] == '\r' || text[i] == '\n' || text[i] == '\t')
-            snprintf(shown, sizeof shown, "\\%c", text[i] == '\r' ? 'r' : text[i] == '\n' ? 'n' : 't');
+            snprintf(shown, sizeof shown, "\\%c",
+                     text[i] == '\r'   ? 'r'
+                     : text[i] == '\n' ? 'n'
+                                       : 't');
         if (!skip(walk, shown))
             return false;
     }
@@ -182,11 +196,13 @@ static bool same_error(struct walk *walk, const uint8_t *text, size_t size)
 /* A name that is shown as a variant. */
 static bool same_name(struct walk *walk, const struct name *names, const uint8_t *text, size_t size)
 {
-    while (names->sent != NULL && (strlen(names->sent) != size || memcmp(names->sent, text, size) != 0))
+    while (names->sent != NULL &&
+           (strlen(names->sent) != size || memcmp(names->sent, text, size) != 0))
         names++;
     if (!skip(walk, names->shown))
         return false;
-    return names->sent != NULL || (skip(walk, "(") && same_quoted(walk, text, size) && skip(walk, ")"));
+    return names->sent != NULL ||
+           (skip(walk, "(") && same_quoted(walk, text, size) && skip(walk, ")"));
 }
 
 static bool same_verbatim(struct walk *walk, const uint8_t *text, size_t size)
@@ -205,7 +221,8 @@ static bool same_value(struct walk *walk);
 
 static bool same_pair(struct walk *walk)
 {
-    return skip(walk, "(") && same_value(walk) && skip(walk, ", ") && same_value(walk) && skip(walk, ")");
+    return skip(walk, "(") && same_value(walk) && skip(walk, ", ") && same_value(walk) &&
+           skip(walk, ")");
 }
 
 /* `count` values or pairs in brackets. */
@@ -242,8 +259,8 @@ static bool same_push(struct walk *walk, const resp_token *token)
         return false;
     name = &walk->view->tokens[walk->at++];
     return name->kind == RESP_BULK_STRING && skip(walk, "push(") &&
-           same_name(walk, push_names, walk->view->text + name->start, name->size) && skip(walk, ", ") &&
-           same_items(walk, same_value, token->size - 1) && skip(walk, ")");
+           same_name(walk, push_names, walk->view->text + name->start, name->size) &&
+           skip(walk, ", ") && same_items(walk, same_value, token->size - 1) && skip(walk, ")");
 }
 
 static bool same_aggregate(struct walk *walk, const resp_token *token)
@@ -283,7 +300,8 @@ static bool same_value(struct walk *walk)
     case RESP_BOOLEAN:
         return skip(walk, token->number ? "boolean(true)" : "boolean(false)");
     case RESP_SIMPLE_STRING:
-        return skip(walk, "simple-string(") && same_quoted(walk, text, token->size) && skip(walk, ")");
+        return skip(walk, "simple-string(") && same_quoted(walk, text, token->size) &&
+               skip(walk, ")");
     case RESP_BULK_STRING:
         return same_bulk(walk, text, token->size);
     case RESP_SERVER_ERROR:
@@ -291,7 +309,8 @@ static bool same_value(struct walk *walk)
     case RESP_DOUBLE:
         return skip(walk, "double(") && same_plain(walk, text, token->size) && skip(walk, ")");
     case RESP_BIG_NUMBER:
-        return skip(walk, "big-number(") && same_numbers(walk, text, token->size) && skip(walk, ")");
+        return skip(walk, "big-number(") && same_numbers(walk, text, token->size) &&
+               skip(walk, ")");
     case RESP_VERBATIM_STRING:
         return same_verbatim(walk, text, token->size);
     default:
@@ -333,14 +352,15 @@ static bool same_values(struct walk *walk, resp_parser *parser, const char *begi
 
 static bool same_end(struct walk *walk, resp_parser *parser, const char *begin)
 {
-    if (resp_parser_state(parser) == RESP_STATE_WITHIN && !(next_part(walk, begin) && skip(walk, "..")))
+    if (resp_parser_state(parser) == RESP_STATE_IN_PROGRESS &&
+        !(next_part(walk, begin) && skip(walk, "..")))
         return false;
     return *walk->wanted == '\0';
 }
 
 /* Feeds the bytes in two parts, or byte by byte. */
-static bool same_in_pieces(resp_parser *parser, const struct bytes *input, size_t first, size_t piece,
-                           const char *wanted)
+static bool same_in_pieces(resp_parser *parser, const struct bytes *input, size_t first,
+                           size_t piece, const char *wanted)
 {
     struct walk walk = {NULL, 0, wanted};
     size_t at = 0, size = first;
@@ -375,7 +395,8 @@ static void check_pieces(const struct row *row, size_t first, size_t piece)
     else
         same = same_in_pieces(&parser, input, first, piece, row->wanted);
     resp_parser_close(&parser);
-    check_text(row->task, input->at, input->size, row->wanted, same ? row->wanted : "something else");
+    check_text(row->task, input->at, input->size, row->wanted,
+               same ? row->wanted : "something else");
 }
 
 /* Whole, byte by byte, and cut at each place where there are few bytes. */
@@ -415,7 +436,7 @@ static uint8_t unescape(const char **at)
     return (uint8_t)(letter == 'r' ? '\r' : letter == 'n' ? '\n' : letter == 't' ? '\t' : letter);
 }
 
-/* Reads bytes in quotes, of which the first quote is read. They take no more room than their text. */
+/* Reads bytes in quotes, after the first quote. They take no more room than their text. */
 static size_t read_quoted(const char **at, uint8_t *out)
 {
     size_t size = 0;
@@ -446,7 +467,7 @@ static void read_part(const char **at, struct bytes *word, uint8_t *room)
 {
     size_t times = read_times(at), size = 1;
 
-    room[0] = (uint8_t)*(*at)++;
+    room[0] = (uint8_t) * (*at)++;
     if (room[0] == '"')
         size = read_quoted(at, room);
     add_bytes(word, room, size, times);

@@ -81,7 +81,8 @@ static size_t add_list(struct text *text, const resp_view *view, size_t at, size
     return at;
 }
 
-static void add_leaf(struct text *text, const resp_view *view, const resp_token *token, const char *mark)
+static void add_leaf(struct text *text, const resp_view *view, const resp_token *token,
+                     const char *mark)
 {
     text_add(text, mark);
     text_add_bytes(text, view->text + token->start, token->size);
@@ -144,7 +145,8 @@ void text_add_value(struct text *text, const resp_view *view)
         text_add(text, " and tokens after it");
 }
 
-void check_text(const char *name, const uint8_t *input, size_t size, const char *wanted, const char *got)
+void check_text(const char *name, const uint8_t *input, size_t size, const char *wanted,
+                const char *got)
 {
     struct text shown = {0};
 
@@ -153,7 +155,8 @@ void check_text(const char *name, const uint8_t *input, size_t size, const char 
         return;
     failed++;
     text_add_bytes(&shown, input, size);
-    printf("failed: %s\n  input:  %s\n  wanted: %s\n  got:    %s\n", name, shown.bytes, wanted, got);
+    printf("failed: %s\n  input:  %s\n  wanted: %s\n  got:    %s\n", name, shown.bytes, wanted,
+           got);
     text_clear(&shown);
 }
 

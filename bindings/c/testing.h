@@ -31,7 +31,8 @@ void text_add_bytes(struct text *text, const uint8_t *bytes, size_t size);
 void text_add_value(struct text *text, const resp_view *view);
 
 /* Counts a test, and prints its input and both texts where they differ. */
-void check_text(const char *name, const uint8_t *input, size_t size, const char *wanted, const char *got);
+void check_text(const char *name, const uint8_t *input, size_t size, const char *wanted,
+                const char *got);
 
 /* Counts a test of two numbers. */
 void check_number(const char *name, long long wanted, long long got);

@@ -31,7 +31,8 @@ static const struct example specified[] = {
     {BYTES("*2\r\n$5\r\nhello\r\n$5\r\nworld\r\n"), "[$'hello' $'world']"},
     {BYTES("*3\r\n:1\r\n:2\r\n:3\r\n"), "[:1 :2 :3]"},
     {BYTES("*5\r\n:1\r\n:2\r\n:3\r\n:4\r\n$5\r\nhello\r\n"), "[:1 :2 :3 :4 $'hello']"},
-    {BYTES("*2\r\n*3\r\n:1\r\n:2\r\n:3\r\n*2\r\n+Hello\r\n-World\r\n"), "[[:1 :2 :3] [+'Hello' -'World']]"},
+    {BYTES("*2\r\n*3\r\n:1\r\n:2\r\n:3\r\n*2\r\n+Hello\r\n-World\r\n"),
+     "[[:1 :2 :3] [+'Hello' -'World']]"},
     {BYTES("*3\r\n$5\r\nhello\r\n$-1\r\n$5\r\nworld\r\n"), "[$'hello' nil $'world']"},
     {BYTES("_\r\n"), "nil"},
     {BYTES("#t\r\n#f\r\n"), "true false"},
@@ -42,7 +43,8 @@ static const struct example specified[] = {
     {BYTES("!21\r\nSYNTAX invalid syntax\r\n"), "-'SYNTAX invalid syntax'"},
     {BYTES("=15\r\ntxt:Some string\r\n"), "='txt:Some string'"},
     {BYTES("%2\r\n+first\r\n:1\r\n+second\r\n:2\r\n"), "{+'first' :1 +'second' :2}"},
-    {BYTES("~5\r\n+orange\r\n+apple\r\n#t\r\n:100\r\n:999\r\n"), "~[+'orange' +'apple' true :100 :999]"},
+    {BYTES("~5\r\n+orange\r\n+apple\r\n#t\r\n:100\r\n:999\r\n"),
+     "~[+'orange' +'apple' true :100 :999]"},
     {BYTES("|1\r\n+key-popularity\r\n%2\r\n$1\r\na\r\n,0.1923\r\n$1\r\nb\r\n,0.0012\r\n"
            "*2\r\n:2039123\r\n:9543892\r\n"),
      "|{+'key-popularity' {$'a' ,'0.1923' $'b' ,'0.0012'}} [:2039123 :9543892]"},
@@ -71,7 +73,8 @@ static const struct example as_hiredis[] = {
     {BYTES(",1.5x\r\n"), "!8@7"},
     {BYTES("#foobar\r\n"), "!7@9"},
     {BYTES("%2\r\n+first\r\n:123\r\n$6\r\nsecond\r\n#t\r\n"), "{+'first' :123 $'second' true}"},
-    {BYTES("~5\r\n+orange\r\n$5\r\napple\r\n#f\r\n:100\r\n:999\r\n"), "~[+'orange' $'apple' false :100 :999]"},
+    {BYTES("~5\r\n+orange\r\n$5\r\napple\r\n#f\r\n:100\r\n:999\r\n"),
+     "~[+'orange' $'apple' false :100 :999]"},
     {BYTES("*1\r\n,1e5\r\n"), "[,'1e5']"},
     {BYTES("$10\r\nab"), ".."},
     {BYTES("*2\r\n:1\r\n"), ".."},
@@ -84,30 +87,30 @@ static const struct example as_hiredis[] = {
 
 /* What hiredis reads otherwise: its answer in a remark. */
 static const struct example departures[] = {
-    {BYTES("*-2\r\n+asdf\r\n"), "nil +'asdf'"},                        /* refused */
-    {BYTES("$-2\r\nasdf\r\n"), "nil !2@1"},                            /* refused at the length */
-    {BYTES("*1025\r\n:1\r\n"), ".."},                                  /* refused by maxelements */
-    {BYTES("*2305843009213693954\r\n+asdf\r\n"), ".."},                /* out of memory */
-    {BYTES("*9223372036854775807\r\n+asdf\r\n"), ".."},                /* refused */
-    {BYTES("$9223372036854775807\r\nasdf\r\n"), ".."},                 /* awaited */
-    {BYTES("_nil\r\n"), "nil"},                                        /* refused */
-    {BYTES("#T\r\n"), "!7@4"},                                         /* true */
-    {BYTES(",nan\r\n,-NaN\r\n"), ",'nan' ,'-NaN'"},                    /* 1.0 refuses the first */
-    {BYTES(",+InFinity\r\n, 1. \r\n"), ",'+InFinity' ,'1.'"},          /* refused */
-    {BYTES(",0x10\r\n"), "!8@7"},                                      /* 16 */
-    {BYTES("(x\r\n"), "('x'"},                                         /* refused */
-    {BYTES(": 7 \r\n:+007\r\n"), ":7 :7"},                             /* refused */
-    {BYTES("$+02\r\nab\r\n"), "$'ab'"},                                /* refused */
-    {BYTES("+a\nb\r\n+a\rb\r\n"), "+'a\\x0Ab' +'a\\x0Db'"},            /* refused */
-    {BYTES("$2\r\nabcd"), "!6@7"},                                     /* ab */
-    {BYTES("$2\r\nab\rd"), "!6@8"},                                    /* ab */
-    {BYTES("=3\r\na:b\r\n=2\r\n:b\r\n"), "='a:b' =':b'"},              /* refused */
-    {BYTES("=5\r\ntxt:\xFF\r\n"), "='txt:\\xEF\\xBF\\xBD'"},           /* the byte itself */
-    {BYTES(">0\r\n>-1\r\n"), ">[$''] >[$'']"},                         /* no elements, and a nil */
-    {BYTES(">1\r\n:1\r\n"), "!10@8"},                                  /* a push of 1 */
-    {BYTES(">1\r\n+OK\r\n"), "!10@9"},                                 /* a push of OK */
-    {BYTES("~-1\r\n"), "nil"},                                         /* the same */
-    {BYTES("%-1\r\n"), "!5@5"},                                        /* nil */
+    {BYTES("*-2\r\n+asdf\r\n"), "nil +'asdf'"},               /* refused */
+    {BYTES("$-2\r\nasdf\r\n"), "nil !2@1"},                   /* refused at the length */
+    {BYTES("*1025\r\n:1\r\n"), ".."},                         /* refused by maxelements */
+    {BYTES("*2305843009213693954\r\n+asdf\r\n"), ".."},       /* out of memory */
+    {BYTES("*9223372036854775807\r\n+asdf\r\n"), ".."},       /* refused */
+    {BYTES("$9223372036854775807\r\nasdf\r\n"), ".."},        /* awaited */
+    {BYTES("_nil\r\n"), "nil"},                               /* refused */
+    {BYTES("#T\r\n"), "!7@4"},                                /* true */
+    {BYTES(",nan\r\n,-NaN\r\n"), ",'nan' ,'-NaN'"},           /* 1.0 refuses the first */
+    {BYTES(",+InFinity\r\n, 1. \r\n"), ",'+InFinity' ,'1.'"}, /* refused */
+    {BYTES(",0x10\r\n"), "!8@7"},                             /* 16 */
+    {BYTES("(x\r\n"), "('x'"},                                /* refused */
+    {BYTES(": 7 \r\n:+007\r\n"), ":7 :7"},                    /* refused */
+    {BYTES("$+02\r\nab\r\n"), "$'ab'"},                       /* refused */
+    {BYTES("+a\nb\r\n+a\rb\r\n"), "+'a\\x0Ab' +'a\\x0Db'"},   /* refused */
+    {BYTES("$2\r\nabcd"), "!6@7"},                            /* ab */
+    {BYTES("$2\r\nab\rd"), "!6@8"},                           /* ab */
+    {BYTES("=3\r\na:b\r\n=2\r\n:b\r\n"), "='a:b' =':b'"},     /* refused */
+    {BYTES("=5\r\ntxt:\xFF\r\n"), "='txt:\\xEF\\xBF\\xBD'"},  /* the byte itself */
+    {BYTES(">0\r\n>-1\r\n"), ">[$''] >[$'']"},                /* no elements, and a nil */
+    {BYTES(">1\r\n:1\r\n"), "!10@8"},                         /* a push of 1 */
+    {BYTES(">1\r\n+OK\r\n"), "!10@9"},                        /* a push of OK */
+    {BYTES("~-1\r\n"), "nil"},                                /* the same */
+    {BYTES("%-1\r\n"), "!5@5"},                               /* nil */
 };
 
 /* Each fault, and where it shows; two limits have tests of their own. */
@@ -175,7 +178,7 @@ static void add_values(struct text *text, resp_parser *parser)
 static void feed_and_add(struct text *text, resp_parser *parser, const uint8_t *bytes, size_t size)
 {
     uint32_t state = resp_parser_state(parser);
-    uint32_t wanted = state == RESP_STATE_FAILED ? RESP_FAILED : RESP_DONE;
+    uint32_t wanted = state == RESP_STATE_HAS_FAILED ? RESP_FAILED : RESP_DONE;
 
     if (resp_parser_feed(parser, bytes, size) != wanted)
         add_part(text, "feed is refused");
@@ -184,12 +187,13 @@ static void feed_and_add(struct text *text, resp_parser *parser, const uint8_t *
 
 static void add_end(struct text *text, resp_parser *parser)
 {
-    if (resp_parser_state(parser) == RESP_STATE_WITHIN)
+    if (resp_parser_state(parser) == RESP_STATE_IN_PROGRESS)
         add_part(text, "..");
 }
 
 /* The bytes in pieces of `piece` bytes, the first of which has `first`. */
-static void check_pieces(const char *name, const struct example *example, size_t first, size_t piece)
+static void check_pieces(const char *name, const struct example *example, size_t first,
+                         size_t piece)
 {
     resp_parser parser = RESP_PARSER_INIT;
     struct text got = {0};
@@ -240,7 +244,7 @@ static void check_first(const struct example *example)
         check_number("first: taken of more", 0, (long long)taken);
     }
     check_number("first: view", 0, (long long)(status == RESP_DONE ? 0 : view.token_count));
-    check_number("first: state", RESP_STATE_BETWEEN, resp_parser_state(&parser));
+    check_number("first: state", RESP_STATE_BETWEEN_VALUES, resp_parser_state(&parser));
     resp_parser_close(&parser);
     check_text("first", example->bytes, example->size, example->wanted, got.bytes);
     text_clear(&got);
@@ -282,9 +286,9 @@ static void check_next(const char *name, resp_parser *parser, const char *wanted
 static void test_view(void)
 {
     static const resp_token wanted[] = {
-        {RESP_MAP, 2, 0, 0},          {RESP_SIMPLE_STRING, 1, 0, 0}, {RESP_INT, 0, -7, 1},
-        {RESP_BULK_STRING, 2, 0, 1},  {RESP_ARRAY, 3, 0, 3},         {RESP_BOOLEAN, 0, 1, 3},
-        {RESP_DOUBLE, 3, 0, 3},       {RESP_NIL, 0, 0, 6},
+        {RESP_MAP, 2, 0, 0},         {RESP_SIMPLE_STRING, 1, 0, 0}, {RESP_INT, 0, -7, 1},
+        {RESP_BULK_STRING, 2, 0, 1}, {RESP_ARRAY, 3, 0, 3},         {RESP_BOOLEAN, 0, 1, 3},
+        {RESP_DOUBLE, 3, 0, 3},      {RESP_NIL, 0, 0, 6},
     };
     resp_parser parser = RESP_PARSER_INIT;
     resp_view view;
@@ -324,11 +328,13 @@ static void check_closed(resp_parser *parser)
     check_number("closed: state", RESP_STATE_CLOSED, resp_parser_state(parser));
     check_number("closed: feed", RESP_CLOSED, feed(parser, ":1\r\n"));
     check_number("closed: next", RESP_CLOSED, resp_parser_next(parser, &view));
-    check_number("closed: first", RESP_CLOSED, resp_parser_first(parser, BYTES(":1\r\n"), &view, &taken));
+    check_number("closed: first", RESP_CLOSED,
+                 resp_parser_first(parser, BYTES(":1\r\n"), &view, &taken));
     check_number("closed: fault", RESP_NO_FAULT, resp_parser_fault(parser, &offset));
     check_number("closed: offset", 0, (long long)offset);
     check_number("closed: taken", 77, (long long)taken);
-    check_number("closed: view", 1, view.tokens == &token && view.token_count == 1 && view.text_size == 1);
+    check_number("closed: view", 1,
+                 view.tokens == &token && view.token_count == 1 && view.text_size == 1);
     check_number("closed: state", RESP_STATE_CLOSED, resp_parser_state(parser));
 }
 
@@ -360,7 +366,7 @@ static void test_opening_again(void)
     resp_parser_open(&parser);
     feed(&parser, "$5\r\nhel");
     check_number("reopened", RESP_DONE, resp_parser_open(&parser));
-    check_number("reopened: state", RESP_STATE_BETWEEN, resp_parser_state(&parser));
+    check_number("reopened: state", RESP_STATE_BETWEEN_VALUES, resp_parser_state(&parser));
     feed(&parser, ":6\r\n");
     check_next("reopened", &parser, ":6");
     resp_parser_close(&parser);
@@ -372,20 +378,20 @@ static void test_states(void)
     resp_view view;
 
     resp_parser_open(&parser);
-    check_number("state: open", RESP_STATE_BETWEEN, resp_parser_state(&parser));
+    check_number("state: open", RESP_STATE_BETWEEN_VALUES, resp_parser_state(&parser));
     check_number("state: more", RESP_MORE, resp_parser_next(&parser, &view));
-    check_number("state: after more", RESP_STATE_BETWEEN, resp_parser_state(&parser));
+    check_number("state: after more", RESP_STATE_BETWEEN_VALUES, resp_parser_state(&parser));
     check_number("state: no bytes", RESP_DONE, feed(&parser, ""));
-    check_number("state: after no bytes", RESP_STATE_BETWEEN, resp_parser_state(&parser));
+    check_number("state: after no bytes", RESP_STATE_BETWEEN_VALUES, resp_parser_state(&parser));
     feed(&parser, ":1\r\n:2\r\n:3");
-    check_number("state: fed", RESP_STATE_WITHIN, resp_parser_state(&parser));
+    check_number("state: fed", RESP_STATE_IN_PROGRESS, resp_parser_state(&parser));
     check_next("state", &parser, ":1");
     check_next("state", &parser, ":2");
     check_number("state: more", RESP_MORE, resp_parser_next(&parser, &view));
-    check_number("state: within", RESP_STATE_WITHIN, resp_parser_state(&parser));
+    check_number("state: within", RESP_STATE_IN_PROGRESS, resp_parser_state(&parser));
     feed(&parser, "\r\n");
     check_next("state", &parser, ":3");
-    check_number("state: between", RESP_STATE_BETWEEN, resp_parser_state(&parser));
+    check_number("state: between", RESP_STATE_BETWEEN_VALUES, resp_parser_state(&parser));
     resp_parser_close(&parser);
 }
 
@@ -401,15 +407,17 @@ static void test_failed(void)
     check_next("failed", &parser, ":1");
     check_number("failed: fault", RESP_FAULT, resp_parser_next(&parser, &view));
     for (int i = 0; i < 2; i++) {
-        check_number("failed: state", RESP_STATE_FAILED, resp_parser_state(&parser));
+        check_number("failed: state", RESP_STATE_HAS_FAILED, resp_parser_state(&parser));
         check_number("failed: next", RESP_FAILED, resp_parser_next(&parser, &view));
         check_number("failed: view", 0, (long long)view.token_count);
         check_number("failed: feed", RESP_FAILED, feed(&parser, ":4\r\n"));
         check_number("failed: number", RESP_NOT_INTEGER, resp_parser_fault(&parser, &offset));
         check_number("failed: offset", 4, (long long)offset);
     }
-    check_number("failed: first", RESP_DONE, resp_parser_first(&parser, BYTES(":5\r\n"), &view, &taken));
-    check_number("failed: first of fault", RESP_FAULT, resp_parser_first(&parser, BYTES("@"), &view, &taken));
+    check_number("failed: first", RESP_DONE,
+                 resp_parser_first(&parser, BYTES(":5\r\n"), &view, &taken));
+    check_number("failed: first of fault", RESP_FAULT,
+                 resp_parser_first(&parser, BYTES("@"), &view, &taken));
     check_number("failed: its number", RESP_UNKNOWN_TYPE, resp_parser_fault(&parser, &offset));
     check_number("failed: offset stays", 4, (long long)offset);
     check_number("failed: reopened", RESP_DONE, resp_parser_open(&parser));
@@ -427,13 +435,15 @@ static void test_first_beside(void)
 
     resp_parser_open(&parser);
     feed(&parser, "$5\r\nhe");
-    check_number("beside", RESP_DONE, resp_parser_first(&parser, BYTES(":12\r\n:3\r\n"), &view, &taken));
+    check_number("beside", RESP_DONE,
+                 resp_parser_first(&parser, BYTES(":12\r\n:3\r\n"), &view, &taken));
     check_number("beside: taken", 5, (long long)taken);
     check_number("beside: number", 12, view.tokens[0].number);
     check_number("beside: more", RESP_MORE, resp_parser_first(&parser, BYTES(":1"), &view, &taken));
-    check_number("beside: fault", RESP_FAULT, resp_parser_first(&parser, BYTES(":x\r\n"), &view, &taken));
+    check_number("beside: fault", RESP_FAULT,
+                 resp_parser_first(&parser, BYTES(":x\r\n"), &view, &taken));
     check_number("beside: place", 4, (long long)taken);
-    check_number("beside: state", RESP_STATE_WITHIN, resp_parser_state(&parser));
+    check_number("beside: state", RESP_STATE_IN_PROGRESS, resp_parser_state(&parser));
     feed(&parser, "llo\r\n");
     check_next("beside", &parser, "$'hello'");
     resp_parser_close(&parser);
@@ -512,7 +522,8 @@ static void test_range(void)
     check_number("range: highest", RESP_DONE, resp_parser_open_within(&parser, 1000, SIZE_MAX / 2));
     feed(&parser, "$5\r\nhe");
     for (size_t i = 0; i < sizeof wrong / sizeof *wrong; i++)
-        check_number("range", RESP_RANGE, resp_parser_open_within(&parser, wrong[i][0], wrong[i][1]));
+        check_number("range", RESP_RANGE,
+                     resp_parser_open_within(&parser, wrong[i][0], wrong[i][1]));
     feed(&parser, "llo\r\n");
     check_next("range: as it was", &parser, "$'hello'");
     resp_parser_close(&parser);
@@ -532,7 +543,7 @@ static void check_memory_of_open(resp_parser *parser, uint32_t status)
 static void check_memory_of_feed(resp_parser *parser, uint32_t status)
 {
     check_number("memory: feed", RESP_MEMORY, status);
-    check_number("memory: feed, state", RESP_STATE_BETWEEN, resp_parser_state(parser));
+    check_number("memory: feed, state", RESP_STATE_BETWEEN_VALUES, resp_parser_state(parser));
     check_number("memory: feed again", RESP_DONE, feed(parser, memory_input));
     check_next("memory: feed again", parser, memory_value);
 }
@@ -550,7 +561,7 @@ static void check_memory_of_next(resp_parser *parser, uint32_t status, resp_view
 
     check_number("memory: next", RESP_MEMORY, status);
     check_number("memory: next, view", 0, (long long)view->token_count);
-    check_number("memory: next, state", RESP_STATE_FAILED, resp_parser_state(parser));
+    check_number("memory: next, state", RESP_STATE_HAS_FAILED, resp_parser_state(parser));
     check_number("memory: next, feed", RESP_FAILED, feed(parser, ":1\r\n"));
     check_number("memory: next again", RESP_FAILED, resp_parser_next(parser, view));
     check_number("memory: next, fault", RESP_NO_FAULT, resp_parser_fault(parser, &offset));
@@ -572,7 +583,8 @@ static void run_to_refusal(resp_parser *parser)
         check_memory_of_feed(parser, status);
         return;
     }
-    status = resp_parser_first(parser, (const uint8_t *)memory_input, strlen(memory_input), &view, &taken);
+    status = resp_parser_first(parser, (const uint8_t *)memory_input, strlen(memory_input), &view,
+                               &taken);
     if (heap_refused()) {
         check_memory_of_first(parser, status, &view);
         return;

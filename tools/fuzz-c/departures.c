@@ -1,7 +1,7 @@
 /*
- * The departures of resp_c from hiredis. Each follows from docs/GRAMMAR.md, which says what is wider
- * and narrower here than RESP; hiredis is wider and narrower elsewhere. A departure counts only where
- * the bytes hold what causes it: each table entry has a test that finds it among their lines.
+ * The departures of resp_c from hiredis. Each follows from docs/GRAMMAR.md, which says where the
+ * library is wider and narrower than RESP; hiredis is so elsewhere. A departure counts only where
+ * the bytes hold what causes it: each entry of the tables has a test of a line.
  */
 #include "departures.h"
 
@@ -110,8 +110,8 @@ static bool is_odd_big_number(const struct line *line)
 
 static bool is_broken_text(const struct line *line)
 {
-    return is_one_of(line->type, "+-") &&
-           (memchr(line->text, '\r', line->size) != NULL || memchr(line->text, '\n', line->size) != NULL);
+    return is_one_of(line->type, "+-") && (memchr(line->text, '\r', line->size) != NULL ||
+                                           memchr(line->text, '\n', line->size) != NULL);
 }
 
 /* A verbatim string whose format hasn't three bytes: the body follows this line. */
@@ -129,7 +129,8 @@ static bool is_unknown_type(const struct line *line)
 /* hiredis takes T and F as well, and a NUL as false. */
 static bool is_odd_boolean(const struct line *line)
 {
-    return line->type == '#' && line->size == 1 && (line->text[0] == 0 || is_one_of(line->text[0], "TF"));
+    return line->type == '#' && line->size == 1 &&
+           (line->text[0] == 0 || is_one_of(line->text[0], "TF"));
 }
 
 static bool is_negative(const struct line *line)
@@ -183,8 +184,8 @@ static const struct accepted {
     uint32_t fault;
     bool (*causes)(const struct line *line);
 } accepted[] = {
-    {RESP_TOO_DEEP, is_aggregate},   {RESP_LINE_NOT_UTF8, is_text},
-    {RESP_BODY_END, has_body},       {RESP_NOT_BOOLEAN, is_odd_boolean},
+    {RESP_TOO_DEEP, is_aggregate},     {RESP_LINE_NOT_UTF8, is_text},
+    {RESP_BODY_END, has_body},         {RESP_NOT_BOOLEAN, is_odd_boolean},
     {RESP_NOT_DOUBLE, is_double_of_c}, {RESP_NEGATIVE_LENGTH, is_negative},
     {RESP_BAD_PUSH_KIND, is_push},
 };
@@ -245,7 +246,8 @@ struct walk {
 
 static bool same_value(struct walk *walk, const redisReply *reply);
 
-static bool same_bytes(const struct walk *walk, const resp_token *token, const char *bytes, size_t size)
+static bool same_bytes(const struct walk *walk, const resp_token *token, const char *bytes,
+                       size_t size)
 {
     return token->size == size && memcmp(walk->view->text + token->start, bytes, size) == 0;
 }
@@ -304,7 +306,8 @@ static bool same_list(struct walk *walk, const resp_token *token, const redisRep
     return reply->type == type && reply->elements == elements && same_values(walk, reply, 0);
 }
 
-static bool same_text(const struct walk *walk, const resp_token *token, const redisReply *reply, int type)
+static bool same_text(const struct walk *walk, const resp_token *token, const redisReply *reply,
+                      int type)
 {
     return reply->type == type && same_bytes(walk, token, reply->str, reply->len);
 }

@@ -10,15 +10,15 @@
 #error "hiredis 1.0 or later is wanted: older ones lack RESP3"
 #endif
 
-/* hiredis makes room for as many elements as are announced, so it is told to refuse more than these. */
+/* hiredis makes room for as many elements as are announced: it is told to refuse more. */
 #define MOST_ELEMENTS 1024
 
 /* What both answer to the same bytes. */
 struct answers {
-    uint32_t status;         /* RESP_DONE, RESP_MORE or RESP_FAULT */
-    uint32_t fault;          /* the fault, where there is one */
-    const resp_view *view;   /* the value, where there is one */
-    const uint8_t *bytes;    /* those of the value, up to the fault, or all that are there */
+    uint32_t status;       /* RESP_DONE, RESP_MORE or RESP_FAULT */
+    uint32_t fault;        /* the fault, where there is one */
+    const resp_view *view; /* the value, where there is one */
+    const uint8_t *bytes;  /* those of the value, up to the fault, or all that are there */
     size_t size;
     bool refused;            /* whether hiredis refuses them */
     const redisReply *reply; /* its value, or NULL */

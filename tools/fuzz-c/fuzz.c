@@ -1,6 +1,6 @@
 /*
- * A fuzz target for libFuzzer: bytes go whole into one parser, in pieces into a second one, value by
- * value into resp_parser_first, and into the reader of hiredis. The first three must agree in
+ * A fuzz target for libFuzzer: bytes go whole into one parser, in pieces into a second one, value
+ * by value into resp_parser_first, and into the reader of hiredis. The first three must agree in
  * everything. hiredis must agree but for the departures in departures.c.
  *
  * The first three bytes of an input choose pieces and limits; the others are fed.
@@ -17,9 +17,9 @@ struct run {
     const uint8_t *head;
     const uint8_t *bytes;
     size_t size;
-    size_t taken;         /* how many bytes the values so far have */
-    size_t fed;           /* how many bytes the parser of pieces was fed */
-    uint32_t random;      /* chooses the next piece */
+    size_t taken;    /* how many bytes the values so far have */
+    size_t fed;      /* how many bytes the parser of pieces was fed */
+    uint32_t random; /* chooses the next piece */
     resp_parser whole;
     resp_parser pieces;
     redisReader *hiredis; /* NULL where limits are chosen, and once it has parted */
@@ -79,7 +79,8 @@ static resp_view check_whole(struct run *run, uint32_t status, const resp_view *
 }
 
 /* So does resp_parser_first of the bytes that are left. Returns how many it takes. */
-static size_t check_first(struct run *run, uint32_t status, const resp_view *wanted, uint32_t *fault)
+static size_t check_first(struct run *run, uint32_t status, const resp_view *wanted,
+                          uint32_t *fault)
 {
     resp_parser parser = RESP_PARSER_INIT;
     resp_view view;
@@ -106,7 +107,8 @@ static void leave_hiredis(struct run *run)
 static void check_hiredis(struct run *run, uint32_t status, const resp_view *view, size_t size,
                           uint32_t fault)
 {
-    struct answers answers = {status, fault, view, run->bytes + run->taken, size, false, NULL, NULL};
+    struct answers answers = {status, fault, view, run->bytes + run->taken,
+                              size,   false, NULL, NULL};
     void *reply = NULL;
 
     if (run->hiredis == NULL)
