@@ -7,24 +7,11 @@
  * crates/resp_vectors/ROWS.md says what a row is. Wanted values are texts of Debug, with which the
  * tokens are compared. They don't show the pairs of an attribute, which are only counted here.
  */
+#include "row.h"
 #include "testing.h"
 
 #include <stdlib.h>
 #include <string.h>
-
-/* Bytes of a word of a row. */
-struct bytes {
-    uint8_t *at;
-    size_t size;
-};
-
-/* A row: its words, which are up to three here, and the wanted answer. */
-struct row {
-    const char *task;
-    struct bytes words[3];
-    size_t count;
-    const char *wanted;
-};
 
 /* Where a comparison of tokens with the wanted text stands. */
 struct walk {
@@ -359,7 +346,7 @@ static bool same_end(struct walk *walk, resp_parser *parser, const char *begin)
 }
 
 /* Feeds the bytes in two parts, or byte by byte. */
-static bool same_in_pieces(resp_parser *parser, const struct bytes *input, size_t first,
+static bool same_in_pieces(resp_parser *parser, const struct word *input, size_t first,
                            size_t piece, const char *wanted)
 {
     struct walk walk = {NULL, 0, wanted};
@@ -367,7 +354,7 @@ static bool same_in_pieces(resp_parser *parser, const struct bytes *input, size_
 
     while (at < input->size) {
         size = size < input->size - at ? size : input->size - at;
-        if (resp_parser_feed(parser, input->at + at, size) == RESP_MEMORY ||
+        if (resp_parser_feed(parser, input->bytes + at, size) == RESP_MEMORY ||
             !same_values(&walk, parser, wanted))
             return false;
         at += size;
@@ -380,14 +367,14 @@ static uint32_t open_for(const struct row *row, resp_parser *parser)
 {
     if (row->count == 1)
         return resp_parser_open(parser);
-    return resp_parser_open_within(parser, strtoull((char *)row->words[0].at, NULL, 10),
-                                   strtoull((char *)row->words[1].at, NULL, 10));
+    return resp_parser_open_within(parser, strtoull((char *)row->words[0].bytes, NULL, 10),
+                                   strtoull((char *)row->words[1].bytes, NULL, 10));
 }
 
 static void check_pieces(const struct row *row, size_t first, size_t piece)
 {
     resp_parser parser = RESP_PARSER_INIT;
-    const struct bytes *input = &row->words[row->count - 1];
+    const struct word *input = &row->words[row->count - 1];
     bool same;
 
     if (open_for(row, &parser) == RESP_RANGE)
@@ -395,7 +382,7 @@ static void check_pieces(const struct row *row, size_t first, size_t piece)
     else
         same = same_in_pieces(&parser, input, first, piece, row->wanted);
     resp_parser_close(&parser);
-    check_text(row->task, input->at, input->size, row->wanted,
+    check_text(row->task, input->bytes, input->size, row->wanted,
                same ? row->wanted : "something else");
 }
 
@@ -410,168 +397,23 @@ static void check_row(const struct row *row)
         check_pieces(row, cut, size);
 }
 
-static void add_bytes(struct bytes *word, const uint8_t *bytes, size_t size, size_t times)
+/* A `limits` row has the depth and the size before the bytes. */
+static void run_row(const struct row *row)
 {
-    word->at = realloc(word->at, word->size + size * times + 1);
-    if (word->at == NULL)
-        exit(2);
-    for (size_t i = 0; i < times; i++) {
-        if (size > 0)
-            memcpy(word->at + word->size, bytes, size);
-        word->size += size;
-    }
-    word->at[word->size] = '\0';
-}
+    size_t wanted = strcmp(row->task, "limits") == 0 ? 3 : 1;
 
-/* The byte of an escape, of which the backslash is read. */
-static uint8_t unescape(const char **at)
-{
-    char letter = *(*at)++, digits[3] = {0};
-
-    if (letter == 'x') {
-        memcpy(digits, *at, 2);
-        *at += 2;
-        return (uint8_t)strtoul(digits, NULL, 16);
-    }
-    return (uint8_t)(letter == 'r' ? '\r' : letter == 'n' ? '\n' : letter == 't' ? '\t' : letter);
-}
-
-/* Reads bytes in quotes, after the first quote. They take no more room than their text. */
-static size_t read_quoted(const char **at, uint8_t *out)
-{
-    size_t size = 0;
-
-    while (**at != '"') {
-        char letter = *(*at)++;
-
-        out[size++] = letter == '\\' ? unescape(at) : (uint8_t)letter;
-    }
-    (*at)++;
-    return size;
-}
-
-/* Reads how many times a part stands, as 3*"ab"; once where nothing says it. */
-static size_t read_times(const char **at)
-{
-    char *end;
-    size_t times = strtoul(*at, &end, 10);
-
-    if (*end != '*')
-        return 1;
-    *at = end + 1;
-    return times;
-}
-
-/* Reads a part: bytes in quotes, or a plain letter. */
-static void read_part(const char **at, struct bytes *word, uint8_t *room)
-{
-    size_t times = read_times(at), size = 1;
-
-    room[0] = (uint8_t) * (*at)++;
-    if (room[0] == '"')
-        size = read_quoted(at, room);
-    add_bytes(word, room, size, times);
-}
-
-/* Reads a word: its parts, up to a space. */
-static void read_word(const char **at, struct bytes *word)
-{
-    uint8_t *room = malloc(strlen(*at) + 1);
-
-    if (room == NULL)
-        exit(2);
-    add_bytes(word, room, 0, 0);
-    while (**at != ' ' && **at != '\0')
-        read_part(at, word, room);
-    free(room);
-}
-
-/* Reads the words of a row, up to its arrow. */
-static bool read_row(const char *line, struct row *row)
-{
-    const char *at = strchr(line, ' ');
-
-    while (at != NULL && row->count < 3 && strncmp(at, " =>", 3) != 0) {
-        at++;
-        read_word(&at, &row->words[row->count++]);
-    }
-    if (at == NULL || strncmp(at, " =>", 3) != 0)
-        return false;
-    row->wanted = at[3] == ' ' ? at + 4 : at + 3;
-    return row->count == (strcmp(row->task, "limits") == 0 ? 3u : 1u);
-}
-
-static const char *task_of(const char *line)
-{
-    static const char *const tasks[] = {"read", "cut", "limits"};
-
-    for (size_t i = 0; i < sizeof tasks / sizeof *tasks; i++)
-        if (strncmp(line, tasks[i], strlen(tasks[i])) == 0 && line[strlen(tasks[i])] == ' ')
-            return tasks[i];
-    return NULL;
-}
-
-/* Works out a line, if it is a row of these tasks. Returns whether it is. */
-static bool run_line(const char *line)
-{
-    struct row row = {0};
-
-    row.task = task_of(line);
-    if (row.task == NULL)
-        return false;
-    if (read_row(line, &row))
-        check_row(&row);
-    else
-        check_text("a row that can't be read", (const uint8_t *)line, strlen(line), "", line);
-    for (size_t i = 0; i < row.count; i++)
-        free(row.words[i].at);
-    return true;
-}
-
-/* A whole file, with a NUL after it. */
-static char *contents(const char *name)
-{
-    FILE *file = fopen(name, "rb");
-    struct text text = {0};
-    char piece[4097];
-    size_t size;
-
-    if (file == NULL) {
-        perror(name);
-        exit(2);
-    }
-    text_add(&text, "");
-    while ((size = fread(piece, 1, sizeof piece - 1, file)) > 0) {
-        piece[size] = '\0';
-        text_add(&text, piece);
-    }
-    fclose(file);
-    return text.bytes;
-}
-
-static unsigned long run_file(const char *name)
-{
-    char *text = contents(name), *line = text;
-    unsigned long rows = 0;
-
-    while (*line != '\0') {
-        char *end = strchr(line, '\n');
-
-        if (end != NULL)
-            *end = '\0';
-        rows += run_line(line);
-        line = end != NULL ? end + 1 : line + strlen(line);
-    }
-    free(text);
-    return rows;
+    check_number("words of a row", (long long)wanted, (long long)row->count);
+    if (row->count == wanted)
+        check_row(row);
 }
 
 int main(int argc, char **argv)
 {
+    static const char *const tasks[] = {"read", "cut", "limits", NULL};
     unsigned long rows = 0;
 
     for (int i = 1; i < argc; i++)
-        rows += run_file(argv[i]);
+        rows += rows_run(argv[i], tasks, run_row);
     printf("%lu rows\n", rows);
     return tests_end();
 }
