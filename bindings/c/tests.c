@@ -510,6 +510,51 @@ static void test_size(void)
     resp_parser_close(&parser);
 }
 
+/* A string of 1 MiB, in pieces that are no part of it. */
+static void test_large_string(void)
+{
+    static uint8_t bytes[1 << 20];
+    resp_parser parser = RESP_PARSER_INIT;
+    resp_view view;
+
+    for (size_t i = 0; i < sizeof bytes; i++)
+        bytes[i] = (uint8_t)(i * 7 % 251);
+    resp_parser_open(&parser);
+    feed(&parser, "$1048576\r\n");
+    for (size_t at = 0, piece; at < sizeof bytes; at += piece) {
+        check_number("large: more", RESP_MORE, resp_parser_next(&parser, &view));
+        piece = sizeof bytes - at < 10007 ? sizeof bytes - at : 10007;
+        check_number("large: feed", RESP_DONE, resp_parser_feed(&parser, bytes + at, piece));
+    }
+    feed(&parser, "\r\n");
+    check_number("large: done", RESP_DONE, resp_parser_next(&parser, &view));
+    check_number("large: text", sizeof bytes, (long long)view.text_size);
+    check_number("large: bytes", 0, memcmp(view.text, bytes, sizeof bytes));
+    resp_parser_close(&parser);
+}
+
+/* An array of 100,000 integers, of which each is its place. */
+static void test_large_array(void)
+{
+    resp_parser parser = RESP_PARSER_INIT;
+    resp_view view;
+    char line[32];
+    long long wrong = 0;
+
+    resp_parser_open(&parser);
+    feed(&parser, "*100000\r\n");
+    for (int i = 1; i <= 100000; i++) {
+        snprintf(line, sizeof line, ":%d\r\n", i);
+        feed(&parser, line);
+    }
+    check_number("array: done", RESP_DONE, resp_parser_next(&parser, &view));
+    check_number("array: tokens", 100001, (long long)view.token_count);
+    for (size_t i = 1; i < view.token_count; i++)
+        wrong += view.tokens[i].kind != RESP_INT || view.tokens[i].number != (int64_t)i;
+    check_number("array: numbers", 0, wrong);
+    resp_parser_close(&parser);
+}
+
 /* Limits that can't be chosen leave the handle as it was. */
 static void test_range(void)
 {
@@ -658,6 +703,8 @@ int main(void)
     test_depth(1000);
     test_usual_depth();
     test_size();
+    test_large_string();
+    test_large_array();
     test_range();
     test_memory();
     return tests_end();
