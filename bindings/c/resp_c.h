@@ -2,7 +2,7 @@
  * resp_c: a proved parser and packer of RESP, the protocol of Redis (RESP2 and RESP3).
  *
  * A parser is fed bytes in pieces of any size, and gives one value after another. A value is shown
- * as an array of tokens and one block of text; it is never copied by the program, and never freed.
+ * as an array of tokens and one block of text, which the program reads where they lie.
  *
  * The library is proved for every sequence of calls of a program that keeps these rules:
  *
@@ -97,15 +97,14 @@ typedef struct resp_parser {
     bool live;
 } resp_parser;
 
-#define RESP_PARSER_INIT                                                                           \
-    {                                                                                              \
-        NULL, false                                                                                \
-    }
+/* clang-format off */
+#define RESP_PARSER_INIT { NULL, false }
+/* clang-format on */
 
 /* One value of a reply. The values inside it have the tokens after it. */
 typedef struct resp_token {
-    uint8_t kind; /* one of enum resp_kind */
-    size_t size;  /* how many bytes of text, or how many values or pairs; 0 where it has neither */
+    uint8_t kind;   /* one of enum resp_kind */
+    size_t size;    /* how many bytes of text, values or pairs; 0 where it has none of these */
     int64_t number; /* the integer or the truth value; else 0 */
     size_t start;   /* where in the text its bytes begin, or those of the values inside it */
 } resp_token;
@@ -182,7 +181,7 @@ uint32_t resp_parser_next(resp_parser *parser, resp_view *view);
  * RESP_DONE    the value is in the view; *taken is how many bytes spell it
  * RESP_MORE    the bytes are the beginning of a value, or there are none; *taken is 0
  * RESP_FAULT   the bytes can't begin a value; resp_parser_fault has the number, and *taken says
- *              after how many bytes it shows
+ *              after how many bytes it shows; the parser hasn't failed by this
  * RESP_MEMORY  memory ran out; *taken has no meaning
  * RESP_CLOSED  no parser is open; the view and *taken are as they were
  */
@@ -215,8 +214,8 @@ uint32_t resp_pack(const uint8_t *args, size_t args_size, const size_t *sizes, s
  * Packs several commands, to be sent at once. `counts` holds the number of arguments of each of the
  * `command_count` commands, whose sizes stand one after another in the `size_count` entries of
  * `sizes`. Where `atomic` is true, they stand between MULTI and EXEC. A command without arguments
- * is an empty array here, which a server skips. Returns what resp_pack does, and RESP_RANGE also
- * where the counts don't add up to size_count.
+ * is an empty array here, which a server skips without a reply. Returns what resp_pack does, and
+ * RESP_RANGE also where the counts don't add up to size_count.
  */
 uint32_t resp_pack_pipeline(const uint8_t *args, size_t args_size, const size_t *sizes,
                             size_t size_count, const size_t *counts, size_t command_count,
