@@ -28,8 +28,8 @@ bool word_is(const struct word *word, const char *text);
 const char *word_read(const char *text, struct word *word);
 
 /*
- * Calls `run` for each row of a file whose task is one of `tasks`, which ends with NULL. Returns how
- * many there were. Ends the program where the file can't be read.
+ * Calls `run` for each row of a file whose task is one of `tasks`, which ends with NULL. Returns
+ * how many there were. Ends the program where the file can't be read.
  */
 unsigned long rows_run(const char *name, const char *const *tasks,
                        void (*run)(const struct row *row));

@@ -311,30 +311,34 @@ static bool next_part(struct walk *walk, const char *begin)
     return walk->wanted == begin || skip(walk, " ");
 }
 
-static bool same_fault(struct walk *walk, resp_parser *parser)
+static bool same_fault(struct walk *walk, uint32_t fault, size_t offset)
 {
-    size_t offset;
-    uint32_t fault = resp_parser_fault(parser, &offset);
-
     return fault <= RESP_TOO_LONG && skip(walk, fault_names[fault]) && skip(walk, "@") &&
            skip_number(walk, (long long)offset);
+}
+
+/* Compares a value that was taken with the next part of the wanted text. */
+static bool same_part(struct walk *walk, const resp_view *view, const char *begin)
+{
+    walk->view = view;
+    walk->at = 0;
+    return next_part(walk, begin) && same_value(walk) && walk->at == view->token_count;
 }
 
 /* Compares each value that the parser has, and a fault, with the wanted text. */
 static bool same_values(struct walk *walk, resp_parser *parser, const char *begin)
 {
     resp_view view;
-    uint32_t status;
+    uint32_t status, fault;
+    size_t offset;
 
-    while ((status = resp_parser_next(parser, &view)) == RESP_DONE) {
-        walk->view = &view;
-        walk->at = 0;
-        if (!next_part(walk, begin) || !same_value(walk) || walk->at != view.token_count)
+    while ((status = resp_parser_next(parser, &view)) == RESP_DONE)
+        if (!same_part(walk, &view, begin))
             return false;
-    }
-    if (status == RESP_FAULT)
-        return next_part(walk, begin) && same_fault(walk, parser);
-    return status == RESP_MORE || status == RESP_FAILED;
+    if (status != RESP_FAULT)
+        return status == RESP_MORE || status == RESP_FAILED;
+    fault = resp_parser_fault(parser, &offset);
+    return next_part(walk, begin) && same_fault(walk, fault, offset);
 }
 
 static bool same_end(struct walk *walk, resp_parser *parser, const char *begin)
@@ -363,6 +367,28 @@ static bool same_in_pieces(resp_parser *parser, const struct word *input, size_t
     return same_end(&walk, parser, wanted);
 }
 
+/* The same by resp_parser_first, value after value. */
+static bool same_by_first(resp_parser *parser, const struct word *input, const char *wanted)
+{
+    struct walk walk = {NULL, 0, wanted};
+    resp_view view;
+    size_t at = 0, taken, none;
+    uint32_t status;
+
+    while ((status = resp_parser_first(parser, input->bytes + at, input->size - at, &view,
+                                       &taken)) == RESP_DONE) {
+        if (!same_part(&walk, &view, wanted))
+            return false;
+        at += taken;
+    }
+    if (status == RESP_FAULT)
+        return next_part(&walk, wanted) &&
+               same_fault(&walk, resp_parser_fault(parser, &none), taken) && *walk.wanted == '\0';
+    if (status == RESP_MORE && at < input->size && !(next_part(&walk, wanted) && skip(&walk, "..")))
+        return false;
+    return status == RESP_MORE && *walk.wanted == '\0';
+}
+
 static uint32_t open_for(const struct row *row, resp_parser *parser)
 {
     if (row->count == 1)
@@ -371,6 +397,7 @@ static uint32_t open_for(const struct row *row, resp_parser *parser)
                                    strtoull((char *)row->words[1].bytes, NULL, 10));
 }
 
+/* Checks a row by pieces of these sizes, or, where the first has none, by resp_parser_first. */
 static void check_pieces(const struct row *row, size_t first, size_t piece)
 {
     resp_parser parser = RESP_PARSER_INIT;
@@ -379,6 +406,8 @@ static void check_pieces(const struct row *row, size_t first, size_t piece)
 
     if (open_for(row, &parser) == RESP_RANGE)
         same = strncmp(row->wanted, "refused: ", 9) == 0;
+    else if (first == 0)
+        same = same_by_first(&parser, input, row->wanted);
     else
         same = same_in_pieces(&parser, input, first, piece, row->wanted);
     resp_parser_close(&parser);
@@ -386,13 +415,14 @@ static void check_pieces(const struct row *row, size_t first, size_t piece)
                same ? row->wanted : "something else");
 }
 
-/* Whole, byte by byte, and cut at each place where there are few bytes. */
+/* Whole, byte by byte, by resp_parser_first, and cut at each place where there are few bytes. */
 static void check_row(const struct row *row)
 {
     size_t size = row->words[row->count - 1].size;
 
-    check_pieces(row, size, 1);
+    check_pieces(row, size > 0 ? size : 1, 1);
     check_pieces(row, 1, 1);
+    check_pieces(row, 0, 0);
     for (size_t cut = 2; cut < size && size <= 200; cut++)
         check_pieces(row, cut, size);
 }

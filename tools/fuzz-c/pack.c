@@ -4,8 +4,8 @@
  * how much is wanted, and write nothing.
  *
  * The first byte of an input chooses the room, the number of arguments, up to 15, and whether the
- * pipeline is atomic. The next bytes choose the sizes of the arguments and where a command ends; the
- * others are the arguments.
+ * pipeline is atomic. The next bytes choose the sizes of the arguments and where a command ends;
+ * the others are the arguments.
  */
 #include "resp_c.h"
 
