@@ -1,0 +1,144 @@
+//! Why a call fails.
+
+use std::fmt;
+
+/// Why a call fails.
+///
+/// ```
+/// use resp_c::{Error, Fault, Parser};
+///
+/// # fn main() -> Result<(), Error> {
+/// let mut parser = Parser::new()?;
+/// parser.feed(b":1\r\n:x\r\n")?;
+/// assert!(parser.next()?.is_some());
+/// let error = parser.next().unwrap_err();
+/// assert_eq!(error, Error::Fault { fault: Fault::NotInteger, offset: 4 });
+/// assert_eq!(error.to_string(), "NotInteger at byte 4");
+/// # Ok(())
+/// # }
+/// ```
+#[derive(Debug, Clone, Copy, PartialEq, Eq, Hash)]
+#[non_exhaustive]
+pub enum Error {
+    /// The bytes can't begin a value.
+    Fault {
+        /// What is wrong with them.
+        fault: Fault,
+        /// How many bytes show it: those after the last value, up to and with the byte that shows
+        /// it.
+        offset: usize,
+    },
+    /// Memory ran out. A call of [`Parser::next`](crate::Parser::next) that says so lost a value,
+    /// and the parser has failed; after any other call nothing changed.
+    OutOfMemory,
+    /// The parser has failed before, by a fault or since a value was lost.
+    Failed,
+    /// A limit is out of range.
+    OutOfRange,
+}
+
+impl fmt::Display for Error {
+    fn fmt(&self, f: &mut fmt::Formatter<'_>) -> fmt::Result {
+        match self {
+            Error::Fault { fault, offset } => write!(f, "{fault} at byte {offset}"),
+            Error::OutOfMemory => f.write_str("out of memory"),
+            Error::Failed => f.write_str("the parser has failed before"),
+            Error::OutOfRange => f.write_str("a limit is out of range"),
+        }
+    }
+}
+
+impl std::error::Error for Error {}
+
+/// Why bytes can't begin a value.
+///
+/// ```
+/// use resp_c::Fault;
+///
+/// assert_eq!(Fault::TooDeep.name(), "TooDeep");
+/// assert_eq!(Fault::TooDeep.number(), 1);
+/// ```
+#[derive(Debug, Clone, Copy, PartialEq, Eq, Hash)]
+#[non_exhaustive]
+pub enum Fault {
+    /// A value is deeper than the limit on the depth.
+    TooDeep,
+    /// The first byte of a value is no type byte.
+    UnknownType,
+    /// A line isn't UTF-8.
+    LineNotUtf8,
+    /// A line that has to be an integer is none, or one that doesn't fit 64 bits.
+    NotInteger,
+    /// A length is negative where none may be.
+    NegativeLength,
+    /// The bytes after a body aren't CR LF.
+    BodyEnd,
+    /// A boolean is neither `t` nor `f`.
+    NotBoolean,
+    /// A double isn't written as one.
+    NotDouble,
+    /// A verbatim string has no format.
+    NoVerbatimFormat,
+    /// The first element of a push doesn't name its kind.
+    BadPushKind,
+    /// A value is longer than the limit on the size.
+    TooLong,
+}
+
+/// The faults by their numbers, from 1.
+const FAULTS: [Fault; 11] = [
+    Fault::TooDeep,
+    Fault::UnknownType,
+    Fault::LineNotUtf8,
+    Fault::NotInteger,
+    Fault::NegativeLength,
+    Fault::BodyEnd,
+    Fault::NotBoolean,
+    Fault::NotDouble,
+    Fault::NoVerbatimFormat,
+    Fault::BadPushKind,
+    Fault::TooLong,
+];
+
+impl Fault {
+    /// The fault of this number, which the C library gives.
+    pub(crate) fn of_number(number: u32) -> Fault {
+        FAULTS[number as usize - 1]
+    }
+
+    /// Its number in the C interface.
+    ///
+    /// ```
+    /// assert_eq!(resp_c::Fault::TooLong.number(), 11);
+    /// ```
+    pub fn number(self) -> u32 {
+        self as u32 + 1
+    }
+
+    /// Its name.
+    ///
+    /// ```
+    /// assert_eq!(resp_c::Fault::NotInteger.name(), "NotInteger");
+    /// ```
+    pub fn name(self) -> &'static str {
+        match self {
+            Fault::TooDeep => "TooDeep",
+            Fault::UnknownType => "UnknownType",
+            Fault::LineNotUtf8 => "LineNotUtf8",
+            Fault::NotInteger => "NotInteger",
+            Fault::NegativeLength => "NegativeLength",
+            Fault::BodyEnd => "BodyEnd",
+            Fault::NotBoolean => "NotBoolean",
+            Fault::NotDouble => "NotDouble",
+            Fault::NoVerbatimFormat => "NoVerbatimFormat",
+            Fault::BadPushKind => "BadPushKind",
+            Fault::TooLong => "TooLong",
+        }
+    }
+}
+
+impl fmt::Display for Fault {
+    fn fmt(&self, f: &mut fmt::Formatter<'_>) -> fmt::Result {
+        f.write_str(self.name())
+    }
+}

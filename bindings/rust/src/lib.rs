@@ -1,0 +1,46 @@
+//! A RESP (Redis protocol) parser and command packer over the C library of `resp_core`, in which
+//! every function is proved to meet its contract. This wrapper isn't proved; its unsafe code is in
+//! one private module, `ffi`.
+//!
+//! A [`Parser`] takes bytes in any pieces and gives whole replies, in RESP2 and RESP3. A reply is a
+//! [`View`] of memory that the parser owns: nothing is copied, and it is valid until the parser is
+//! used again.
+//!
+//! ```
+//! use resp_c::{Kind, Parser};
+//!
+//! # fn main() -> Result<(), resp_c::Error> {
+//! let mut parser = Parser::new()?;
+//! parser.feed(b"*2\r\n$5\r\nhello\r\n:7")?;
+//! assert!(parser.next()?.is_none());
+//!
+//! parser.feed(b"\r\n")?;
+//! let view = parser.next()?.expect("the reply is whole");
+//! let items: Vec<_> = view.value().elements().collect();
+//! assert_eq!(items[0].bytes(), Some(b"hello".as_slice()));
+//! assert_eq!(items[1].kind(), Kind::Int);
+//! assert_eq!(items[1].int(), Some(7));
+//! # Ok(())
+//! # }
+//! ```
+//!
+//! [`pack`] and [`pack_pipeline`] make the bytes of commands:
+//!
+//! ```
+//! assert_eq!(resp_c::pack(&["GET", "key"]), b"*2\r\n$3\r\nGET\r\n$3\r\nkey\r\n");
+//! ```
+
+#![deny(missing_docs)]
+#![deny(unsafe_code)]
+
+mod error;
+#[allow(unsafe_code)]
+mod ffi;
+mod pack;
+mod parser;
+mod view;
+
+pub use error::{Error, Fault};
+pub use pack::{pack, pack_pipeline, version};
+pub use parser::{Limits, Parser, State};
+pub use view::{Elements, Kind, Pairs, Token, Tokens, Value, View};

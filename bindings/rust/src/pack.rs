@@ -1,0 +1,114 @@
+//! Commands as the bytes that are sent.
+
+use crate::ffi::{self, status};
+
+/// The bytes of a command: its name and its arguments. No arguments give no bytes.
+///
+/// Aborts where memory runs out, as `Vec` does.
+///
+/// ```
+/// let bytes = resp_c::pack(&["SET", "key", "1"]);
+/// assert_eq!(bytes, b"*3\r\n$3\r\nSET\r\n$3\r\nkey\r\n$1\r\n1\r\n");
+///
+/// let bytes = resp_c::pack(&[b"GET".as_slice(), b"\xFF"]);
+/// assert_eq!(bytes, b"*2\r\n$3\r\nGET\r\n$1\r\n\xFF\r\n");
+/// ```
+pub fn pack<A: AsRef<[u8]>>(args: &[A]) -> Vec<u8> {
+    let mut joined = Joined::default();
+    joined.add(args);
+    written(joined.room(0), |out| {
+        ffi::pack(&joined.bytes, &joined.sizes, out)
+    })
+}
+
+/// The bytes of several commands, one after another; between `MULTI` and `EXEC` if `atomic`. A
+/// command without arguments is an array of nothing there.
+///
+/// Aborts where memory runs out, as `Vec` does.
+///
+/// ```
+/// let commands = [vec!["INCR", "a"], vec!["GET", "a"]];
+/// let bytes = resp_c::pack_pipeline(&commands, false);
+/// assert_eq!(bytes, b"*2\r\n$4\r\nINCR\r\n$1\r\na\r\n*2\r\n$3\r\nGET\r\n$1\r\na\r\n");
+///
+/// let bytes = resp_c::pack_pipeline(&[["PING"]], true);
+/// assert_eq!(bytes, b"*1\r\n$5\r\nMULTI\r\n*1\r\n$4\r\nPING\r\n*1\r\n$4\r\nEXEC\r\n");
+/// ```
+pub fn pack_pipeline<C, A>(commands: &[C], atomic: bool) -> Vec<u8>
+where
+    C: AsRef<[A]>,
+    A: AsRef<[u8]>,
+{
+    let mut joined = Joined::default();
+    let mut counts = Vec::with_capacity(commands.len());
+    for command in commands {
+        joined.add(command.as_ref());
+        counts.push(command.as_ref().len());
+    }
+    written(joined.room(counts.len()), |out| {
+        ffi::pack_pipeline(&joined.bytes, &joined.sizes, &counts, atomic, out)
+    })
+}
+
+/// The version of the C library: major, minor and patch.
+///
+/// ```
+/// let (major, minor, patch) = resp_c::version();
+/// assert_eq!((major, minor, patch), (0, 1, 0));
+/// ```
+pub fn version() -> (u8, u8, u8) {
+    let [_, major, minor, patch] = ffi::version().to_be_bytes();
+    (major, minor, patch)
+}
+
+/// The most bytes before and after an argument or a command: a type byte, 20 digits, and CR LF
+/// twice.
+const FRAME: usize = 25;
+
+/// The bytes of `MULTI` and `EXEC`.
+const TRANSACTION: usize = 29;
+
+/// Arguments one after another, and the size of each.
+#[derive(Default)]
+struct Joined {
+    bytes: Vec<u8>,
+    sizes: Vec<usize>,
+}
+
+impl Joined {
+    fn add<A: AsRef<[u8]>>(&mut self, args: &[A]) {
+        for arg in args {
+            self.bytes.extend_from_slice(arg.as_ref());
+            self.sizes.push(arg.as_ref().len());
+        }
+    }
+
+    /// Room for them in this many commands, and one more.
+    fn room(&self, commands: usize) -> usize {
+        self.bytes.len() + FRAME * (self.sizes.len() + commands + 1) + TRANSACTION
+    }
+}
+
+/// What a packer writes, which is called again where the room isn't enough.
+fn written(room: usize, packer: impl Fn(&mut [u8]) -> (u32, usize)) -> Vec<u8> {
+    let mut out = vec![0; room];
+    loop {
+        match packer(&mut out) {
+            (status::DONE, size) => {
+                out.truncate(size);
+                return out;
+            }
+            (status::ROOM, size) => out.resize(size, 0),
+            (status::MEMORY, _) => out_of_memory(out.len()),
+            (status, _) => unreachable!("status {status}"),
+        }
+    }
+}
+
+/// Aborts as an allocation of this many bytes does that fails.
+fn out_of_memory(size: usize) -> ! {
+    match std::alloc::Layout::array::<u8>(size) {
+        Ok(layout) => std::alloc::handle_alloc_error(layout),
+        Err(_) => panic!("capacity overflow"),
+    }
+}

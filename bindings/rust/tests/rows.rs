@@ -1,0 +1,367 @@
+//! The rows of `crates/resp_vectors` that speak of what this crate has: `read`, `cut` and `limits`
+//! of replies, `pack` and `pipeline` of commands. ROWS.md there says how a row is written. The rows
+//! with cursor arguments (`@N`) are left out, since the C interface has none, and so are those of
+//! other tasks.
+
+use resp_c::{pack, pack_pipeline, Error, Kind, Limits, Parser, Value};
+use std::collections::BTreeMap;
+use std::fs;
+use std::path::{Path, PathBuf};
+
+/// The most bytes that are cut at each place.
+const CUT: usize = 200;
+
+struct Row {
+    task: String,
+    words: Vec<Vec<u8>>,
+    answer: String,
+    place: String,
+}
+
+/// The rows of all files.
+fn rows() -> Vec<Row> {
+    let folder = Path::new(env!("CARGO_MANIFEST_DIR")).join("../../crates/resp_vectors/data");
+    let entries = fs::read_dir(&folder).expect("the folder of the rows");
+    let mut files: Vec<PathBuf> = entries
+        .map(|entry| entry.expect("an entry").path())
+        .collect();
+    files.sort();
+    let rows: Vec<Row> = files.iter().flat_map(|file| rows_of(file)).collect();
+    assert!(!rows.is_empty());
+    rows
+}
+
+fn rows_of(file: &Path) -> Vec<Row> {
+    let text = fs::read_to_string(file).expect("a file of rows");
+    let name = file
+        .file_name()
+        .expect("a name")
+        .to_string_lossy()
+        .into_owned();
+    let lines = text.lines().enumerate();
+    lines
+        .filter(|(_, line)| !line.is_empty() && !line.starts_with('#'))
+        .map(|(n, line)| row(line, format!("{name}:{}", n + 1)))
+        .collect()
+}
+
+fn row(line: &str, place: String) -> Row {
+    let (question, answer) = line.split_once(" =>").expect("an answer");
+    let (task, words) = question.split_once(' ').unwrap_or((question, ""));
+    Row {
+        task: task.to_string(),
+        words: words_of(words.as_bytes()),
+        answer: answer.strip_prefix(' ').unwrap_or(answer).to_string(),
+        place,
+    }
+}
+
+/// The words of a row, with their escapes undone.
+fn words_of(mut line: &[u8]) -> Vec<Vec<u8>> {
+    let mut words = Vec::new();
+    while !line.is_empty() {
+        let mut word = Vec::new();
+        while let Some(byte) = line.first().filter(|byte| **byte != b' ') {
+            if *byte == b'"' {
+                word.extend(quoted(&mut line));
+                continue;
+            }
+            let bare = bare(&mut line);
+            match bare
+                .strip_suffix(b"*")
+                .filter(|_| line.first() == Some(&b'"'))
+            {
+                Some(times) => word.extend(quoted(&mut line).repeat(number(times) as usize)),
+                None => word.extend_from_slice(bare),
+            }
+        }
+        words.push(word);
+        line = line.get(1..).unwrap_or(&[]);
+    }
+    words
+}
+
+/// Takes the bytes up to a space or a quote.
+fn bare<'a>(line: &mut &'a [u8]) -> &'a [u8] {
+    let end = line.iter().position(|byte| matches!(byte, b' ' | b'"'));
+    let (bare, rest) = line.split_at(end.unwrap_or(line.len()));
+    *line = rest;
+    bare
+}
+
+/// Takes bytes in quotes.
+fn quoted(line: &mut &[u8]) -> Vec<u8> {
+    let mut bytes = line[1..].iter();
+    let mut read = Vec::new();
+    let mut next = || *bytes.next().expect("a quote at the end");
+    loop {
+        match next() {
+            b'"' => break,
+            b'\\' => read.push(match next() {
+                b'r' => b'\r',
+                b'n' => b'\n',
+                b't' => b'\t',
+                b'x' => 16 * digit(next()) + digit(next()),
+                other => other,
+            }),
+            other => read.push(other),
+        }
+    }
+    *line = bytes.as_slice();
+    read
+}
+
+fn digit(byte: u8) -> u8 {
+    char::from(byte).to_digit(16).expect("a hexadecimal digit") as u8
+}
+
+fn number(digits: &[u8]) -> u64 {
+    std::str::from_utf8(digits)
+        .expect("digits")
+        .parse()
+        .expect("a number")
+}
+
+/// A value as the rows show it, which is how the Rust crate `redis` prints it.
+fn shown(value: Value) -> String {
+    let text = value.text();
+    match value.kind() {
+        Kind::Nil => "nil".into(),
+        Kind::Okay => "ok".into(),
+        Kind::Int => format!("int({})", value.int().expect("a number")),
+        Kind::SimpleString => format!("simple-string({:?})", text.expect("UTF-8")),
+        Kind::BulkString => match text {
+            Some(text) => format!("bulk-string('{text:?}')"),
+            None => format!("binary-data({:?})", value.bytes().expect("bytes")),
+        },
+        Kind::Array => format!("array([{}])", all_shown(value.elements())),
+        Kind::Map => format!("map([{}])", pairs_shown(value)),
+        Kind::Attribute => format!("attribute({})", shown(value.described().expect("a value"))),
+        Kind::ServerError => error_shown(value),
+        Kind::Boolean => format!("boolean({})", value.boolean().expect("a truth value")),
+        Kind::Double => format!("double({})", text.expect("UTF-8")),
+        Kind::BigNumber => format!("big-number({:?})", value.bytes().expect("bytes")),
+        Kind::Set => format!("set([{}])", all_shown(value.elements())),
+        Kind::VerbatimString => verbatim_shown(value),
+        Kind::Push => push_shown(value),
+    }
+}
+
+fn all_shown<'a>(values: impl Iterator<Item = Value<'a>>) -> String {
+    values.map(shown).collect::<Vec<_>>().join(", ")
+}
+
+fn pairs_shown(map: Value) -> String {
+    let pair = |(key, value)| format!("({}, {})", shown(key), shown(value));
+    map.pairs().map(pair).collect::<Vec<_>>().join(", ")
+}
+
+fn error_shown(error: Value) -> String {
+    match error.server_error().expect("an error") {
+        (code, Some(detail)) => format!("Server error: `{code}: {detail}`"),
+        (code, None) => format!("Server error: `{code}`"),
+    }
+}
+
+fn verbatim_shown(value: Value) -> String {
+    let (format, text) = value.verbatim().expect("a format");
+    let format = match format {
+        "txt" => "Text".into(),
+        "mkd" => "Markdown".into(),
+        other => format!("Unknown({other:?})"),
+    };
+    format!("verbatim-string({format},{text:?})")
+}
+
+fn push_shown(value: Value) -> String {
+    let (kind, data) = value.push().expect("a kind");
+    let kind = match kind {
+        "invalidate" => "Invalidate".into(),
+        "message" => "Message".into(),
+        "pmessage" => "PMessage".into(),
+        "smessage" => "SMessage".into(),
+        "unsubscribe" => "Unsubscribe".into(),
+        "punsubscribe" => "PUnsubscribe".into(),
+        "sunsubscribe" => "SUnsubscribe".into(),
+        "subscribe" => "Subscribe".into(),
+        "psubscribe" => "PSubscribe".into(),
+        "ssubscribe" => "SSubscribe".into(),
+        other => format!("Other({other:?})"),
+    };
+    format!("push({kind}, [{}])", all_shown(data))
+}
+
+/// A text with its ASCII control characters as escapes.
+fn escaped(text: &str) -> String {
+    let escape = |letter: char| match letter {
+        '\r' => "\\r".into(),
+        '\n' => "\\n".into(),
+        '\t' => "\\t".into(),
+        _ if letter.is_ascii_control() => format!("\\x{:02X}", letter as u32),
+        _ => letter.to_string(),
+    };
+    text.chars().map(escape).collect()
+}
+
+/// What a parser with these limits makes of the bytes, fed in these pieces.
+fn read<'a>(limits: Limits, pieces: impl IntoIterator<Item = &'a [u8]>) -> String {
+    let mut parser = Parser::with_limits(limits).expect("limits");
+    let mut parts = Vec::new();
+    for piece in pieces {
+        parser.feed(piece).expect("memory");
+        match take_all(&mut parser, &mut parts) {
+            Ok(()) => {}
+            Err(Error::Fault { fault, offset }) => {
+                parts.push(format!("{fault}@{offset}"));
+                return escaped(&parts.join(" "));
+            }
+            Err(error) => panic!("{error}"),
+        }
+    }
+    if parser.in_progress() {
+        parts.push("..".into());
+    }
+    escaped(&parts.join(" "))
+}
+
+fn take_all(parser: &mut Parser, parts: &mut Vec<String>) -> Result<(), Error> {
+    while let Some(view) = parser.next()? {
+        parts.push(shown(view.value()));
+    }
+    Ok(())
+}
+
+/// The same by `first`, value after value.
+fn read_by_first(limits: Limits, mut bytes: &[u8]) -> String {
+    let mut parser = Parser::with_limits(limits).expect("limits");
+    let mut parts = Vec::new();
+    while !bytes.is_empty() {
+        match parser.first(bytes) {
+            Ok(Some((view, taken))) => {
+                parts.push(shown(view.value()));
+                bytes = &bytes[taken..];
+            }
+            Ok(None) => {
+                parts.push("..".into());
+                break;
+            }
+            Err(Error::Fault { fault, offset }) => {
+                parts.push(format!("{fault}@{offset}"));
+                break;
+            }
+            Err(error) => panic!("{error}"),
+        }
+    }
+    escaped(&parts.join(" "))
+}
+
+/// Reads the bytes whole, one by one, value by value and cut at each place.
+fn check_reading(row: &Row, limits: Limits, bytes: &[u8]) {
+    let wanted = &row.answer;
+    assert_eq!(&read(limits, [bytes]), wanted, "{}", row.place);
+    assert_eq!(
+        &read(limits, bytes.chunks(1)),
+        wanted,
+        "{} by bytes",
+        row.place
+    );
+    assert_eq!(
+        &read_by_first(limits, bytes),
+        wanted,
+        "{} by first",
+        row.place
+    );
+    if bytes.len() > CUT {
+        return;
+    }
+    for cut in 1..bytes.len() {
+        let (first, second) = bytes.split_at(cut);
+        assert_eq!(
+            &read(limits, [first, second]),
+            wanted,
+            "{} cut at {cut}",
+            row.place
+        );
+    }
+}
+
+fn check_limits(row: &Row) {
+    let limits = Limits {
+        depth: number(&row.words[0]) as usize,
+        bytes: number(&row.words[1]) as usize,
+    };
+    if row.answer.starts_with("refused") {
+        let refused = Parser::with_limits(limits);
+        assert!(matches!(refused, Err(Error::OutOfRange)), "{}", row.place);
+        return;
+    }
+    check_reading(row, limits, &row.words[2]);
+}
+
+/// Whether a word is a cursor argument.
+fn is_cursor(word: &[u8]) -> bool {
+    word.first() == Some(&b'@')
+}
+
+fn check_pack(row: &Row) {
+    assert_eq!(
+        pack(&row.words),
+        quoted(&mut row.answer.as_bytes()),
+        "{}",
+        row.place
+    );
+}
+
+fn check_pipeline(row: &Row) {
+    let atomic = row.words.first().is_some_and(|word| word == b"--atomic");
+    let words = &row.words[usize::from(atomic)..];
+    let mut commands: Vec<&[Vec<u8>]> = Vec::new();
+    if !words.is_empty() {
+        commands.extend(words.split(|word| word == b",").map(without_mark));
+    }
+    let packed = pack_pipeline(&commands, atomic);
+    assert_eq!(packed, quoted(&mut row.answer.as_bytes()), "{}", row.place);
+}
+
+/// A command without the mark that its answer is ignored.
+fn without_mark(words: &[Vec<u8>]) -> &[Vec<u8>] {
+    match words.split_last() {
+        Some((last, front)) if last == b"!" => front,
+        _ => words,
+    }
+}
+
+/// Whether the row speaks of what this crate has; if so it is checked.
+fn check(row: &Row) -> bool {
+    match row.task.as_str() {
+        "read" | "cut" => check_reading(row, Limits::default(), &row.words[0]),
+        "limits" => check_limits(row),
+        "pack" | "pipeline" if row.words.iter().any(|word| is_cursor(word)) => return false,
+        "pack" => check_pack(row),
+        "pipeline" => check_pipeline(row),
+        _ => return false,
+    }
+    true
+}
+
+#[test]
+fn rows_hold() {
+    let mut checked: BTreeMap<String, usize> = BTreeMap::new();
+    let mut skipped: BTreeMap<String, usize> = BTreeMap::new();
+    for row in rows() {
+        let counts = if check(&row) {
+            &mut checked
+        } else {
+            &mut skipped
+        };
+        *counts.entry(row.task).or_default() += 1;
+    }
+    println!("rows checked: {checked:?}");
+    println!("rows skipped, with cursors or of other tasks: {skipped:?}");
+    for task in ["read", "cut", "limits", "pack", "pipeline"] {
+        assert!(checked.contains_key(task), "no row of {task}");
+    }
+    for task in ["read", "cut", "limits"] {
+        assert!(!skipped.contains_key(task), "a row of {task} is skipped");
+    }
+}
