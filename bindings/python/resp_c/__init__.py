@@ -1,0 +1,45 @@
+"""A RESP (Redis protocol) parser and command packer over the C library of `resp_core`, in which every
+function is proved to meet its contract. This wrapper isn't proved.
+
+>>> from resp_c import MORE, Parser, pack
+>>> pack("GET", "key")
+b'*2\\r\\n$3\\r\\nGET\\r\\n$3\\r\\nkey\\r\\n'
+>>> parser = Parser()
+>>> parser.feed(b"*2\\r\\n$5\\r\\nhello\\r\\n:7")
+>>> parser.next() is MORE
+True
+>>> parser.feed(b"\\r\\n")
+>>> parser.next()
+[b'hello', 7]
+"""
+
+from ._errors import Fault, IncompleteError, ParserFailedError, ProtocolError, RespError
+from ._packing import Argument, pack, pack_pipeline, version
+from ._parser import MORE, More, Parser, State, parse_one
+from ._values import Attribute, BigNumber, Double, Pairs, Push, ServerError, Set, Value, Verbatim
+
+__all__ = [
+    "MORE",
+    "Argument",
+    "Attribute",
+    "BigNumber",
+    "Double",
+    "Fault",
+    "IncompleteError",
+    "More",
+    "Pairs",
+    "Parser",
+    "ParserFailedError",
+    "ProtocolError",
+    "Push",
+    "RespError",
+    "ServerError",
+    "Set",
+    "State",
+    "Value",
+    "Verbatim",
+    "pack",
+    "pack_pipeline",
+    "parse_one",
+    "version",
+]

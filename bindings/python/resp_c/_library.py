@@ -1,0 +1,93 @@
+"""The C interface by ctypes."""
+
+from __future__ import annotations
+
+import ctypes
+import os
+import pathlib
+from ctypes import POINTER, c_bool, c_char_p, c_int64, c_size_t, c_uint8, c_uint32, c_void_p
+
+MORE = 0
+DONE = 1
+FAULT = 2
+MEMORY = 3
+FAILED = 4
+CLOSED = 5
+ROOM = 6
+RANGE = 7
+
+
+class Handle(ctypes.Structure):
+    """A parser. All zero until it is opened, and never copied."""
+
+    _fields_ = [("at", c_void_p), ("live", c_bool)]
+
+
+class Token(ctypes.Structure):
+    """One value of a view; read as bytes."""
+
+    _fields_ = [("kind", c_uint8), ("size", c_size_t), ("number", c_int64), ("start", c_size_t)]
+
+
+class View(ctypes.Structure):
+    """Where a reply lies, until the next call with its handle."""
+
+    _fields_ = [
+        ("tokens", c_void_p),
+        ("token_count", c_size_t),
+        ("text", c_void_p),
+        ("text_size", c_size_t),
+    ]
+
+    def copied(self) -> tuple[bytes, bytes]:
+        """Its tokens and its text."""
+        tokens = _copied(self.tokens, self.token_count * ctypes.sizeof(Token))
+        return tokens, _copied(self.text, self.text_size)
+
+
+def _copied(at: int, size: int) -> bytes:
+    return ctypes.string_at(at, size) if size else b""
+
+
+_SIGNATURES = {
+    "resp_parser_open_within": (c_uint32, [POINTER(Handle), c_size_t, c_size_t]),
+    "resp_parser_close": (None, [POINTER(Handle)]),
+    "resp_parser_feed": (c_uint32, [POINTER(Handle), c_char_p, c_size_t]),
+    "resp_parser_next": (c_uint32, [POINTER(Handle), POINTER(View)]),
+    "resp_parser_first": (
+        c_uint32,
+        [POINTER(Handle), c_char_p, c_size_t, POINTER(View), POINTER(c_size_t)],
+    ),
+    "resp_parser_state": (c_uint32, [POINTER(Handle)]),
+    "resp_parser_fault": (c_uint32, [POINTER(Handle), POINTER(c_size_t)]),
+    "resp_pack": (
+        c_uint32,
+        [c_char_p, c_size_t, POINTER(c_size_t), c_size_t, c_char_p, c_size_t, POINTER(c_size_t)],
+    ),
+    "resp_pack_pipeline": (
+        c_uint32,
+        [
+            *(c_char_p, c_size_t),
+            *(POINTER(c_size_t), c_size_t),
+            *(POINTER(c_size_t), c_size_t),
+            c_bool,
+            *(c_char_p, c_size_t),
+            POINTER(c_size_t),
+        ],
+    ),
+    "resp_version": (c_uint32, []),
+}
+
+
+def _load() -> ctypes.CDLL:
+    """Loads the library of the package, or the one that RESP_C_SO names."""
+    beside = pathlib.Path(__file__).with_name("libresp_c.so")
+    library = ctypes.CDLL(os.environ.get("RESP_C_SO") or str(beside))
+    for name, (result, arguments) in _SIGNATURES.items():
+        function = getattr(library, name)
+        function.restype = result
+        function.argtypes = arguments
+    return library
+
+
+library = _load()
