@@ -44,3 +44,8 @@ pub use error::{Error, Fault};
 pub use pack::{pack, pack_pipeline, version};
 pub use parser::{Limits, Parser, State};
 pub use view::{Elements, Kind, Pairs, Token, Tokens, Value, View};
+
+/// The examples of README.md, which are tests, too.
+#[cfg(doctest)]
+#[doc = include_str!("../README.md")]
+struct Readme;
