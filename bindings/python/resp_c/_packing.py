@@ -3,13 +3,16 @@
 from __future__ import annotations
 
 import ctypes
-from typing import Callable, Iterable, List, Union
+from typing import TYPE_CHECKING, Callable, Iterable, List, Sequence, Sized, Union
 
 from . import _library
 from ._library import library
 
 Argument = Union[bytes, bytearray, memoryview, str, int, float]
 """An argument of a command. Text is sent as UTF-8, and a number as Python writes it."""
+
+if TYPE_CHECKING:
+    _Buffer = ctypes.Array[ctypes.c_char]
 
 # The most bytes before and after an argument or a command: a type byte, 20 digits, and CR LF twice.
 _FRAME = 25
@@ -26,8 +29,11 @@ def pack(*args: Argument) -> bytes:
     encoded = [_encoded(arg) for arg in args]
     joined, sizes = b"".join(encoded), _sizes(encoded)
 
-    def packer(out: ctypes.Array, size: ctypes.c_size_t) -> int:
-        return library.resp_pack(joined, len(joined), sizes, len(encoded), out, len(out), size)
+    def packer(out: _Buffer, size: ctypes.c_size_t) -> int:
+        status: int = library.resp_pack(
+            *(joined, len(joined)), *(sizes, len(encoded)), *(out, len(out)), size
+        )
+        return status
 
     return _written(len(joined) + _FRAME * (len(encoded) + 1), packer)
 
@@ -44,8 +50,8 @@ def pack_pipeline(commands: Iterable[Iterable[Argument]], atomic: bool = False) 
     joined, sizes = b"".join(encoded), _sizes(encoded)
     counts = _sizes(listed)
 
-    def packer(out: ctypes.Array, size: ctypes.c_size_t) -> int:
-        return library.resp_pack_pipeline(
+    def packer(out: _Buffer, size: ctypes.c_size_t) -> int:
+        status: int = library.resp_pack_pipeline(
             *(joined, len(joined)),
             *(sizes, len(encoded)),
             *(counts, len(listed)),
@@ -53,6 +59,7 @@ def pack_pipeline(commands: Iterable[Iterable[Argument]], atomic: bool = False) 
             *(out, len(out)),
             size,
         )
+        return status
 
     room = len(joined) + _FRAME * (len(encoded) + len(listed)) + _TRANSACTION
     return _written(room, packer)
@@ -88,13 +95,13 @@ def _encoded_command(command: Iterable[Argument]) -> List[bytes]:
     return [_encoded(arg) for arg in command]
 
 
-def _sizes(parts: List) -> ctypes.Array:
+def _sizes(parts: Sequence[Sized]) -> ctypes.Array[ctypes.c_size_t]:
     """The length of each part; one more place than parts, so that it is never empty."""
     sizes = [len(part) for part in parts]
     return (ctypes.c_size_t * (len(sizes) + 1))(*sizes)
 
 
-def _written(room: int, packer: Callable[[ctypes.Array, ctypes.c_size_t], int]) -> bytes:
+def _written(room: int, packer: Callable[[_Buffer, ctypes.c_size_t], int]) -> bytes:
     """What a packer writes, which is called again where the room isn't enough."""
     size = ctypes.c_size_t()
     status = _library.ROOM

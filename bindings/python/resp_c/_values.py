@@ -19,8 +19,8 @@ class Double(float):
         double.text = text
         return double
 
-    def __getnewargs__(self) -> Tuple[str]:
-        return (self.text,)
+    def __reduce__(self) -> Tuple[Any, ...]:
+        return type(self), (self.text,)
 
 
 class BigNumber(bytes):
@@ -28,17 +28,17 @@ class BigNumber(bytes):
 
 
 class Verbatim(str):
-    """A text for display; `format` is its format, as `txt` or `mkd`."""
+    """A text for display; `text_format` is its format, as `txt` or `mkd`."""
 
-    format: str
+    text_format: str
 
-    def __new__(cls, text: str, format: str) -> Verbatim:
+    def __new__(cls, text: str, text_format: str) -> Verbatim:
         verbatim = super().__new__(cls, text)
-        verbatim.format = format
+        verbatim.text_format = text_format
         return verbatim
 
-    def __getnewargs__(self) -> Tuple[str, str]:
-        return (str(self), self.format)
+    def __reduce__(self) -> Tuple[Any, ...]:
+        return type(self), (str(self), self.text_format)
 
 
 class Set(List[Any]):
@@ -130,6 +130,7 @@ def value_of(tokens: bytes, text: bytes) -> Value:
             made.append(leaf(text[start : start + size], number))
         else:
             made.append(_AGGREGATES[kind](made, size))
+    value: Value
     (value,) = made
     return value
 
@@ -177,8 +178,8 @@ def _server_error(text: bytes) -> ServerError:
 
 
 def _verbatim(text: bytes) -> Verbatim:
-    format, _, shown = text.decode().partition(":")
-    return Verbatim(shown, format)
+    text_format, _, shown = text.decode().partition(":")
+    return Verbatim(shown, text_format)
 
 
 # By the numbers of the kinds in the C interface.

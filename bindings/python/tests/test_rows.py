@@ -128,8 +128,8 @@ def bytes_shown(data):
 
 
 def verbatim_shown(value):
-    format = FORMATS.get(value.format, f"Unknown({debug(value.format)})")
-    return f"verbatim-string({format},{debug(str(value))})"
+    name = FORMATS.get(value.text_format, f"Unknown({debug(value.text_format)})")
+    return f"verbatim-string({name},{debug(str(value))})"
 
 
 def push_shown(push):

@@ -103,7 +103,7 @@ class Resp3(unittest.TestCase):
         value = value_of(b"=15\r\ntxt:Some string\r\n")
         self.assertEqual(value, "Some string")
         self.assertIs(type(value), Verbatim)
-        self.assertEqual(value.format, "txt")
+        self.assertEqual(value.text_format, "txt")
         self.assertEqual(value_of(b"=7\r\nmkd:a:b\r\n"), "a:b")
 
     def test_sets(self):
@@ -155,7 +155,7 @@ class Types(unittest.TestCase):
         value = value_of(data)
         again = pickle.loads(pickle.dumps(value))
         self.assertEqual(again, value)
-        self.assertEqual((again[0].text, again[1].format), ("1.50", "txt"))
+        self.assertEqual((again[0].text, again[1].text_format), ("1.50", "txt"))
 
     def test_a_double_of_a_text(self):
         self.assertEqual(Double("1.50").text, "1.50")

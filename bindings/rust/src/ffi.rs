@@ -35,7 +35,7 @@ struct RawParser {
 
 /// `resp_token` of the C interface.
 #[repr(C)]
-#[derive(Debug, Clone, Copy)]
+#[derive(Clone, Copy)]
 pub(crate) struct RawToken {
     pub(crate) kind: u8,
     pub(crate) size: usize,
@@ -91,7 +91,7 @@ extern "C" {
 }
 
 /// The tokens and the text of a reply, lent by a handle.
-#[derive(Debug, Clone, Copy)]
+#[derive(Clone, Copy)]
 pub(crate) struct Lent<'a> {
     pub(crate) tokens: &'a [RawToken],
     pub(crate) text: &'a [u8],

@@ -1,6 +1,7 @@
 //! Replies, as a parser lends them.
 
 use crate::ffi::{Lent, RawToken};
+use std::fmt;
 use std::iter::FusedIterator;
 use std::slice;
 use std::str;
@@ -122,9 +123,15 @@ impl Kind {
 /// # Ok(())
 /// # }
 /// ```
-#[derive(Debug, Clone, Copy)]
+#[derive(Clone, Copy)]
 pub struct View<'a> {
     lent: Lent<'a>,
+}
+
+impl fmt::Debug for View<'_> {
+    fn fmt(&self, f: &mut fmt::Formatter<'_>) -> fmt::Result {
+        f.debug_tuple("View").field(&self.value()).finish()
+    }
 }
 
 impl<'a> View<'a> {
@@ -186,17 +193,31 @@ impl<'a> View<'a> {
 /// # Ok(())
 /// # }
 /// ```
-#[derive(Debug, Clone, Copy)]
+#[derive(Clone, Copy)]
 pub struct Token<'a> {
     raw: RawToken,
     text: &'a [u8],
 }
 
+impl fmt::Debug for Token<'_> {
+    fn fmt(&self, f: &mut fmt::Formatter<'_>) -> fmt::Result {
+        write!(f, "{:?}", self.kind())?;
+        match self.kind() {
+            Kind::Nil | Kind::Okay => Ok(()),
+            Kind::Int => write!(f, "({})", self.raw.number),
+            Kind::Boolean => write!(f, "({})", self.raw.number == 1),
+            kind if kind.has_text() => write!(f, "(\"{}\")", self.text.escape_ascii()),
+            _ => write!(f, "({})", self.size()),
+        }
+    }
+}
+
 impl<'a> Token<'a> {
     fn new(raw: &RawToken, all: &'a [u8]) -> Token<'a> {
-        let text = match Kind::of(raw).has_text() {
-            true => &all[raw.start..raw.start + raw.size],
-            false => &[],
+        let text = if Kind::of(raw).has_text() {
+            &all[raw.start..raw.start + raw.size]
+        } else {
+            &[]
         };
         Token { raw: *raw, text }
     }
@@ -282,10 +303,16 @@ impl<'a> Token<'a> {
 /// # Ok(())
 /// # }
 /// ```
-#[derive(Debug, Clone)]
+#[derive(Clone)]
 pub struct Tokens<'a> {
     raw: slice::Iter<'a, RawToken>,
     text: &'a [u8],
+}
+
+impl fmt::Debug for Tokens<'_> {
+    fn fmt(&self, f: &mut fmt::Formatter<'_>) -> fmt::Result {
+        f.debug_list().entries(self.clone()).finish()
+    }
 }
 
 impl<'a> Iterator for Tokens<'a> {
@@ -305,6 +332,21 @@ impl FusedIterator for Tokens<'_> {}
 
 /// A value of a reply, with those inside it: a place in the tokens, which is cheap to copy.
 ///
+/// `{:?}` prints it as a tree:
+///
+/// ```
+/// # fn main() -> Result<(), resp_c::Error> {
+/// let mut parser = resp_c::Parser::new()?;
+/// parser.feed(b"*2\r\n%1\r\n+a\r\n:1\r\n$2\r\n\xFF!\r\n")?;
+/// let view = parser.next()?.expect("a value");
+/// let shown = format!("{:?}", view.value());
+/// assert_eq!(shown, r#"Array[Map{SimpleString("a"): Int(1)}, BulkString("\xff!")]"#);
+/// # Ok(())
+/// # }
+/// ```
+///
+/// A function over it may recurse: it has at most as many levels as the parser's limit allows.
+///
 /// ```
 /// use resp_c::{Kind, Parser, Value};
 ///
@@ -320,10 +362,31 @@ impl FusedIterator for Tokens<'_> {}
 /// # Ok(())
 /// # }
 /// ```
-#[derive(Debug, Clone, Copy)]
+#[derive(Clone, Copy)]
 pub struct Value<'a> {
     /// Its tokens, and maybe those of values after it: never none.
     from: Lent<'a>,
+}
+
+impl fmt::Debug for Value<'_> {
+    fn fmt(&self, f: &mut fmt::Formatter<'_>) -> fmt::Result {
+        match self.kind() {
+            kind @ (Kind::Array | Kind::Set | Kind::Push) => {
+                write!(f, "{kind:?}")?;
+                self.elements().fmt(f)
+            }
+            Kind::Map => {
+                f.write_str("Map")?;
+                self.pairs().fmt(f)
+            }
+            Kind::Attribute => {
+                write!(f, "Attribute{:?}", self.pairs())?;
+                self.described()
+                    .map_or(Ok(()), |value| write!(f, "({value:?})"))
+            }
+            _ => self.token().fmt(f),
+        }
+    }
 }
 
 impl<'a> Value<'a> {
@@ -541,11 +604,17 @@ impl<'a> Value<'a> {
 /// let elements: resp_c::Elements = view.value().elements();
 /// assert_eq!(elements.len(), 2);
 /// ```
-#[derive(Debug, Clone)]
+#[derive(Clone)]
 pub struct Elements<'a> {
     left: usize,
     /// From the next one on.
     from: Lent<'a>,
+}
+
+impl fmt::Debug for Elements<'_> {
+    fn fmt(&self, f: &mut fmt::Formatter<'_>) -> fmt::Result {
+        f.debug_list().entries(self.clone()).finish()
+    }
 }
 
 impl Elements<'_> {
@@ -592,10 +661,16 @@ impl FusedIterator for Elements<'_> {}
 /// let pairs: resp_c::Pairs = view.value().pairs();
 /// assert_eq!(pairs.len(), 2);
 /// ```
-#[derive(Debug, Clone)]
+#[derive(Clone)]
 pub struct Pairs<'a> {
     left: usize,
     parts: Elements<'a>,
+}
+
+impl fmt::Debug for Pairs<'_> {
+    fn fmt(&self, f: &mut fmt::Formatter<'_>) -> fmt::Result {
+        f.debug_map().entries(self.clone()).finish()
+    }
 }
 
 impl<'a> Iterator for Pairs<'a> {
