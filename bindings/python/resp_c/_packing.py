@@ -66,11 +66,7 @@ def pack_pipeline(commands: Iterable[Iterable[Argument]], atomic: bool = False) 
 
 
 def version() -> str:
-    """The version of the C library.
-
-    >>> version()
-    '0.1.0'
-    """
+    """The version of the C library, as '0.1.0'."""
     number = library.resp_version()
     return f"{number >> 16}.{number >> 8 & 255}.{number & 255}"
 

@@ -1,6 +1,7 @@
 """Parsers by hand: cuts, faults, limits, states. The places of faults are those of docs/GRAMMAR.md."""
 
 import copy
+import pathlib
 import pickle
 import subprocess
 import sys
@@ -197,7 +198,8 @@ class Lives(unittest.TestCase):
         self.assertEqual(parser.state, State.IN_PROGRESS)
         self.assertTrue(parser.in_progress)
         parser.feed(b"K\r\n")
-        parser.next()
+        self.assertTrue(parser.in_progress)
+        self.assertEqual(parser.next(), "OK")
         self.assertFalse(parser.in_progress)
         parser.close()
         self.assertEqual(parser.state, State.CLOSED)
@@ -258,7 +260,8 @@ class Lives(unittest.TestCase):
         self.assertEqual(result.stdout, "refused\nOK\n", result.stderr)
 
     def test_the_version(self):
-        self.assertEqual(version(), "0.1.0")
+        project = pathlib.Path(__file__).resolve().parent.parent / "pyproject.toml"
+        self.assertIn(f'version = "{version()}"', project.read_text("utf-8").split("\n"))
 
 
 if __name__ == "__main__":

@@ -54,7 +54,7 @@ where
 ///
 /// ```
 /// let (major, minor, patch) = resp_c::version();
-/// assert_eq!((major, minor, patch), (0, 1, 0));
+/// assert!((major, minor, patch) >= (0, 1, 0));
 /// ```
 pub fn version() -> (u8, u8, u8) {
     let [_, major, minor, patch] = ffi::version().to_be_bytes();

@@ -63,5 +63,9 @@ fn many_long_arguments() {
 
 #[test]
 fn the_version() {
-    assert_eq!(version(), (0, 1, 0));
+    let (major, minor, patch) = version();
+    assert_eq!(
+        format!("{major}.{minor}.{patch}"),
+        env!("CARGO_PKG_VERSION")
+    );
 }

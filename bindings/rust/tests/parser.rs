@@ -274,6 +274,14 @@ fn each_fault() {
 }
 
 #[test]
+fn whole_values_that_were_not_taken_are_in_progress() {
+    let mut parser = fed(b":1\r\n");
+    assert!(parser.in_progress());
+    assert!(parser.next().expect("no fault").is_some());
+    assert_eq!(parser.state(), State::BetweenValues);
+}
+
+#[test]
 fn a_fault_is_the_end() {
     let mut parser = fed(b":1\r\n@");
     assert!(parser.next().expect("no fault").is_some());
