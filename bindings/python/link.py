@@ -20,10 +20,9 @@ ALLOCATOR = BINDINGS / "c" / "resp_alloc.c"
 def command(archive, out):
     """The call of gcc. Everything in the archive is kept, calls stay within the library, and a
     missing function fails here and not when the library is loaded."""
-    return [
-        "gcc", "-std=c99", "-O2", "-fPIC", "-shared", "-Wl,-Bsymbolic", "-Wl,-z,defs", "-o", str(out),
-        "-Wl,--whole-archive", str(archive), "-Wl,--no-whole-archive", str(ALLOCATOR),
-    ]  # fmt: skip
+    options = ["-std=c99", "-O2", "-fPIC", "-shared", "-Wl,-Bsymbolic", "-Wl,-z,defs"]
+    whole = ["-Wl,--whole-archive", str(archive), "-Wl,--no-whole-archive"]
+    return ["gcc", *options, "-o", str(out), *whole, str(ALLOCATOR)]
 
 
 def link(out):
