@@ -45,7 +45,7 @@ class State(enum.IntEnum):
     IN_PROGRESS = 2
     """It has bytes that it didn't hand out: a part of a value, or more."""
     FAILED = 3
-    """It has failed, and refuses further calls."""
+    """It has failed: it takes no more bytes and gives no more values."""
 
 
 def _alone(method: _Method) -> _Method:
@@ -76,7 +76,8 @@ class Parser:
     `depth` limits the levels of a value (1 to 1000), `size` its bytes (1 to 2**63 - 1).
 
     A server's error is a value: it is returned as a ServerError. Where the bytes can't begin a value,
-    ProtocolError is raised. The parser has failed then, and further calls raise ParserFailedError.
+    ProtocolError is raised. The parser has failed then, and `feed` and `next` raise
+    ParserFailedError.
 
     It may be used by one thread at a time; a call while another one runs raises RuntimeError. It is
     closed by `close`, at the end of a `with` statement, or when it is collected.
@@ -117,7 +118,7 @@ class Parser:
         """The value at the start of bytes that are all there, and how many of them spell it.
 
         Raises IncompleteError where they end within the value. What the parser was fed isn't touched,
-        and a fault doesn't make it fail.
+        and it may have failed; a fault doesn't make it fail.
         """
         data = _bytes(data)
         taken = ctypes.c_size_t()

@@ -50,15 +50,15 @@ pub enum State {
     BetweenValues,
     /// It has bytes that it didn't hand out: a part of a value, or more.
     InProgress,
-    /// It has failed, and refuses further calls.
+    /// It has failed: it takes no more bytes and gives no more values.
     Failed,
 }
 
 /// A parser of replies.
 ///
 /// Bytes go in by [`feed`](Parser::feed), and values come out by [`next`](Parser::next). After a
-/// fault the parser has failed: it can't know where the next value begins. Dropping it frees what
-/// it holds.
+/// fault the parser has failed, since it can't know where the next value begins; both refuse then
+/// with [`Error::Failed`]. Dropping it frees what it holds.
 ///
 /// It is neither `Send` nor `Sync`, so it stays in the thread that made it: that the C library's
 /// handle may go to another thread isn't proved.
@@ -184,7 +184,8 @@ impl Parser {
     }
 
     /// The value at the start of bytes that are all there, and how many of them spell it; `None`
-    /// where they are incomplete. The limits are this parser's. What it was fed isn't touched.
+    /// where they are incomplete. The limits are this parser's. What it was fed isn't touched, and
+    /// it may have failed.
     ///
     /// # Errors
     ///
