@@ -1,9 +1,9 @@
 //! Links the archive of `crates/resp_c`, and the allocation functions that it wants.
 //!
 //! The allocation functions are those of `bindings/c/resp_alloc.c`, which the C and the Python
-//! bindings use too. Writing them in Rust would need no C compiler, but `rattle_dealloc` has no size,
-//! which `std::alloc` asks for, and one of the functions returns a struct by value, whose layout
-//! would then be stated twice. Rust links by `cc` on Linux anyway.
+//! bindings use too. Writing them in Rust would need no C compiler, but `rattle_dealloc` has no
+//! size, which `std::alloc` asks for, and two of the functions return a struct by value, whose
+//! layout would then be stated twice. Rust links by `cc` on Linux anyway.
 
 use std::env;
 use std::fs;

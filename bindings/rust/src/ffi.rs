@@ -162,7 +162,7 @@ impl Handle {
         };
         match status {
             status::MORE => Ok(None),
-            // SAFETY: as in `next`: the call showed the view, and the result borrows `self` mutably.
+            // SAFETY: as in `next`; the call showed it, and the result borrows `self` mutably.
             status::DONE => Ok(Some((unsafe { lend(&view) }, taken))),
             status::FAULT => Err(self.fault(Some(taken))),
             status => Err(failure(status)),
