@@ -112,3 +112,16 @@ fn out_of_memory(size: usize) -> ! {
         Err(_) => panic!("capacity overflow"),
     }
 }
+
+#[cfg(test)]
+mod tests {
+    use super::*;
+
+    #[test]
+    fn room_that_is_too_small_grows() {
+        for room in [0, 1, 13, 14, 15] {
+            let packed = written(room, |out| ffi::pack(b"PING", &[4], out));
+            assert_eq!(packed, b"*1\r\n$4\r\nPING\r\n");
+        }
+    }
+}
