@@ -180,8 +180,8 @@ uint32_t resp_parser_next(resp_parser *parser, resp_view *view);
  *
  * RESP_DONE    the value is in the view; *taken is how many bytes spell it
  * RESP_MORE    the bytes are the beginning of a value, or there are none; *taken is 0
- * RESP_FAULT   the bytes can't begin a value; resp_parser_fault has the number, and *taken says
- *              after how many bytes it shows; the parser hasn't failed by this
+ * RESP_FAULT   the bytes can't begin a value; *taken says after how many bytes that shows, and
+ *              resp_parser_fault has the fault; the parser hasn't failed by this
  * RESP_MEMORY  memory ran out; *taken has no meaning
  * RESP_CLOSED  no parser is open; the view and *taken are as they were
  */
@@ -193,8 +193,8 @@ uint32_t resp_parser_state(resp_parser *parser);
 
 /*
  * The fault that resp_parser_next or resp_parser_first met last: one of enum resp_fault. *offset is
- * 0, or where the parser has met a fault by resp_parser_next, how many bytes since its last value
- * show it, the byte that shows it included.
+ * after how many bytes it showed, the byte that shows it included: of resp_parser_next since the
+ * last value, of resp_parser_first of the bytes that it was given. Both are 0 before a fault.
  */
 uint32_t resp_parser_fault(resp_parser *parser, size_t *offset);
 

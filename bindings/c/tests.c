@@ -238,7 +238,7 @@ static void check_first(const struct example *example)
         text_add_number(&got, resp_parser_fault(&parser, &offset));
         text_add(&got, "@");
         text_add_size(&got, taken);
-        check_number("first: offset", 0, (long long)offset);
+        check_number("first: offset", (long long)taken, (long long)offset);
     } else if (at < example->size) {
         add_part(&got, "..");
         check_number("first: taken of more", 0, (long long)taken);
@@ -419,7 +419,7 @@ static void test_failed(void)
     check_number("failed: first of fault", RESP_FAULT,
                  resp_parser_first(&parser, BYTES("@"), &view, &taken));
     check_number("failed: its number", RESP_UNKNOWN_TYPE, resp_parser_fault(&parser, &offset));
-    check_number("failed: offset stays", 4, (long long)offset);
+    check_number("failed: its offset", 1, (long long)offset);
     check_number("failed: reopened", RESP_DONE, resp_parser_open(&parser));
     check_number("failed: no fault", RESP_NO_FAULT, resp_parser_fault(&parser, &offset));
     check_number("failed: no offset", 0, (long long)offset);
