@@ -1,9 +1,10 @@
-//! Values that are written as a server sends them: what is refused, and what stands then.
+//! Values that are written as a server sends them, or as flat replies: what is refused, and what
+//! stands then.
 
 use crate::checks::{Test, assert_equal, assert_text, reply, string};
 use resp_core::{
-    Items, ProtocolVersion, PushKind, ServerError, Text, Value, VerbatimFormat, as_resp2, encode,
-    encode_within, is_double_text,
+    FlatReply, Items, ProtocolVersion, PushKind, ServerError, Text, Token, TokenKind, Value,
+    VerbatimFormat, as_resp2, encode, encode_within, is_double_text,
 };
 use resp_testing::{answer_text, bytes_text};
 
@@ -132,4 +133,30 @@ fn forms_for_clients_of_resp2(rt: HostRuntime) {
         let value = reply(&rt, bytes);
         assert_equal(&rt, as_resp2(rt.alloc(), &value), &reply(&rt, wanted));
     }
+}
+
+fn token(kind: TokenKind, size: usize, number: i64, start: usize) -> Token {
+    Token {
+        kind,
+        size,
+        number,
+        start,
+    }
+}
+
+#[test]
+fn a_flat_reply_has_its_tokens_and_its_text(rt: HostRuntime) {
+    let value = reply(&rt, b"%1\r\n+k\r\n>3\r\n+mine\r\n#t\r\n=6\r\ntxt:ab\r\n");
+    let mut flat = FlatReply::new(rt.alloc());
+    flat.append(&value).expect(&rt, "memory");
+    let wanted = [
+        token(TokenKind::Map, 1, 0, 0),
+        token(TokenKind::SimpleString, 1, 0, 0),
+        token(TokenKind::Push, 3, 0, 1),
+        token(TokenKind::BulkString, 4, 0, 1),
+        token(TokenKind::Boolean, 0, 1, 5),
+        token(TokenKind::VerbatimString, 6, 0, 5),
+    ];
+    assert_eq!(rt; flat.tokens.as_slice(), wanted.as_slice());
+    assert_eq!(rt; flat.text.as_slice(), b"kminetxt:ab".as_slice());
 }

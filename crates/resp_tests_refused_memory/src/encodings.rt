@@ -1,8 +1,9 @@
-//! Values that are written: all bytes of one, or none and memory runs out.
+//! Values that are written: all bytes of one, or none and memory runs out; and as flat replies.
 
 use crate::heap::{Test, made, ran_out, refuse};
 use resp_core::{
-    ProtocolVersion, RedisResult, Value, as_resp2, encode, encode_within, parse_redis_value,
+    FlatReply, ProtocolVersion, RedisResult, Value, as_resp2, encode, encode_within,
+    parse_redis_value,
 };
 
 /// Of types that take memory while they are written, and of others.
@@ -53,4 +54,21 @@ fn forms(rt: HostRuntime) {
     let value = reply(&rt, REPLY);
     let wanted = reply(&rt, &IN_RESP2[2..]);
     makes! { rt; as_resp2(rt.alloc(), &value) => wanted }
+}
+
+fn flatten(flat: &mut FlatReply, value: &Value) -> RedisResult<()> {
+    flat.append(value)?;
+    Ok(())
+}
+
+#[test]
+fn flat_replies(rt: HostRuntime) {
+    let value = reply(&rt, REPLY);
+    let mut flat = FlatReply::new(rt.alloc());
+    refuse(rt.alloc());
+    let answer = flatten(&mut flat, &value);
+    if !ran_out(&rt, &answer) {
+        assert_eq!(rt; flat.tokens.len(), 10);
+        assert_eq!(rt; flat.text.as_slice(), b"MINE x yown:xyminea1.5".as_slice());
+    }
 }

@@ -8,8 +8,8 @@ use crate::links::{Link, link};
 use crate::made::get;
 use crate::subjects::Subject;
 use resp_core::{
-    ArgList, ArgWriter, Boxed, ByteLink, Cmd, CommandSink, ConnectionLike, Fields, FromRedisValue,
-    InfoDict, IntegerReplyOrNoOp, Items, Limits, NumericBehavior, Parser, Pipeline,
+    ArgList, ArgWriter, Boxed, ByteLink, Cmd, CommandSink, ConnectionLike, Fields, FlatReply,
+    FromRedisValue, InfoDict, IntegerReplyOrNoOp, Items, Limits, NumericBehavior, Parser, Pipeline,
     ProtocolVersion, PushKind, Reading, RedisWrite, ReplySource, Text, ToRedisArgs, Value,
     ValueType, VerbatimFormat, Writing, from_redis_value, from_redis_value_ref, get_push_kind,
     is_double_text, is_valid_16_bytes_hex_digest, parse_redis_value, pipe, verbatim_format,
@@ -146,9 +146,21 @@ fn boxes(rt: HostRuntime) {
 #[test]
 fn parsers(rt: HostRuntime) {
     let parser = Parser::of_size(&rt, 1);
+    let fed = Parser::of_size(&rt, 0);
     refuse_all(rt.alloc());
     assert!(rt; parser.in_progress() && !parser.is_failed() && parser.fault_offset().is_none());
+    assert!(rt; fed.unparsed_len() > parser.unparsed_len());
     assert!(rt; parser.limits() == Limits::default() && parser.depth_limit() == 100);
+    took_none(&rt);
+}
+
+#[test]
+fn flat_replies(rt: HostRuntime) {
+    let mut flat = FlatReply::new(rt.alloc());
+    flat.append(&Value::Int(7)).expect(&rt, "no refusal");
+    refuse_all(rt.alloc());
+    flat.clear();
+    assert!(rt; flat.tokens.is_empty() && FlatReply::new(rt.alloc()).text.is_empty());
     took_none(&rt);
 }
 
