@@ -1,9 +1,9 @@
 -- The spelling of a value from its tokens and its text.
-use Rattle.std.proofs.Common.{◌≡◌, ℕ, zero, suc, ◌+◌, ◌==◌, Bool, true, false, cond, ◌&&◌, List, [], ◌∷◌, ◌++◌, length, map, take, drop, codes, Option, Some, None, ℤ, pos, negsuc, refl, sym, ap, subst, ◌∙◌, append_assoc, append-nil, arith}
+use Rattle.std.proofs.Common.{◌≡◌, ℕ, zero, suc, ◌+◌, ◌==◌, Bool, true, false, cond, ◌&&◌, List, [], ◌∷◌, ◌++◌, length, map, take, drop, codes, Some, ℤ, pos, refl, sym, ap, subst, ◌∙◌, append_assoc, append-nil, arith}
 use Rattle.std.proofs.lemmas.Grind.{common_steps}
 use Rattle.std.proofs.lemmas.List.{length-map}
-use Rattle.std.specs.Fmt.{◌++?◌, decimal, signed_decimal}
-use Rattle.resp_value.specs.declared.value.Value.{Value, BulkString, roll-Value, out-Value, roll-out-Value, map-Value, fold-roll-Value}
+use Rattle.std.specs.Fmt.{decimal, signed_decimal}
+use Rattle.resp_value.specs.declared.value.Value.{Value, BulkString, out-Value, roll-out-Value, map-Value, fold-roll-Value}
 use Rattle.resp_value.specs.declared.value.Value.TheVariants.{rolls-BulkString}
 use Rattle.resp_value.specs.declared.value.Value.TheOpen.{Value-F}
 use Rattle.resp_value.specs.declared.names.PushKind.{PushKind}
@@ -19,7 +19,7 @@ use Rattle.resp_flat.specs.declared.token.TokenKind.{TokenKind}
 use Rattle.resp_flat.specs.declared.token.TokenKind.TheVariants as kind
 use Rattle.resp_flat.specs.FlatReplies.{sized, numbered, bytes_of, placed, joined as run, joined_pairs as run_pairs, tokens_step, tokens_of, text_step, text_of, tokens_of_pair, text_of_pair}
 use Rattle.resp_encode.specs.Resp2.{flat}
-use Rattle.resp_encode.specs.Encoding.{given, has_break, line, length_line, body_of, joined, aggregate, error_of, is_own_code, is_own_kind, verbatim_body, verbatim_of, push_of, spelling, encoding}
+use Rattle.resp_encode.specs.Encoding.{has_break, line, length_line, body_of, joined, aggregate, error_of, is_own_kind, verbatim_body, push_of, spelling, encoding}
 use Rattle.resp_encode.proofs.EncodedSpells.{given-parts, halves, kept}
 
 abbrev Tokens : Type 0

@@ -1,4 +1,4 @@
-use Rattle.std.proofs.Common.{◌≡◌, ℕ, [], Some, refl, sym, ap, ◌∙◌}
+use Rattle.std.proofs.Common.{ℕ, [], Some, refl, sym, ap, ◌∙◌}
 use Rattle.resp_value.specs.declared.value.Value.{Value}
 use Rattle.resp_parse.proofs.Prefixes.{law_of_prefixes}
 use Rattle.resp_encode.specs.FlatLaw.{LawOfFlatReplies}
