@@ -1,5 +1,5 @@
 -- Lists that are cut into pieces of given sizes.
-use Rattle.std.proofs.Common.{◌≡◌, ℕ, zero, suc, ◌+◌, ◌≤◌, ◌<◌, length, get_or, List, [], ◌∷◌, take, drop, Result, Ok, Err, IsErr, IsErrAnd, is_err, OnOk, false, ◌++◌, IfErr, subst, refl, ap, sym, ◌∙◌, arith}
+use Rattle.std.proofs.Common.{◌≡◌, ℕ, zero, suc, ◌+◌, ◌<◌, length, get_or, List, [], ◌∷◌, take, drop, Result, Ok, Err, IsErr, IsErrAnd, is_err, OnOk, false, ◌++◌, IfErr, subst, refl, ap, sym, ◌∙◌, arith}
 use Rattle.std.proofs.lemmas.List.{drop-drop, drop_more, map-append}
 use Rattle.resp_command.specs.Command.{Command, new_command}
 use Rattle.resp_pipeline.specs.Pipeline.{Plan, with_command, args_of_commands}
@@ -21,11 +21,6 @@ pub drop-cuts : {A : Type 0} (n : ℕ) (ns : List ℕ) (xs : List A) → drop n 
 drop-cuts zero ns xs = refl
 drop-cuts (suc n) [] xs = refl
 drop-cuts (suc n) (k ∷ ns) xs = drop-cuts n ns (drop k xs) ∙ ap (λ ys. cuts (drop n ns) ys) (drop_after k (total (take n ns)) xs)
-
-pub total-take-le : (n : ℕ) (ns : List ℕ) → total (take n ns) ≤ total ns
-total-take-le zero ns = omega arith
-total-take-le (suc n) [] = omega arith
-total-take-le (suc n) (k ∷ ns) = let h = total-take-le n ns in omega (arith, h)
 
 pub total-take-drop : (n : ℕ) (ns : List ℕ) → total (take n ns) + total (drop n ns) ≡ total ns
 total-take-drop zero ns = omega arith

@@ -94,6 +94,18 @@ pub note_refused : (s m t : Session) (e : RedisError) (p : Option ℕ) (place st
 note_refused s m t e p place status w h some same shows is status_is noted =
     subst (Taken s t) (sym status_is) (subst (λ (u : Session). Taken s u (status_of e)) (sym noted) (refused s m e p place w h some same shows is))
 
+-- what is kept where a fault is noted, and all where none is
+pub with_fault-keeps : (e : RedisError) (place : ℕ) (m : Session) → ((with_fault e place m).parser ≡ m.parser) × ((with_fault e place m).reply ≡ m.reply) × ((status_of e ≡ 2 → ⊥) → with_fault e place m ≡ m)
+with_fault-keeps (form.Parse (parsing.Fault f)) place m = (refl, refl, λ fine. absurd (fine refl))
+with_fault-keeps (form.Parse (parsing.Described d)) place m = (refl, refl, λ fine. refl)
+with_fault-keeps (form.Parse parsing.OutOfMemory) place m = (refl, refl, λ fine. refl)
+with_fault-keeps (form.General k x d) place m = (refl, refl, λ fine. refl)
+with_fault-keeps (form.Io k) place m = (refl, refl, λ fine. refl)
+with_fault-keeps (form.Server e) place m = (refl, refl, λ fine. refl)
+with_fault-keeps (form.Pipeline es) place m = (refl, refl, λ fine. refl)
+with_fault-keeps (form.Aborted es) place m = (refl, refl, λ fine. refl)
+with_fault-keeps form.OutOfMemory place m = (refl, refl, λ fine. refl)
+
 -- a session of which `has_failed` is false works
 pub works_unless : (s : Session) → (false ≡ true ↔ HasFailed s) → Works s
 works_unless s h = works_of s (λ f. true_is_not_false (sym (h.1 f)))
@@ -110,7 +122,7 @@ feed_refused s t bytes (Err x) w h e = (h s.since (stands_now s w)).1
 -- the value at the start of bytes that are all there
 pub first_value : (l : Limits) (bytes rest : List ℕ) (taken : ℕ) (v : Value) (s t : Session) (status : ℕ) → HasValue l bytes v rest → l ≡ s.parser.limits
     → taken ≡ length bytes - length rest → Appended v s t status → FirstOf bytes taken t status
-first_value l bytes rest taken v s t status h le is (Appended.memory eq same) = FirstOf.memory eq
+first_value l bytes rest taken v s t status h le is (Appended.memory eq empty same) = FirstOf.memory eq
 first_value l bytes rest taken v s t status h le is (Appended.done eq flat same) =
     let limits : l ≡ t.parser.limits = le ∙ sym (ap (λ (u : Session). u.parser.limits) same) in
     let whole : length bytes ≡ length h.prefix + length rest = ap length h.whole ∙ length-append h.prefix rest in

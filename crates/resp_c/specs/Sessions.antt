@@ -28,12 +28,19 @@ number_of frame.NoVerbatimFormat = 9
 number_of frame.BadPushKind = 10
 number_of frame.TooLong = 11
 
--- the session is between values, holds no bytes and has met no fault
+-- the reply holds these
+pub record Holds (reply : FlatReply) (tokens : List Token) (text : List ℕ) : Type 0 where
+  pub tokens_are : reply.tokens.items ≡ tokens
+  pub text_is : reply.text.items ≡ text
+
+-- the session is between values, holds no bytes and no reply, and has met no fault
 pub record IsNew (limits : Limits) (s : Session) : Type 0 where
   pub limits_are : s.parser.limits ≡ limits
   pub rest : IsBetweenValues s.parser
   pub empty : s.parser.unparsed ≡ []
+  pub reply : Holds s.reply [] []
   pub fault : s.fault ≡ 0
+  pub place : s.place ≡ 0
   pub lost : s.lost ≡ false
 
 -- the session goes on after b
@@ -66,7 +73,7 @@ with_fault _ place s = s
 -- bytes were added; or nothing changed
 pub data Fed (bytes : List ℕ) (s t : Session) (status : ℕ) : Type 0 where
   done : status ≡ 1 → Works s → ((b : List ℕ) → GoesOnAfter s b → GoesOnAfter t (b ++ bytes)) →
-      t.parser.limits ≡ s.parser.limits → Fed bytes s t status
+      t.parser.limits ≡ s.parser.limits → t ≡ record s { parser = t.parser } → Fed bytes s t status
   memory : status ≡ 3 → t ≡ s → Fed bytes s t status
   failed : status ≡ 4 → HasFailed s → t ≡ s → Fed bytes s t status
 
@@ -95,6 +102,14 @@ pub data Taken (s t : Session) (status : ℕ) : Type 0 where
   memory : status ≡ 3 → HasFailed t → Taken s t status
   failed : status ≡ 4 → HasFailed s → t.parser ≡ s.parser → t.lost ≡ s.lost → Taken s t status
 
+-- beside that, the limits stay; what gives no value leaves the reply empty; and what meets no fault
+-- leaves the last one as it was
+pub record Next (s t : Session) (status : ℕ) : Type 0 where
+  pub taken : Taken s t status
+  pub limits : t.parser.limits ≡ s.parser.limits
+  pub empty : (status ≡ 1 → ⊥) → Holds t.reply [] []
+  pub fault : (status ≡ 2 → ⊥) → (t.fault ≡ s.fault) × (t.place ≡ s.place)
+
 -- the value at the start of the bytes, which the reply holds, and how many of them spell it
 pub record GivesFirst (bytes : List ℕ) (taken : ℕ) (t : Session) : Type 0 where
   pub value : Value
@@ -111,20 +126,15 @@ pub data FirstOf (bytes : List ℕ) (taken : ℕ) (t : Session) (status : ℕ) :
       FaultShownAt t.parser.limits bytes taken → t.place ≡ taken → FirstOf bytes taken t status
   memory : status ≡ 3 → FirstOf bytes taken t status
 
--- the reply holds these
-pub record Holds (reply : FlatReply) (tokens : List Token) (text : List ℕ) : Type 0 where
-  pub tokens_are : reply.tokens.items ≡ tokens
-  pub text_is : reply.text.items ≡ text
-
 -- the reply is that of the value, or is empty where memory ran out
 pub data Appended (v : Value) (s t : Session) (status : ℕ) : Type 0 where
   done : status ≡ 1 → IsFlatOf t.reply v → t ≡ record s { reply = t.reply } → Appended v s t status
-  memory : status ≡ 3 → t ≡ record s { reply = t.reply } → Appended v s t status
+  memory : status ≡ 3 → Holds t.reply [] [] → t ≡ record s { reply = t.reply } → Appended v s t status
 
 -- the same, and then the value is lost
 pub data Kept (v : Value) (s t : Session) (status : ℕ) : Type 0 where
-  done : status ≡ 1 → IsFlatOf t.reply v → t.lost ≡ false → t.parser ≡ s.parser → Kept v s t status
-  memory : status ≡ 3 → t.lost ≡ true → Kept v s t status
+  done : status ≡ 1 → IsFlatOf t.reply v → t ≡ record s { reply = t.reply; lost = false } → Kept v s t status
+  memory : status ≡ 3 → Holds t.reply [] [] → t ≡ record s { reply = t.reply; lost = true } → Kept v s t status
 
 -- 1 where no bytes are held, 2 where some are that aren't part of a value that was taken, and 3 after
 -- a failure

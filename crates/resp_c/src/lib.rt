@@ -4,7 +4,7 @@
 ghost use Rattle.std.specs.Prelude.{◌≡◌, None, length};
 ghost use Rattle.resp_parse.specs.Limits.{usual};
 ghost use Rattle.resp_c.specs.Calls.{Called, Opened, Shown, Told, FirstRead, FaultIs};
-ghost use Rattle.resp_c.specs.Sessions.{Fed, Taken, StateIs};
+ghost use Rattle.resp_c.specs.Sessions.{Fed, Next, StateIs};
 ghost use Rattle.resp_c.specs.Packing.{PackedInto, FitBoth, total, cuts, request_of};
 ghost use Rattle.resp_command.specs.Packed.{packed_or_none};
 
@@ -91,7 +91,7 @@ pub extern "C" fn resp_parser_next(
     parser: &mut RespParser,
     view: &mut RespView,
 ) -> u32
-    ensures taken { Called Taken parser.old.slot.value parser.new.slot.value result }
+    ensures taken { Called Next parser.old.slot.value parser.new.slot.value result }
     ensures shown { Shown parser.new.slot.value view.old view.new }
 {
     let Some(mut session) = parser.take(alloc) else {

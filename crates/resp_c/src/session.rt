@@ -80,6 +80,10 @@ impl Session {
     /// Takes the next value.
     pub fn next(&mut self) -> u32
         ensures taken { Taken self.old self.new result }
+        ensures limits { self.new.parser.limits ≡ self.old.parser.limits }
+        ensures empty { (result ≡ 1 → ⊥) → Holds self.new.reply [] [] }
+        ensures fault { (result ≡ 2 → ⊥) → (self.new.fault ≡ self.old.fault)
+            × (self.new.place ≡ self.old.place) }
     {
         self.reply.clear();
         if self.has_failed() {

@@ -1,5 +1,5 @@
 -- What is appended one after another is what is appended at once.
-use Rattle.std.proofs.Common.{◌≡◌, ℕ, suc, ◌+◌, List, [], ◌∷◌, ◌++◌, length, map, ap, sym, ◌∙◌, append_assoc, add-zero, zero-add, ◌<◌, Bool, false, cond, refl, drop, get_or, OnOk, Result, Ok, Err}
+use Rattle.std.proofs.Common.{◌≡◌, ℕ, suc, ◌+◌, List, ◌∷◌, ◌++◌, length, map, ap, sym, ◌∙◌, append_assoc, zero-add, ◌<◌, Bool, false, cond, refl, drop, get_or, OnOk, Result, Ok, Err}
 use Rattle.std.proofs.lemmas.List.{length-map, length-append, drop_more}
 use Rattle.resp_value.specs.declared.value.Value.{Value, Array, Map, Attribute, Set, Push, fold-roll-Value}
 use Rattle.resp_value.specs.declared.value.Value.TheVariants.{rolls-Array, rolls-Map, rolls-Attribute, rolls-Set, rolls-Push}
@@ -9,7 +9,7 @@ use Rattle.resp_value.specs.Names.{name_of_push_kind}
 use Rattle.resp_flat.specs.declared.token.Token.{Token}
 use Rattle.resp_flat.specs.declared.token.TokenKind.{TokenKind}
 use Rattle.resp_flat.specs.declared.token.TokenKind.TheVariants as kind
-use Rattle.resp_flat.specs.FlatReplies.{sized, placed, joined, joined_pairs, tokens_step, tokens_of, text_step, text_of, tokens_of_pair, text_of_pair, has_text, bytes_of, list_tokens, pairs_tokens, push_tokens}
+use Rattle.resp_flat.specs.FlatReplies.{sized, placed, joined, joined_pairs, tokens_step, tokens_of, text_step, text_of, tokens_of_pair, text_of_pair, has_text, list_tokens, pairs_tokens, push_tokens}
 use Rattle.resp_flat.proofs.TokenSizes.{total, placed-append, sizes, pairs-total}
 
 abbrev pub Tokens : Type 0
@@ -57,14 +57,6 @@ text_of_attribute v ps = ap text_of (sym (rolls-Attribute v ps)) ∙ fold-roll-V
 pub tokens_of_push : (k : PushKind) (vs : List Value) → tokens_of (Push k vs) ≡ push_tokens (name_of_push_kind k) vs
 tokens_of_push k vs = ap tokens_of (sym (rolls-Push k vs)) ∙ fold-roll-Value Tokens tokens_step (Value-F.Push k vs)
     ∙ ap (λ (n : ℕ). sized kind.Push (suc n) ∷ (sized kind.BulkString (length (name_of_push_kind k)) ∷ joined (map tokens_of vs))) (length-map vs tokens_of)
-
-pub text_of_push : (k : PushKind) (vs : List Value) → text_of (Push k vs) ≡ name_of_push_kind k ++ joined (map text_of vs)
-text_of_push k vs = ap text_of (sym (rolls-Push k vs)) ∙ fold-roll-Value (List ℕ) text_step (Value-F.Push k vs)
-
--- a token without bytes, and then others
-pub head_then : (old mid new xs : Tokens) (t : Token) (at next : ℕ) → bytes_of t ≡ 0 → mid ≡ old ++ placed at (t ∷ []) → next ≡ at → new ≡ mid ++ placed next xs → new ≡ old ++ placed at (t ∷ xs)
-head_then old mid new xs t at next none first comes later =
-    one_then old mid new (t ∷ []) xs at next first (comes ∙ sym (add-zero at) ∙ ap (λ (n : ℕ). at + (n + 0)) (sym none)) later
 
 -- the token of a list or of pairs, and then what is in it
 pub pairs_come : (k : TokenKind) (ps : List (Value × Value)) → has_text k ≡ false → total (pairs_tokens k ps) ≡ length (joined_pairs (map text_of_pair ps))

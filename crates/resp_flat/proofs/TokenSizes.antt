@@ -73,10 +73,6 @@ sizes = ind-Value (λ v. total (tokens_of v) ≡ length (text_of v)) (λ x layer
     ∙ subst (λ (y : Value-F Value). total (tokens_form y) ≡ length (text_form y)) e (layer-sized layer)
     ∙ sym (ap length (fold-roll-Value (List ℕ) text_step x)))
 
-pub elements-total : (vs : List Value) → total (joined (map tokens_of vs)) ≡ length (joined (map text_of vs))
-elements-total [] = refl
-elements-total (v ∷ vs) = both _ _ _ _ (sizes v) (elements-total vs)
-
 pub pairs-total : (ps : List (Value × Value)) → total (joined_pairs (map tokens_of_pair ps)) ≡ length (joined_pairs (map text_of_pair ps))
 pairs-total [] = refl
 pairs-total (p ∷ ps) = both _ _ _ _ (sizes p.0) (both _ _ _ _ (sizes p.1) (pairs-total ps))

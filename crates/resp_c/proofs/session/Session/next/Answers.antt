@@ -1,11 +1,22 @@
-use Rattle.resp_c.proofs.Outcomes.{works_unless, note_refused}
+use Rattle.std.proofs.Common.{[], ap, sym, subst, ◌∙◌}
+use Rattle.resp_parse.specs.State.{State}
+use Rattle.resp_flat.specs.declared.flat_reply.FlatReply.{FlatReply}
+use Rattle.resp_c.specs.declared.session.Session.{Session}
+use Rattle.resp_c.specs.Sessions.{Holds}
+use Rattle.resp_c.proofs.Outcomes.{works_unless, note_refused, with_fault-keeps}
 use Rattle.resp_c.proofs.session.Session.next.Goals as goal
 
 pub returns-in-Err : goal.returns-in-Err
 returns-in-Err c =
     let s = c.args.self.now in
     let w = works_unless s c.if-has_failed.ensures.failed in
+    let m : Session = record { parser = c.take_value.new.self; reply = c.clear.new.self; fault = s.fault; place = s.place; lost = s.lost } in
+    let noted = c.note.ensures.noted in
+    let keeps = with_fault-keeps c.in-Err.error c.unwrap_or-place.result m in
     record {
-      taken = note_refused s (record { parser = c.take_value.new.self; reply = c.clear.new.self; fault = s.fault; place = s.place; lost = s.lost }) c.note.new.self c.in-Err.error c.fault_offset.result c.unwrap_or-place.result c.note.result
-          w c.in-Err.ensures.takes (c.in-Err.ensures.offset w.parser) c.fault_offset.ensures.offset c.fault_offset.ensures.shows c.unwrap_or-place.ensures c.note.ensures.status c.note.ensures.noted;
+      taken = note_refused s m c.note.new.self c.in-Err.error c.fault_offset.result c.unwrap_or-place.result c.note.result
+          w c.in-Err.ensures.takes (c.in-Err.ensures.offset w.parser) c.fault_offset.ensures.offset c.fault_offset.ensures.shows c.unwrap_or-place.ensures c.note.ensures.status noted;
+      limits = ap (λ (u : Session). u.parser.limits) noted ∙ ap (λ (p : State). p.limits) keeps.0 ∙ c.in-Err.ensures.limits;
+      empty = λ none. subst (λ (r : FlatReply). Holds r [] []) (sym (ap (λ (u : Session). u.reply) noted ∙ keeps.1)) (record { tokens_are = c.clear.ensures.tokens; text_is = c.clear.ensures.text });
+      fault = λ fine. let same = noted ∙ keeps.2 (λ is. fine (c.note.ensures.status ∙ is)) in (ap (λ (u : Session). u.fault) same, ap (λ (u : Session). u.place) same);
     }
