@@ -1,10 +1,10 @@
 -- What the calls of a handle do.
-use Rattle.std.specs.Prelude.{◌≡◌, ℕ, List, Option, None, Some}
+use Rattle.std.specs.Prelude.{◌≡◌, ℕ, List, [], Option, None, Some}
 use Rattle.resp_parse.specs.declared.limits.Limits.{Limits}
 use Rattle.resp_parse.specs.Limits.{AreLimits}
 use Rattle.resp_c.specs.declared.session.Session.{Session}
 use Rattle.resp_c.specs.declared.view.RespView.{RespView}
-use Rattle.resp_c.specs.Sessions.{IsNew, FirstOf}
+use Rattle.resp_c.specs.Sessions.{IsNew, Holds, FirstOf}
 use Rattle.resp_c.specs.Views.{Shows}
 
 -- a session is open
@@ -34,9 +34,11 @@ pub data Told (P : Session → ℕ → Type 0) (old new : Option Session) (answe
   closed : answer ≡ 0 → old ≡ None → new ≡ None → Told P old new answer
   held : (s : Session) → old ≡ Some s → new ≡ Some s → P s answer → Told P old new answer
 
--- the value at the start of bytes was read, by a session that goes on as it would have
+-- the value at the start of bytes was read, by a session that goes on as it would have; what gives no
+-- value leaves the reply empty
 pub record FirstRead (bytes : List ℕ) (taken : ℕ) (s t : Session) (status : ℕ) : Type 0 where
   pub first : FirstOf bytes taken t status
+  pub empty : (status ≡ 1 → ⊥) → Holds t.reply [] []
   pub parser : t.parser ≡ s.parser
   pub lost : t.lost ≡ s.lost
 

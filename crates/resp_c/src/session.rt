@@ -103,6 +103,7 @@ impl Session {
     /// after how many a fault shows.
     pub fn first(&mut self, alloc: Global, bytes: &[u8], taken: &mut usize) -> u32
         ensures first { FirstOf bytes.now taken.new self.new result }
+        ensures empty { (result ≡ 1 → ⊥) → Holds self.new.reply [] [] }
         ensures parser { self.new.parser ≡ self.old.parser }
         ensures lost { self.new.lost ≡ self.old.lost }
     {

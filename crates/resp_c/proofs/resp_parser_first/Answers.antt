@@ -7,6 +7,7 @@ pub returns-clause-first : goal.returns-clause-first
 returns-clause-first c =
     Called.held c.in-Some.session.value c.first-status.new.self (sym c.in-Some.ensures.session) c.put.ensures (record {
       first = c.first-status.ensures.first;
+      empty = c.first-status.ensures.empty;
       parser = c.first-status.ensures.parser ∙ ap (λ (s : Session). s.parser) c.deref_mut.ensures.value;
       lost = c.first-status.ensures.lost ∙ ap (λ (s : Session). s.lost) c.deref_mut.ensures.value;
     })

@@ -1,6 +1,9 @@
-use Rattle.std.proofs.Common.{ℕ, ◌-◌, length, Ok, Some, ap, ◌∙◌}
+use Rattle.std.proofs.Common.{ℕ, ◌-◌, length, Ok, Some, ap, ◌∙◌, [], subst, sym}
+use Rattle.resp_flat.specs.declared.flat_reply.FlatReply.{FlatReply}
+use Rattle.resp_c.specs.declared.session.Session.{Session}
+use Rattle.resp_c.specs.Sessions.{Holds}
 use Rattle.resp_parse.specs.Calls.{Takes}
-use Rattle.resp_c.proofs.Outcomes.{stands_works, first_value, first_noted}
+use Rattle.resp_c.proofs.Outcomes.{stands_works, first_value, first_noted, with_fault-keeps}
 use Rattle.resp_c.proofs.session.Session.first.Goals as goal
 
 pub returns-in-Ok-Some-clause-first : goal.returns-in-Ok-Some-clause-first
@@ -14,3 +17,9 @@ returns-clause-first c =
     first_noted c.take_value.new.self.limits _ _ _ _ c.in-Err.error c.take_value.new.self.fault_offset c.fault_offset.result _ took.0 (c.in-Err.ensures.limits ∙ c.in-Ok.ensures.limits ∙ c.limits.ensures.limits)
     (c.in-Err.ensures.offset (stands_works _ _ c.in-Ok.ensures.stands)) c.fault_offset.ensures.offset
     (c.fault_offset.ensures.shows c.args.bytes.now took.1) c.unwrap_or.ensures c.note.ensures.status c.note.ensures.noted
+
+pub returns-clause-empty : goal.returns-clause-empty
+returns-clause-empty c = λ none.
+    let s = c.args.self.now in
+    let keeps = with_fault-keeps c.in-Err.error c.unwrap_or.result (record { parser = s.parser; reply = c.clear.new.self; fault = s.fault; place = s.place; lost = s.lost }) in
+    subst (λ (r : FlatReply). Holds r [] []) (sym (ap (λ (u : Session). u.reply) c.note.ensures.noted ∙ keeps.1)) (record { tokens_are = c.clear.ensures.tokens; text_is = c.clear.ensures.text })
