@@ -416,6 +416,8 @@ static void test_failed(void)
     }
     check_number("failed: first", RESP_DONE,
                  resp_parser_first(&parser, BYTES(":5\r\n"), &view, &taken));
+    check_number("failed: number stays", RESP_NOT_INTEGER, resp_parser_fault(&parser, &offset));
+    check_number("failed: offset stays", 4, (long long)offset);
     check_number("failed: first of fault", RESP_FAULT,
                  resp_parser_first(&parser, BYTES("@"), &view, &taken));
     check_number("failed: its number", RESP_UNKNOWN_TYPE, resp_parser_fault(&parser, &offset));
