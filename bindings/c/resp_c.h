@@ -9,7 +9,8 @@
  *   1. It sets a handle to RESP_PARSER_INIT, or all its bytes to zero, before it opens it.
  *   2. It never copies a handle, moves it or compares it, and never reads or writes its fields.
  *   3. It closes a handle before the memory of the handle is freed or used again.
- *   4. It uses a handle only in the thread that opened it, and never in two threads at once.
+ *   4. It uses a handle in one thread at a time. Where another thread goes on with it, a lock, the
+ *      start or the end of a thread or a sequentially consistent atomic stands between their calls.
  *   5. It never passes NULL. Where a length is 0, the pointer may be any that isn't NULL.
  *   6. A pointer leads to as many bytes, or sizes, as the length beside it says. They may be read,
  *      those of `out` may be written, and nothing else writes them during the call.
@@ -19,7 +20,8 @@
  *
  * Memory comes from rattle_alloc, rattle_realloc and rattle_dealloc, which the program links:
  * resp_alloc.c defines them over malloc. Calls for different handles may run in different threads
- * at once where these functions may. The library has no global state, and makes no other call to
+ * at once where these functions may. Memory that one thread asked for may be freed by another, where
+ * a handle went there. The library has no global state, and makes no other call to
  * the system. The layout of the structs is that of x86-64 Linux, for which the library is built.
  */
 #ifndef RESP_C_H
@@ -114,8 +116,9 @@ typedef struct resp_token {
  * one after another. The bytes of a leaf are text[start] up to, without, text[start + size]; no NUL
  * stands after them. Where a count is 0 the pointer beside it leads nowhere.
  *
- * The library owns what the pointers lead to, and lends it until the next call with that handle.
- * The program owns the struct itself; it needs no value before a call fills it.
+ * The library owns what the pointers lead to, and lends it until the next call with that handle. It
+ * uses this memory again for later replies, and frees it where the parser is closed. The program
+ * owns the struct itself; it needs no value before a call fills it.
  */
 typedef struct resp_view {
     const resp_token *tokens;
@@ -182,7 +185,7 @@ uint32_t resp_parser_next(resp_parser *parser, resp_view *view);
  * RESP_MORE    the bytes are the beginning of a value, or there are none; *taken is 0
  * RESP_FAULT   the bytes can't begin a value; *taken says after how many bytes that shows, and
  *              resp_parser_fault has the fault; the parser hasn't failed by this
- * RESP_MEMORY  memory ran out; *taken has no meaning
+ * RESP_MEMORY  memory ran out; *taken is 0; the parser hasn't failed by this
  * RESP_CLOSED  no parser is open; the view and *taken are as they were
  */
 uint32_t resp_parser_first(resp_parser *parser, const uint8_t *bytes, size_t size, resp_view *view,

@@ -595,10 +595,12 @@ static void check_memory_of_feed(resp_parser *parser, uint32_t status)
     check_next("memory: feed again", parser, memory_value);
 }
 
-static void check_memory_of_first(resp_parser *parser, uint32_t status, const resp_view *view)
+static void check_memory_of_first(resp_parser *parser, uint32_t status, const resp_view *view,
+                                  size_t taken)
 {
     check_number("memory: first", RESP_MEMORY, status);
     check_number("memory: first, view", 0, (long long)view->token_count);
+    check_number("memory: first, taken", 0, (long long)taken);
     check_next("memory: after first", parser, memory_value);
 }
 
@@ -633,7 +635,7 @@ static void run_to_refusal(resp_parser *parser)
     status = resp_parser_first(parser, (const uint8_t *)memory_input, strlen(memory_input), &view,
                                &taken);
     if (heap_refused()) {
-        check_memory_of_first(parser, status, &view);
+        check_memory_of_first(parser, status, &view, taken);
         return;
     }
     status = resp_parser_next(parser, &view);
@@ -668,6 +670,25 @@ static bool reopen_short_of_memory(unsigned request)
         check_next("memory: reopen", &parser, ":7");
     resp_parser_close(&parser);
     return heap_refused();
+}
+
+/* Once two replies have come, others of their size ask for no memory. */
+static void test_kept_memory(void)
+{
+    static const char input[] = "*3\r\n$5\r\nhello\r\n%1\r\n+a\r\n:12\r\n~2\r\n#t\r\n_\r\n";
+    static const char value[] = "[$'hello' {+'a' :12} ~[true nil]]";
+    resp_parser parser = RESP_PARSER_INIT;
+
+    resp_parser_open(&parser);
+    for (int round = 0; round < 5; round++) {
+        if (round == 2)
+            heap_refuse(0);
+        check_number("kept memory: feed", RESP_DONE, feed(&parser, input));
+        check_next("kept memory", &parser, value);
+    }
+    check_number("kept memory: requests", 0, heap_refused());
+    heap_grant();
+    resp_parser_close(&parser);
 }
 
 /* Refuses the first request for memory, then the second, until a run has no refusal. */
@@ -708,6 +729,7 @@ int main(void)
     test_large_string();
     test_large_array();
     test_range();
+    test_kept_memory();
     test_memory();
     return tests_end();
 }

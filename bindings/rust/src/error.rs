@@ -28,10 +28,10 @@ pub enum Error {
         /// it.
         offset: usize,
     },
-    /// Memory ran out. A call of [`Parser::next`](crate::Parser::next) that says so lost a value,
-    /// and the parser has failed; after any other call nothing changed.
+    /// Memory ran out. After a call of [`Parser::next`](crate::Parser::next) that says so the parser
+    /// has failed; after any other call nothing changed.
     OutOfMemory,
-    /// The parser has failed before, by a fault or since a value was lost.
+    /// The parser has failed before, by a fault or for want of memory.
     Failed,
     /// A limit is out of range.
     OutOfRange,

@@ -100,12 +100,17 @@ pub(crate) struct Lent<'a> {
 /// A handle with an open parser, which is closed when it is dropped.
 ///
 /// It has no `Clone`, so that no copy is made; a move is none, since Rust doesn't use the old place
-/// again. The raw pointer in it makes it neither `Send` nor `Sync`: that a handle may go to another
-/// thread isn't proved. The cell lets [`Handle::state`] take a shared reference; no other thread
-/// has one, and no call calls back, so that one call runs at a time.
+/// again. The cell lets [`Handle::state`] take a shared reference; it makes this type not `Sync`, so
+/// that no other thread has one, and no call calls back, so that one call runs at a time.
 pub(crate) struct Handle {
     raw: UnsafeCell<RawParser>,
 }
+
+// SAFETY: a handle may be used in another thread than the one that opened it, by one at a time and
+// with an order between their calls. `Send` gives these: a value goes to a thread by what orders
+// memory, and the type isn't `Sync`. The library is proved to own nothing that a thread is bound to
+// (`law_of_sent_handles` of `crates/resp_c`). It frees by `free`, which may be called anywhere.
+unsafe impl Send for Handle {}
 
 impl Handle {
     /// Opens a parser within these limits.

@@ -60,8 +60,7 @@ pub enum State {
 /// fault the parser has failed, since it can't know where the next value begins; both refuse then
 /// with [`Error::Failed`]. Dropping it frees what it holds.
 ///
-/// It is neither `Send` nor `Sync`, so it stays in the thread that made it: that the C library's
-/// handle may go to another thread isn't proved.
+/// It may go to another thread, but is used by one at a time: it is `Send`, and not `Sync`.
 ///
 /// ```
 /// use resp_c::Parser;
@@ -79,7 +78,7 @@ pub enum State {
 /// # }
 /// ```
 ///
-/// ```compile_fail,E0277
+/// ```
 /// fn is_send<T: Send>() {}
 /// is_send::<resp_c::Parser>();
 /// ```

@@ -391,6 +391,18 @@ fn a_parser_may_move() {
 }
 
 #[test]
+fn another_thread_may_go_on() {
+    let mut parser = fed(b":1\r\n$2\r\na");
+    let parser = std::thread::spawn(move || {
+        assert_eq!(parser.next().unwrap().unwrap().value().int(), Some(1));
+        parser.feed(b"b\r\n").unwrap();
+        parser
+    });
+    let mut parser = parser.join().unwrap();
+    assert_eq!(parser.next().unwrap().unwrap().value().text(), Some("ab"));
+}
+
+#[test]
 fn a_long_body() {
     let body = vec![b'x'; 1 << 20];
     let mut parser = fed(b"$1048576\r\n");

@@ -1,7 +1,8 @@
 //! `resp_bench`: how fast replies are parsed, commands are packed and values are encoded.
 //!
 //! `resp_bench parse FILE PIECE ROUNDS` feeds the bytes of a file to a parser, PIECE bytes at a
-//! time (0: 16,384), takes each value and drops it. `resp_bench pack WHAT COUNT ROUNDS` packs
+//! time (0: 16,384), takes each value and drops it; `resp_bench flat FILE PIECE ROUNDS` takes each
+//! into the same flat reply. `resp_bench pack WHAT COUNT ROUNDS` packs
 //! COUNT times: `set`, a command of three short arguments, built and packed; `set-only`, the same,
 //! packed alone into a buffer at hand; `big`, one of an argument of 1 MiB, built and packed;
 //! `big-only`, the same, packed alone; `pipe`, a pipeline of 1,000 of the first.
@@ -26,7 +27,7 @@ mod parsing;
 
 use encoding::{Encoding, encode_round};
 use packing::{Load, Packing, pack_round};
-use parsing::parse_round;
+use parsing::{Form, parse_round};
 use resp_core::{Limits, RedisError, RedisResult};
 use std::alloc::Global;
 use std::process::ExitCode;
@@ -56,7 +57,8 @@ fn run(rt: &HostRuntime) -> u8 {
                 return 1;
             };
             match task.as_str() {
-                "parse" => parse(rt, what.as_str(), size, rounds),
+                "parse" => parse(rt, Form::Tree, what.as_str(), size, rounds),
+                "flat" => parse(rt, Form::Flat, what.as_str(), size, rounds),
                 "hold" => hold(rt, what.as_str(), size, rounds as usize),
                 "pack" => pack(rt, what.as_str(), size, rounds),
                 "encode" => encode(rt, what.as_str(), size, rounds),
@@ -80,6 +82,7 @@ fn words(rt: &HostRuntime) -> io::Result<Vec<String>> {
 #[derive(Clone, Copy)]
 enum Work<'a> {
     Parse {
+        form: Form,
         bytes: &'a [u8],
         piece: usize,
     },
@@ -97,7 +100,9 @@ enum Work<'a> {
 impl Work<'_> {
     fn round(&self, alloc: Global) -> RedisResult<Round> {
         match self {
-            Work::Parse { bytes, piece } => parse_round(alloc, Limits::default(), bytes, *piece),
+            Work::Parse { form, bytes, piece } => {
+                parse_round(alloc, Limits::default(), *form, bytes, *piece)
+            }
             Work::Pack {
                 packing,
                 load,
@@ -124,11 +129,11 @@ fn time(rt: &HostRuntime, work: &Work<'_>, rounds: u64) -> u8 {
     print(rt, round, best)
 }
 
-fn parse(rt: &HostRuntime, file: &str, piece: usize, rounds: u64) -> u8 {
+fn parse(rt: &HostRuntime, form: Form, file: &str, piece: usize, rounds: u64) -> u8 {
     match fs::read(rt, file) {
         Ok(bytes) => {
             let bytes = bytes.as_slice();
-            time(rt, &Work::Parse { bytes, piece }, rounds)
+            time(rt, &Work::Parse { form, bytes, piece }, rounds)
         }
         Err(_) => 2,
     }
@@ -142,7 +147,7 @@ fn hold(rt: &HostRuntime, file: &str, piece: usize, limit: usize) -> u8 {
         depth: 1000,
         bytes: limit,
     };
-    match parse_round(rt.alloc(), limits, bytes.as_slice(), piece) {
+    match parse_round(rt.alloc(), limits, Form::Tree, bytes.as_slice(), piece) {
         Ok(_) => say(rt, "none"),
         Err(error) => say_why(rt, &error),
     }

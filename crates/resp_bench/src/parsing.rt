@@ -1,26 +1,41 @@
 //! Rounds of parsing.
 
 use crate::Round;
-use resp_core::{Limits, Parser, RedisResult, Value};
+use resp_core::{FlatReply, Limits, Parser, RedisResult, Value};
 use std::alloc::Global;
 
 /// How many bytes are fed at a time where nothing is said of it.
 const PIECE: usize = 16_384;
 
-/// Feeds all of the bytes piece by piece, and takes and drops each value as soon as it is whole.
+/// What values are taken as.
+#[derive(Clone, Copy)]
+pub enum Form {
+    /// Trees, which are dropped.
+    Tree,
+    /// One flat reply, into which each value is taken.
+    Flat,
+}
+
+/// Feeds all of the bytes piece by piece, and takes each value as soon as it is whole.
 #[inline(never)]
 pub fn parse_round(
     alloc: Global,
     limits: Limits,
+    form: Form,
     bytes: &[u8],
     piece: usize,
 ) -> RedisResult<Round> {
     let piece = if piece == 0 { PIECE } else { piece };
     let mut parser = Parser::with_limits(alloc, limits)?;
+    let mut reply = FlatReply::new(alloc);
     let mut units: u64 = 0;
     for part in bytes.chunks(piece) {
         parser.feed(part)?;
-        units = units.saturating_add(take_all(&mut parser)?);
+        let taken = match form {
+            Form::Tree => take_all(&mut parser)?,
+            Form::Flat => take_all_flat(&mut parser, &mut reply)?,
+        };
+        units = units.saturating_add(taken);
     }
     Ok(Round {
         units,
@@ -36,6 +51,18 @@ fn take_all(parser: &mut Parser) -> RedisResult<u64> {
             break;
         };
         discard(value);
+        taken = taken.saturating_add(1);
+    }
+    Ok(taken)
+}
+
+/// Takes the values that are whole into the reply, and counts them.
+fn take_all_flat(parser: &mut Parser, reply: &mut FlatReply) -> RedisResult<u64> {
+    let mut taken: u64 = 0;
+    for _ in 0..u64::MAX {
+        if !parser.take_flat(reply)? {
+            break;
+        }
         taken = taken.saturating_add(1);
     }
     Ok(taken)

@@ -2,3 +2,4 @@ mod AsBox
 pub mod Bools
 pub mod Cutting
 pub mod Outcomes
+mod Sent

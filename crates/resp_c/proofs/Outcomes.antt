@@ -1,27 +1,18 @@
 -- What the calls of a parser mean for the session that holds it.
-use Rattle.std.proofs.Common.{◌≡◌, ◌≢◌, ◌⊎◌, ◌↔◌, ◌+◌, ◌-◌, ℕ, true, false, List, [], ◌∷◌, length, Option, Some, None, inl, inr, Result, Ok, Err, is_err, IsSome, refl, sym, ap, subst, ◌∙◌, arith, IfSome}
+use Rattle.std.proofs.Common.{◌≡◌, ◌≢◌, ◌⊎◌, ◌↔◌, ℕ, true, false, List, [], ◌∷◌, Option, Some, None, inl, Result, Ok, Err, is_err, IsSome, refl, sym, ap, subst, ◌∙◌, IfSome}
 use Rattle.std.specs.Option.{unwrap_or}
 use Rattle.std.proofs.lemmas.Bool.{false_from_ne_true}
-use Rattle.std.proofs.lemmas.List.{length-append}
-use Rattle.resp_value.specs.declared.value.Value.{Value}
 use Rattle.resp_errors.specs.declared.kinds.FrameFault.{FrameFault}
 use Rattle.resp_errors.specs.declared.parsing_error.ParsingError.TheVariants as parsing
 use Rattle.resp_errors.specs.declared.redis_error.RedisError.{RedisError}
 use Rattle.resp_errors.specs.declared.redis_error.RedisError.TheVariants as form
 use Rattle.resp_parse.specs.declared.limits.Limits.{Limits}
-use Rattle.resp_parse.specs.Limited.{HasValue, HasFault, FaultShownAt}
+use Rattle.resp_parse.specs.Limited.{HasFault, FaultShownAt}
 use Rattle.resp_parse.specs.State.{State, StandsAfter, FailedAfter, HasOffset}
 use Rattle.resp_parse.specs.Calls.{CannotTake, Feeds}
 use Rattle.resp_c.specs.declared.session.Session.{Session}
 use Rattle.resp_c.proofs.Bools.{true_is_not_false}
-use Rattle.resp_c.specs.Sessions.{HasFailed, Works, Taken, Appended, FirstOf, status_of, with_fault}
-
--- a session that hasn't failed works
-pub works_of : (s : Session) → (HasFailed s → ⊥) → Works s
-works_of s h = record {
-  parser = false_from_ne_true s.parser.failed (λ e. h (inl e));
-  kept = false_from_ne_true s.lost (λ e. h (inr e));
-}
+use Rattle.resp_c.specs.Sessions.{HasFailed, Works, Taken, FirstOf, status_of, with_fault}
 
 -- a parser that works stands after the bytes since its last value
 pub stands_now : (s : State) → s.failed ≡ false → StandsAfter s s.since
@@ -63,7 +54,9 @@ abbrev Refuses : Session → Session → RedisError → Type 0
 Refuses s t e = (b : List ℕ) → StandsAfter s.parser b → CannotTake t.parser.limits b e × FailedAfter t.parser b
 
 memory_ran_out : (s t : Session) (e : RedisError) → Works s → Refuses s t e → Taken s t 3
-memory_ran_out s t e w h = Taken.memory refl (inl (failed_after t.parser s.parser.since (h s.parser.since (stands_now s.parser w.parser)).1))
+memory_ran_out s t e w h =
+    let after : (b : List ℕ) → StandsAfter s.parser b → FailedAfter t.parser b = λ b stands. (h b stands).1 in
+    Taken.memory refl w (failed_after t.parser s.parser.since (after s.parser.since (stands_now s.parser w))) after
 
 -- where a fault shows of which an offset was kept
 shown_at : (l : Limits) (bytes : List ℕ) (taken : ℕ) (o p : Option ℕ) → IsSome o → p ≡ o → IfSome p (FaultShownAt l bytes) → taken ≡ unwrap_or p 0 → FaultShownAt l bytes taken
@@ -75,10 +68,10 @@ pub refused : (s m : Session) (e : RedisError) (p : Option ℕ) (place : ℕ) �
     → ((b : List ℕ) → FailedAfter m.parser b → IfSome p (FaultShownAt m.parser.limits b)) → place ≡ unwrap_or p 0 → Taken s (with_fault e place m) (status_of e)
 refused s m (form.Parse (parsing.Fault f)) p place w h some same shows is = Taken.malformed refl w (λ b g. record {
   fault = f;
-  shown = has_fault m.parser.limits b f (h b g.stands).0;
+  shown = has_fault m.parser.limits b f (h b g).0;
   number = refl;
-  place = shown_at m.parser.limits b place m.parser.fault_offset p some same (shows b (h b g.stands).1) is;
-  failed = (h b g.stands).1;
+  place = shown_at m.parser.limits b place m.parser.fault_offset p some same (shows b (h b g).1) is;
+  failed = (h b g).1;
 })
 refused s m (form.Parse (parsing.Described d)) p place w h some same shows is = memory_ran_out s m _ w h
 refused s m (form.Parse parsing.OutOfMemory) p place w h some same shows is = memory_ran_out s m _ w h
@@ -106,9 +99,9 @@ with_fault-keeps (form.Pipeline es) place m = (refl, refl, λ fine. refl)
 with_fault-keeps (form.Aborted es) place m = (refl, refl, λ fine. refl)
 with_fault-keeps form.OutOfMemory place m = (refl, refl, λ fine. refl)
 
--- a session of which `has_failed` is false works
+-- a session whose parser says that it hasn't failed works
 pub works_unless : (s : Session) → (false ≡ true ↔ HasFailed s) → Works s
-works_unless s h = works_of s (λ f. true_is_not_false (sym (h.1 f)))
+works_unless s h = false_from_ne_true s.parser.failed (λ f. true_is_not_false (sym (h.1 f)))
 
 -- what `in_progress` says of a session that works
 pub none_held : (s : State) → ((b : List ℕ) → StandsAfter s b ⊎ FailedAfter s b → (false ≡ true ↔ (b ≢ []))) → (b : List ℕ) → StandsAfter s b → b ≡ []
@@ -119,20 +112,9 @@ pub feed_refused : (s t : State) (bytes : List ℕ) (r : Result (Unit {0}) Redis
 feed_refused s t bytes (Ok u) w h e = absurd (true_is_not_false (sym e))
 feed_refused s t bytes (Err x) w h e = (h s.since (stands_now s w)).1
 
--- the value at the start of bytes that are all there
-pub first_value : (l : Limits) (bytes rest : List ℕ) (taken : ℕ) (v : Value) (s t : Session) (status : ℕ) → HasValue l bytes v rest → l ≡ s.parser.limits
-    → taken ≡ length bytes - length rest → Appended v s t status → FirstOf bytes taken t status
-first_value l bytes rest taken v s t status h le is (Appended.memory eq empty same) = FirstOf.memory eq
-first_value l bytes rest taken v s t status h le is (Appended.done eq flat same) =
-    let limits : l ≡ t.parser.limits = le ∙ sym (ap (λ (u : Session). u.parser.limits) same) in
-    let whole : length bytes ≡ length h.prefix + length rest = ap length h.whole ∙ length-append h.prefix rest in
-    FirstOf.value eq (record {
-      value = v;
-      rest = rest;
-      spelled = subst (λ (m : Limits). HasValue m bytes v rest) limits h;
-      reply = flat;
-      taken_is = omega (arith, is, whole);
-    })
+-- no place was told
+no_place : (o p : Option ℕ) (taken : ℕ) → o ≡ None → p ≡ o → taken ≡ unwrap_or p 0 → taken ≡ 0
+no_place o p taken none same is = is ∙ ap (λ (q : Option ℕ). unwrap_or q 0) (same ∙ none)
 
 -- why there is no value
 pub first_refused : (l : Limits) (bytes : List ℕ) (taken : ℕ) (m : Session) (e : RedisError) (o p : Option ℕ) → CannotTake l bytes e → l ≡ m.parser.limits
@@ -140,14 +122,14 @@ pub first_refused : (l : Limits) (bytes : List ℕ) (taken : ℕ) (m : Session) 
 first_refused l bytes taken m (form.Parse (parsing.Fault f)) o p h le some same shown is =
     FirstOf.malformed refl f (subst (λ (n : Limits). HasFault n bytes f) le (has_fault l bytes f h)) refl
     (subst (λ (n : Limits). FaultShownAt n bytes taken) le (shown_at l bytes taken o p some same shown is)) refl
-first_refused l bytes taken m (form.Parse (parsing.Described d)) o p h le some same shown is = FirstOf.memory refl
-first_refused l bytes taken m (form.Parse parsing.OutOfMemory) o p h le some same shown is = FirstOf.memory refl
-first_refused l bytes taken m (form.General k x d) o p h le some same shown is = FirstOf.memory refl
-first_refused l bytes taken m (form.Io k) o p h le some same shown is = FirstOf.memory refl
-first_refused l bytes taken m (form.Server e) o p h le some same shown is = FirstOf.memory refl
-first_refused l bytes taken m (form.Pipeline es) o p h le some same shown is = FirstOf.memory refl
-first_refused l bytes taken m (form.Aborted es) o p h le some same shown is = FirstOf.memory refl
-first_refused l bytes taken m form.OutOfMemory o p h le some same shown is = FirstOf.memory refl
+first_refused l bytes taken m (form.Parse (parsing.Described d)) o p h le none same shown is = FirstOf.memory refl (no_place o p taken none same is)
+first_refused l bytes taken m (form.Parse parsing.OutOfMemory) o p h le none same shown is = FirstOf.memory refl (no_place o p taken none same is)
+first_refused l bytes taken m (form.General k x d) o p h le none same shown is = FirstOf.memory refl (no_place o p taken none same is)
+first_refused l bytes taken m (form.Io k) o p h le none same shown is = FirstOf.memory refl (no_place o p taken none same is)
+first_refused l bytes taken m (form.Server e) o p h le none same shown is = FirstOf.memory refl (no_place o p taken none same is)
+first_refused l bytes taken m (form.Pipeline es) o p h le none same shown is = FirstOf.memory refl (no_place o p taken none same is)
+first_refused l bytes taken m (form.Aborted es) o p h le none same shown is = FirstOf.memory refl (no_place o p taken none same is)
+first_refused l bytes taken m form.OutOfMemory o p h le none same shown is = FirstOf.memory refl (no_place o p taken none same is)
 
 -- the same after the session has noted it
 pub first_noted : (l : Limits) (bytes : List ℕ) (taken : ℕ) (m t : Session) (e : RedisError) (o p : Option ℕ) (status : ℕ) → CannotTake l bytes e → l ≡ m.parser.limits

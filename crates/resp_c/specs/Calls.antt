@@ -34,13 +34,13 @@ pub data Told (P : Session → ℕ → Type 0) (old new : Option Session) (answe
   closed : answer ≡ 0 → old ≡ None → new ≡ None → Told P old new answer
   held : (s : Session) → old ≡ Some s → new ≡ Some s → P s answer → Told P old new answer
 
--- the value at the start of bytes was read, by a session that goes on as it would have; what gives no
--- value leaves the reply empty
+-- the value at the start of bytes was read, by a session whose parser stays; what gives no value leaves
+-- the reply empty; and what meets no fault leaves the last one as it was
 pub record FirstRead (bytes : List ℕ) (taken : ℕ) (s t : Session) (status : ℕ) : Type 0 where
   pub first : FirstOf bytes taken t status
   pub empty : (status ≡ 1 → ⊥) → Holds t.reply [] []
   pub parser : t.parser ≡ s.parser
-  pub lost : t.lost ≡ s.lost
+  pub fault : (status ≡ 2 → ⊥) → (t.fault ≡ s.fault) × (t.place ≡ s.place)
 
 -- the fault that was met last, and its place
 pub record FaultIs (offset : ℕ) (s : Session) (fault : ℕ) : Type 0 where

@@ -1,5 +1,5 @@
 -- What the calls of a session do: what is returned, and what the session is then.
-use Rattle.std.specs.Prelude.{◌≡◌, ◌≢◌, ◌⊎◌, ◌+◌, ℕ, true, false, List, [], ◌++◌, length}
+use Rattle.std.specs.Prelude.{◌≡◌, ◌≢◌, ◌+◌, ℕ, true, false, List, [], ◌++◌, length}
 use Rattle.resp_value.specs.declared.value.Value.{Value}
 use Rattle.resp_errors.specs.declared.kinds.FrameFault.{FrameFault}
 use Rattle.resp_errors.specs.declared.kinds.FrameFault.TheVariants as frame
@@ -41,24 +41,17 @@ pub record IsNew (limits : Limits) (s : Session) : Type 0 where
   pub reply : Holds s.reply [] []
   pub fault : s.fault ≡ 0
   pub place : s.place ≡ 0
-  pub lost : s.lost ≡ false
 
--- the session goes on after b
-pub record GoesOnAfter (s : Session) (b : List ℕ) : Type 0 where
-  pub stands : StandsAfter s.parser b
-  pub kept : s.lost ≡ false
-
--- the parser has failed, or a value was lost
+-- the parser has failed
 abbrev pub HasFailed : Session → Type 0
-HasFailed s = (s.parser.failed ≡ true) ⊎ (s.lost ≡ true)
+HasFailed s = s.parser.failed ≡ true
 
 -- it hasn't failed
-pub record Works (s : Session) : Type 0 where
-  pub parser : s.parser.failed ≡ false
-  pub kept : s.lost ≡ false
+abbrev pub Works : Session → Type 0
+Works s = s.parser.failed ≡ false
 
 -- The status of a call: 0 for more bytes that are needed, 1 for done, 2 for a fault, 3 for memory
--- that ran out, 4 for a session that has failed before.
+-- that ran out, 4 for a parser that has failed before.
 
 -- that of an error of a parser that hadn't failed
 abbrev pub status_of : RedisError → ℕ
@@ -72,9 +65,9 @@ with_fault _ place s = s
 
 -- bytes were added; or nothing changed
 pub data Fed (bytes : List ℕ) (s t : Session) (status : ℕ) : Type 0 where
-  done : status ≡ 1 → Works s → ((b : List ℕ) → GoesOnAfter s b → GoesOnAfter t (b ++ bytes)) →
+  done : status ≡ 1 → Works s → ((b : List ℕ) → StandsAfter s.parser b → StandsAfter t.parser (b ++ bytes)) →
       t.parser.limits ≡ s.parser.limits → t ≡ record s { parser = t.parser } → Fed bytes s t status
-  memory : status ≡ 3 → t ≡ s → Fed bytes s t status
+  memory : status ≡ 3 → Works s → t ≡ s → Fed bytes s t status
   failed : status ≡ 4 → HasFailed s → t ≡ s → Fed bytes s t status
 
 -- a prefix of b spells a value, which the reply holds, and what follows it stays
@@ -83,9 +76,8 @@ pub record GivesValue (b : List ℕ) (t : Session) : Type 0 where
   pub spelled : HasValue t.parser.limits b value t.parser.unparsed
   pub reply : IsFlatOf t.reply value
   pub rest : IsBetweenValues t.parser
-  pub kept : t.lost ≡ false
 
--- a fault shows in b, whose number and place are kept, and the session has failed
+-- a fault shows in b, whose number and place are kept, and the parser has failed
 pub record MeetsFault (b : List ℕ) (t : Session) : Type 0 where
   pub fault : FrameFault
   pub shown : HasFault t.parser.limits b fault
@@ -93,14 +85,16 @@ pub record MeetsFault (b : List ℕ) (t : Session) : Type 0 where
   pub place : FaultShownAt t.parser.limits b t.place
   pub failed : FailedAfter t.parser b
 
--- a value; more bytes that are needed; a fault; or the session has failed, now or before
+-- more bytes are needed; a value; a fault; memory ran out, and the parser has failed; or it had failed
+-- before
 pub data Taken (s t : Session) (status : ℕ) : Type 0 where
   more : status ≡ 0 → Works s →
-      ((b : List ℕ) → GoesOnAfter s b → Awaits t.parser.limits b × GoesOnAfter t b) → Taken s t status
-  value : status ≡ 1 → Works s → ((b : List ℕ) → GoesOnAfter s b → GivesValue b t) → Taken s t status
-  malformed : status ≡ 2 → Works s → ((b : List ℕ) → GoesOnAfter s b → MeetsFault b t) → Taken s t status
-  memory : status ≡ 3 → HasFailed t → Taken s t status
-  failed : status ≡ 4 → HasFailed s → t.parser ≡ s.parser → t.lost ≡ s.lost → Taken s t status
+      ((b : List ℕ) → StandsAfter s.parser b → Awaits t.parser.limits b × StandsAfter t.parser b) → Taken s t status
+  value : status ≡ 1 → Works s → ((b : List ℕ) → StandsAfter s.parser b → GivesValue b t) → Taken s t status
+  malformed : status ≡ 2 → Works s → ((b : List ℕ) → StandsAfter s.parser b → MeetsFault b t) → Taken s t status
+  memory : status ≡ 3 → Works s → HasFailed t →
+      ((b : List ℕ) → StandsAfter s.parser b → FailedAfter t.parser b) → Taken s t status
+  failed : status ≡ 4 → HasFailed s → t.parser ≡ s.parser → Taken s t status
 
 -- beside that, the limits stay; what gives no value leaves the reply empty; and what meets no fault
 -- leaves the last one as it was
@@ -118,23 +112,13 @@ pub record GivesFirst (bytes : List ℕ) (taken : ℕ) (t : Session) : Type 0 wh
   pub reply : IsFlatOf t.reply value
   pub taken_is : taken + length rest ≡ length bytes
 
--- what stands at the start of bytes that are all there, and after how many of them a fault shows
+-- what stands at the start of bytes that are all there, and how many spell the value or show the fault
 pub data FirstOf (bytes : List ℕ) (taken : ℕ) (t : Session) (status : ℕ) : Type 0 where
-  more : status ≡ 0 → Awaits t.parser.limits bytes → FirstOf bytes taken t status
+  more : status ≡ 0 → Awaits t.parser.limits bytes → taken ≡ 0 → FirstOf bytes taken t status
   value : status ≡ 1 → GivesFirst bytes taken t → FirstOf bytes taken t status
   malformed : status ≡ 2 → (f : FrameFault) → HasFault t.parser.limits bytes f → t.fault ≡ number_of f →
       FaultShownAt t.parser.limits bytes taken → t.place ≡ taken → FirstOf bytes taken t status
-  memory : status ≡ 3 → FirstOf bytes taken t status
-
--- the reply is that of the value, or is empty where memory ran out
-pub data Appended (v : Value) (s t : Session) (status : ℕ) : Type 0 where
-  done : status ≡ 1 → IsFlatOf t.reply v → t ≡ record s { reply = t.reply } → Appended v s t status
-  memory : status ≡ 3 → Holds t.reply [] [] → t ≡ record s { reply = t.reply } → Appended v s t status
-
--- the same, and then the value is lost
-pub data Kept (v : Value) (s t : Session) (status : ℕ) : Type 0 where
-  done : status ≡ 1 → IsFlatOf t.reply v → t ≡ record s { reply = t.reply; lost = false } → Kept v s t status
-  memory : status ≡ 3 → Holds t.reply [] [] → t ≡ record s { reply = t.reply; lost = true } → Kept v s t status
+  memory : status ≡ 3 → taken ≡ 0 → FirstOf bytes taken t status
 
 -- 1 where no bytes are held, 2 where some are that aren't part of a value that was taken, and 3 after
 -- a failure

@@ -19,6 +19,14 @@ pub struct RespParser {
     ghost agrees: { live ≡ is_some slot.value },
 }
 
+/// A value of this type may go to another thread.
+fn may_be_sent<T: Send>() {}
+
+/// A handle may go to another thread, with the parser that it leads to.
+pub fn law_of_sent_handles() {
+    may_be_sent::<RespParser>()
+}
+
 impl RespParser {
     /// Nothing.
     fn none(alloc: Global) -> RespParser

@@ -116,6 +116,7 @@ pub extern "C" fn resp_parser_first(
     ensures first { Called (FirstRead bytes.now taken.new) parser.old.slot.value
         parser.new.slot.value result }
     ensures shown { Shown parser.new.slot.value view.old view.new }
+    ensures closed { parser.old.slot.value ≡ None → taken.new ≡ taken.old }
 {
     let Some(mut session) = parser.take(alloc) else {
         return CLOSED;

@@ -1,16 +1,15 @@
 //! A parser with the reply that it gave last.
 
-ghost use Rattle.std.specs.Prelude.{◌≡◌, ◌↔◌, [], IfErr, IfOk, IsTrue};
+ghost use Rattle.std.specs.Prelude.{◌≡◌, [], IfErr, IfOk};
 ghost use Rattle.resp_parse.specs.Limits.{AreLimits};
 ghost use Rattle.resp_parse.specs.State.{StandsAfter};
-ghost use Rattle.resp_c.specs.Sessions.{IsNew, HasFailed, Fed, Taken, FirstOf, StateIs};
-ghost use Rattle.resp_c.specs.Sessions.{Holds, Appended, Kept, number_of};
-ghost use Rattle.resp_c.specs.Sessions.{status_of, with_fault};
+ghost use Rattle.resp_c.specs.Sessions.{IsNew, Holds, Fed, Taken, FirstOf, StateIs};
+ghost use Rattle.resp_c.specs.Sessions.{number_of, status_of, with_fault};
 
 use crate::status::{BETWEEN_VALUES, DONE, FAILED, FAULT, HAS_FAILED, IN_PROGRESS, MEMORY, MORE};
 use resp_flat::FlatReply;
 use resp_parse::{Limits, Parser};
-use resp_value::{FrameFault, ParsingError, RedisError, RedisResult, Value};
+use resp_value::{FrameFault, ParsingError, RedisError, RedisResult};
 use std::alloc::Global;
 
 /// A parser, and the reply that it gave last.
@@ -23,8 +22,6 @@ pub struct Session {
     /// After how many bytes it showed: since the last value, or of those that were read by
     /// themselves.
     pub place: usize,
-    /// Whether a value was lost, since memory ran out over it.
-    pub lost: bool,
 }
 
 impl Session {
@@ -38,15 +35,7 @@ impl Session {
             reply: FlatReply::new(alloc),
             fault: 0,
             place: 0,
-            lost: false,
         })
-    }
-
-    /// Whether the parser has failed, or a value was lost.
-    fn has_failed(&self) -> bool
-        ensures failed { IsTrue result ↔ HasFailed self.now }
-    {
-        self.lost || self.parser.is_failed()
     }
 
     /// 1 where it holds no bytes, 2 where it holds some that aren't part of a value that was taken,
@@ -54,7 +43,7 @@ impl Session {
     pub fn state(&self) -> u32
         ensures state { StateIs self.now result }
     {
-        if self.has_failed() {
+        if self.parser.is_failed() {
             return HAS_FAILED;
         }
         if self.parser.in_progress() {
@@ -68,7 +57,7 @@ impl Session {
     pub fn feed(&mut self, bytes: &[u8]) -> u32
         ensures fed { Fed bytes.now self.old self.new result }
     {
-        if self.has_failed() {
+        if self.parser.is_failed() {
             return FAILED;
         }
         if self.parser.feed(bytes).is_err() {
@@ -86,12 +75,12 @@ impl Session {
             × (self.new.place ≡ self.old.place) }
     {
         self.reply.clear();
-        if self.has_failed() {
+        if self.parser.is_failed() {
             return FAILED;
         }
-        match self.parser.take_value() {
-            Ok(Some(value)) => self.keep(&value),
-            Ok(None) => MORE,
+        match self.parser.take_flat(&mut self.reply) {
+            Ok(true) => DONE,
+            Ok(false) => MORE,
             Err(error) => {
                 let place = self.parser.fault_offset().unwrap_or(0);
                 self.note(&error, place)
@@ -105,19 +94,20 @@ impl Session {
         ensures first { FirstOf bytes.now taken.new self.new result }
         ensures empty { (result ≡ 1 → ⊥) → Holds self.new.reply [] [] }
         ensures parser { self.new.parser ≡ self.old.parser }
-        ensures lost { self.new.lost ≡ self.old.lost }
+        ensures fault { (result ≡ 2 → ⊥) → (self.new.fault ≡ self.old.fault)
+            × (self.new.place ≡ self.old.place) }
     {
         *taken = 0;
         self.reply.clear();
         let Ok(mut parser) = parser_over(alloc, self.parser.limits(), bytes) else {
             return MEMORY;
         };
-        match parser.take_value() {
-            Ok(Some(value)) => {
+        match parser.take_flat(&mut self.reply) {
+            Ok(true) => {
                 *taken = bytes.len() - parser.unparsed_len();
-                self.append(&value)
+                DONE
             }
-            Ok(None) => MORE,
+            Ok(false) => MORE,
             Err(error) => {
                 *taken = parser.fault_offset().unwrap_or(0);
                 self.note(&error, *taken)
@@ -138,28 +128,6 @@ impl Session {
             }
             _ => MEMORY,
         }
-    }
-
-    /// Puts a value in the reply, which is empty.
-    fn append(&mut self, value: &Value) -> u32
-        requires empty { Holds self.old.reply [] [] }
-        ensures appended { Appended value.now self.old self.new result }
-    {
-        if self.reply.append(value).is_ok() {
-            return DONE;
-        }
-        self.reply.clear();
-        MEMORY
-    }
-
-    /// The same of a value that was taken; it is lost where memory runs out.
-    fn keep(&mut self, value: &Value) -> u32
-        requires empty { Holds self.old.reply [] [] }
-        ensures kept { Kept value.now self.old self.new result }
-    {
-        let status = self.append(value);
-        self.lost = status == MEMORY;
-        status
     }
 }
 

@@ -26,6 +26,9 @@ impl Model for Slot {
     ghost also_owns = { λ s. owns_some (box_owns (⟦<Global as Allocator>⟧.dealloc_token s.alloc) the_row s.at) s.value };
 }
 
+// A slot owns its session alone, and nothing in a session knows a thread.
+unsafe impl Send for Slot {}
+
 impl Slot {
     /// Nothing.
     pub fn empty(alloc: Global) -> Slot

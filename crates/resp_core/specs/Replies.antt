@@ -13,7 +13,11 @@ pub use Rattle.resp_fields.specs.Fields.{NamedValues, OfField, OfFieldOr, OfFiel
 pub use Rattle.resp_fields.specs.Fields.{without}
 pub use Rattle.resp_fields.specs.Rows.{OfRow, row_of}
 pub use Rattle.resp_fields.specs.Structs.{AnyOthers, Field, FieldOr, NoOthers}
+pub use Rattle.resp_flat.specs.FlatReplies.{IsFlatOf}
+pub use Rattle.resp_flat.specs.FlatValues.{IsShownIn, Shows, ShowsIf}
+pub use Rattle.resp_flat.specs.Readable.{IsReadable}
 pub use Rattle.resp_from.specs.Conversion.{Converts, ConvertsCall, OfVia}
+pub use Rattle.resp_from_flat.specs.EmptyReply.{reply_is_empty}
 pub use Rattle.resp_from.specs.Lists.{OfArray, OfVec}
 pub use Rattle.resp_from.specs.Maps.{HoldsMap, HoldsSet, OfMap, OfSet}
 pub use Rattle.resp_conversion_laws.specs.Laws.{Agree, FitsUnsigned, GoesBySeen, IsSingleValued, ReadsBack}

@@ -28,8 +28,9 @@ pub use resp_command::{
 };
 pub use resp_encode::{as_resp2, encode, encode_within};
 pub use resp_fields::{Fields, FromFields, from_redis_fields, from_redis_fields_by};
-pub use resp_flat::{FlatReply, Token, TokenKind};
+pub use resp_flat::{FlatElements, FlatPairs, FlatReply, FlatValue, Token, TokenKind};
 pub use resp_from::{FromRedisValue, from_redis_value, from_redis_value_by, from_redis_value_ref};
+pub use resp_from_flat::{FromFlatValue, from_flat_reply};
 pub use resp_link::{ByteLink, CommandSink, Writing, send_all};
 pub use resp_parse::{Limits, Parser, Reading, ReplySource, is_double_text, parse_redis_value};
 pub use resp_pipeline::{Pipeline, pipe};

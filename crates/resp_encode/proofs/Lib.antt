@@ -5,7 +5,6 @@ pub mod DoublesReadBack
 pub mod EncodedSpells
 pub mod FlatWires
 pub mod Levels
-pub mod LossyTexts
 pub mod NumbersReadBack
 pub mod OwnNames
 pub mod Resp2Forms

@@ -21,6 +21,7 @@ use Rattle.resp_errors.specs.declared.kinds.ServerErrorKind.TheVariants as kind
 use Rattle.resp_errors.specs.ServerErrors.{code_of_kind, kind_of_code, error_with, is_space, server_error, after_code, text_of}
 use Rattle.resp_parse.specs.Grammar.{is_colon, verbatim_text}
 use Rattle.resp_parse.proofs.ByteTests.{eq_true}
+use Rattle.resp_flat.proofs.ReadsOnly.{name-kind_named}
 use Rattle.resp_encode.specs.Encoding.{is_none, is_own_code, is_unknown, is_own_format, verbatim_body, is_other, is_own_kind, push_of}
 use Rattle.resp_encode.proofs.NumbersReadBack.{Graphic, utf8-graphic}
 use Rattle.resp_encode.proofs.CutTexts.{NonePasses, before-none, cut-before, cut-after, cut-inside}
@@ -161,19 +162,6 @@ read-format name h = by (bytes_eq name (codes "mkd")) (bytes_eq name (codes "txt
     by false true i j = (sym ((bytes_eq-Decides name (codes "txt")).0 j), refl)
     by false false i j = (refl, and_from (position_or_len is_colon name == length name) (is_unknown (format_named name)) (eq_true (position_or_len is_colon name) (length name) h) (rw (i, j) refl))
 
--- a kind that a name names
-named-or : (name : List ℕ) (b : Bool) (k other : PushKind) → bytes_eq name (name_of_push_kind k) ≡ b → name_of_push_kind other ≡ name → name_of_push_kind (cond b k other) ≡ name
-named-or name true k other e h = sym ((bytes_eq-Decides name (name_of_push_kind k)).0 e)
-named-or name false k other e h = h
-
-pub read-kind-name : (name : List ℕ) → name_of_push_kind (kind_named name) ≡ name
-unfolding kind_named
-read-kind-name name =
-    named-or name _ push.Invalidate _ refl (named-or name _ push.Message _ refl (named-or name _ push.PMessage _ refl
-    (named-or name _ push.SMessage _ refl (named-or name _ push.Unsubscribe _ refl (named-or name _ push.PUnsubscribe _ refl
-    (named-or name _ push.SUnsubscribe _ refl (named-or name _ push.Subscribe _ refl (named-or name _ push.PSubscribe _ refl
-    (named-or name _ push.SSubscribe _ refl refl)))))))))
-
 -- no name names the kind that no server sends
 or-never : (b : Bool) (k other : PushKind) → (k ≡ push.Disconnection → ⊥) → (other ≡ push.Disconnection → ⊥) → cond b k other ≡ push.Disconnection → ⊥
 or-never true k other h i e = h e
@@ -203,7 +191,7 @@ own-from push.PSubscribe name u e k = refl
 own-from push.SSubscribe name u e k = refl
 
 pub read-kind : (name : List ℕ) → is_utf8 name ≡ true → is_own_kind (kind_named name) ≡ true
-read-kind name u = own-from (kind_named name) name u (read-kind-name name) refl
+read-kind name u = own-from (kind_named name) name u (name-kind_named name) refl
 
 -- a name, a colon and a text are text
 pub verbatim-utf8 : (fmt : VerbatimFormat) (text : List ℕ) → IsUtf8 (name_of_format fmt) → IsUtf8 text → is_utf8 (verbatim_body fmt text) ≡ true

@@ -31,7 +31,7 @@ use Rattle.std.proofs.lemmas.List.{length-take-le}
 use Rattle.resp_errors.proofs.ErrorTexts as error_texts
 use Rattle.resp_value.proofs.PairsCounted.{pairs_counted}
 use Rattle.resp_encode.proofs.CutTexts.{no_break-from, before-none}
-use Rattle.resp_encode.proofs.LossyTexts.{lossy-utf8}
+use Rattle.resp_parse.proofs.LossyTexts.{lossy-utf8}
 use Rattle.resp_encode.proofs.NumbersReadBack.{integer-fits, length-fits}
 use Rattle.resp_encode.proofs.OwnNames.{read-error, read-format, read-kind}
 

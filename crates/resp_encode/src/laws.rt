@@ -1,9 +1,11 @@
 //! The laws of what is sent: functions that do nothing, and whose clauses are proved.
 
-ghost use Rattle.std.specs.Prelude.{◌≡◌, ℕ};
+ghost use Rattle.std.specs.Prelude.{◌≡◌, ℕ, List};
 ghost use Rattle.resp_value.specs.declared.value.Value.{Value};
 ghost use Rattle.resp_encode.specs.Encoding.{LawOfEncoding};
 ghost use Rattle.resp_encode.specs.FlatLaw.{LawOfFlatReplies};
+ghost use Rattle.resp_flat.specs.Readable.{IsReadable};
+ghost use Rattle.resp_parse.specs.Grammar.{WellFormed};
 ghost use Rattle.resp_encode.specs.Resp2.{resp2_of, IsResp2};
 ghost use Rattle.resp_encode.specs.Resp2Encoding.{LawOfResp2Encoding};
 
@@ -32,6 +34,10 @@ pub fn law_of_resp2_encoding()
 {}
 
 /// The tokens and the text of a flat reply are those of one value, of all that a server can send.
+///
+/// And what bytes spell at so many levels is read back from them
+/// ([`FlatReply::to_value`](resp_flat::FlatReply::to_value)).
 pub fn law_of_flat_replies()
     ensures law { (d : ℕ) (v w : Value) → LawOfFlatReplies d v w }
+    ensures readable { (d : ℕ) (b : List ℕ) (v : Value) → WellFormed d b v → IsReadable d v }
 {}

@@ -1,2 +1,11 @@
 pub mod TokenSizes
 pub mod Appending
+pub mod Utf8
+pub mod ReadSteps
+pub mod ReadsBack
+pub mod ReadsOnly
+pub mod Skips
+pub mod Shown
+pub mod ReadableParts
+pub mod ReadsReadable
+pub mod ViewCounts

@@ -1,1 +1,5 @@
 pub mod FlatReplies
+pub mod Reading
+pub mod Readable
+pub mod Refusals
+pub mod FlatValues

@@ -1,6 +1,13 @@
 //! A reply as tokens and text.
 
-ghost use Rattle.std.specs.Prelude.{◌≡◌, ◌++◌, ◌∷◌, [], length, map, false, OnOk};
+ghost use Rattle.std.specs.Prelude.{◌≡◌, ◌↔◌, ◌++◌, ◌∷◌, [], length, map, false, Some, IsNone};
+ghost use Rattle.std.specs.Prelude.{OnOk, IfOk, IfErr};
+ghost use Rattle.resp_flat.specs.FlatValues.{ShowsIf};
+ghost use Rattle.resp_errors.specs.Memory.{OnlyMemory};
+ghost use Rattle.resp_value.specs.declared.value.Value.{Value};
+ghost use Rattle.resp_flat.specs.FlatReplies.{IsFlatOf};
+ghost use Rattle.resp_flat.specs.Readable.{IsReadable};
+ghost use Rattle.resp_flat.specs.Refusals.{IsRefusal};
 ghost use Rattle.resp_flat.specs.FlatReplies.{tokens_of, text_of, placed, sized, numbered, has_text};
 ghost use Rattle.resp_flat.specs.FlatReplies.{joined, joined_pairs, tokens_of_pair, text_of_pair};
 ghost use Rattle.resp_flat.specs.FlatReplies.{verbatim_text, list_tokens, pairs_tokens};
@@ -8,7 +15,11 @@ ghost use Rattle.resp_flat.specs.FlatReplies.{push_tokens};
 ghost use Rattle.resp_flat.specs.declared.token.TokenKind.TheVariants as kind;
 ghost use Rattle.resp_errors.specs.ServerErrors.{text_of as error_text};
 
+use crate::flat_error::refusal;
+use crate::flat_value::FlatValue;
+use crate::reading::whole_value;
 use crate::token::{Token, TokenKind};
+use resp_errors::RedisResult;
 use resp_value::{ServerError, Value, VerbatimFormat};
 use std::alloc::{AllocError, Global};
 
@@ -42,6 +53,37 @@ impl FlatReply {
     {
         self.tokens.clear();
         self.text.clear();
+    }
+
+    /// The value that was appended to it, if that was all.
+    ///
+    /// Values of up to 1,000 levels are read, of which a value without others inside it has one. A
+    /// value that a parser made is read back as it was; of any other, texts must be UTF-8, and
+    /// errors, formats and kinds those that their texts are read as (`IsReadable`).
+    ///
+    /// Refused with kind `Client` where tokens and text are no value's, and else only with
+    /// `OutOfMemory`.
+    pub fn to_value(&self, alloc: Global) -> RedisResult<Value>
+        ensures value { (v : Value) → IsFlatOf self.now v → IsReadable 1000 v
+            → IfOk result (λ w. w ≡ v) }
+        ensures memory { (v : Value) → IsFlatOf self.now v → IsReadable 1000 v
+            → OnlyMemory result }
+        ensures flat { IfOk result (λ w. IsFlatOf self.now w) }
+        ensures readable { IfOk result (λ w. IsReadable 1000 w) }
+        ensures refused { IfErr result IsRefusal }
+    {
+        match whole_value(alloc, self.tokens.as_slice(), self.text.as_slice()) {
+            Ok(value) => Ok(value),
+            Err(error) => Err(refusal(error)),
+        }
+    }
+
+    /// The first value, to be looked at where it is; `None` where there are no tokens.
+    pub fn root(&self) -> Option<FlatValue<'_>>
+        ensures empty { IsNone result ↔ (self.now.tokens.items ≡ []) }
+        ensures shown { (v : Value) → IsFlatOf self.now v → ShowsIf result (Some v) }
+    {
+        FlatValue::first(self.tokens.as_slice(), self.text.as_slice())
     }
 
     /// A token of this size, whose bytes or values come next.

@@ -1,11 +1,11 @@
 -- The bytes examined pay for the iterations.
 use Rattle.std.proofs.Common.{◌≡◌, ℕ, ◌+◌, ◌-◌, ◌*◌, ◌≤◌, List, ap, arith, refl, Some, None, Ok}
-use Rattle.resp_value.specs.declared.value.Value.{Value}
+use Rattle.resp_parse.specs.declared.whole.Whole.{Whole}
 use Rattle.resp_parse.specs.declared.machine.Machine.{Machine}
 use Rattle.resp_parse.specs.Counts.{Counts}
 use Rattle.resp_parse.specs.declared.machine.Step.TheVariants as step
 use Rattle.resp_parse.specs.Built.{built}
-use Rattle.resp_parse.specs.Costs.{least_bytes, BuiltWithin, StepBuiltWithin, prepaid, potential, LooksAt, Places, Looks, StepCost, RunCost}
+use Rattle.resp_parse.specs.Costs.{least_bytes, BuiltWithin, StepBuiltWithin, prepaid, potential, LooksAt, Places, Looks, StepCost, Spent}
 use Rattle.resp_parse.proofs.SameCounts.{SameButIterations, SameButExamined, examined-iterations, examined-looks, examined-take, examined-both}
 
 -- a header of len + 3 bytes was looked at, of which some had been before, and begun
@@ -60,17 +60,17 @@ module _ (old m : Machine) (c d : Counts) (at : ℕ) (h : CostSoFar old m c d at
   of-step : (new : Machine) (e : Counts) (n : ℕ) → Looks m new (record d { iterations = d.iterations + 1 }) e n → Looks m new d e n
   of-step new e n l = record { same = l.same; once = l.once; examined = l.examined }
 
-  pub CostSoFar-end : (bytes : List ℕ) → RunCost old m bytes c d (Ok (at, None))
+  pub CostSoFar-end : (bytes : List ℕ) → Spent old m c d at
   CostSoFar-end bytes = (h.looks, omega (arith, h.cost))
 
-  pub CostSoFar-waits : (new : Machine) (e : Counts) (rest bytes : List ℕ) (n : ℕ) → StepCost m new rest d e (Ok (step.Waits n)) → RunCost old new bytes c e (Ok (at + n, None))
+  pub CostSoFar-waits : (new : Machine) (e : Counts) (rest bytes : List ℕ) (n : ℕ) → StepCost m new rest d e (Ok (step.Waits n)) → Spent old new c e (at + n)
   CostSoFar-waits new e rest bytes n s = (looks-on new e n (of-step new e n s.0), omega (arith, h.cost, s.1))
 
   pub CostSoFar-goes : (new : Machine) (e : Counts) (rest : List ℕ) (n : ℕ) → StepCost m new rest d e (Ok (step.Goes n)) → StepBuiltWithin m new (Ok (step.Goes n)) → CostSoFar old new c e (at + n)
   CostSoFar-goes new e rest n s w = record { looks = looks-on new e n (of-step new e n s.0); cost = omega (arith, h.cost, s.1); built_within = omega (arith, h.built_within, w) }
 
   -- a value is whole, and was put where it belongs
-  module _ (mid new : Machine) (e f : Counts) (rest : List ℕ) (n : ℕ) (v : Value) (s : StepCost m mid rest d e (Ok (step.Whole n v))) (w : StepBuiltWithin m mid (Ok (step.Whole n v))) (iterations : SameButIterations e f) where
+  module _ (mid new : Machine) (e f : Counts) (rest : List ℕ) (n : ℕ) (v : Whole) (s : StepCost m mid rest d e (Ok (step.Whole n v))) (w : StepBuiltWithin m mid (Ok (step.Whole n v))) (iterations : SameButIterations e f) where
     examined-same : f.examined ≡ e.examined
     examined-same = ap (λ (t : Counts). t.examined) iterations
 
@@ -80,11 +80,11 @@ module _ (old m : Machine) (c d : Counts) (at : ℕ) (h : CostSoFar old m c d at
     looks-attached : new.scanned ≡ mid.scanned → Looks old new c f (at + n)
     looks-attached z = record { same = examined-both c d f h.looks.same (examined-both d e f s.0.same (examined-iterations e f iterations)); once = once-attached; examined = omega (arith, h.looks.examined, s.0.examined, examined-same, z) }
 
-    pub CostSoFar-attaches : Places {X = Unit {0}} mid new e f (Ok tt) → BuiltWithin new (least_bytes mid + 3 * built v) (Ok None) → new.scanned ≡ mid.scanned → CostSoFar old new c f (at + n)
+    pub CostSoFar-attaches : Places {X = Unit {0}} mid new e f (Ok tt) → BuiltWithin new (least_bytes mid + 3 * built v.seen) (Ok None) → new.scanned ≡ mid.scanned → CostSoFar old new c f (at + n)
     CostSoFar-attaches p k z = record { looks = looks-attached z; cost = omega (arith, h.cost, s.1, p, examined-same, z); built_within = omega (arith, h.built_within, w, k) }
 
-    pub CostSoFar-reads : (u : Value) (bytes : List ℕ) → Places {X = Unit {0}} mid new e f (Ok tt) → new.scanned ≡ mid.scanned → RunCost old new bytes c f (Ok (at + n, Some u))
+    pub CostSoFar-reads : (u : Whole) (bytes : List ℕ) → Places {X = Unit {0}} mid new e f (Ok tt) → new.scanned ≡ mid.scanned → Spent old new c f (at + n)
     CostSoFar-reads u bytes p z = (looks-attached z, omega (arith, h.cost, s.1, p, examined-same, z))
 
-    pub CostSoFar-built_within : (u : Value) → BuiltWithin new (least_bytes mid + 3 * built v) (Ok (Some u)) → least_bytes new + 3 * built u ≤ least_bytes old + (at + n)
+    pub CostSoFar-built_within : (u : Whole) → BuiltWithin new (least_bytes mid + 3 * built v.seen) (Ok (Some u)) → least_bytes new + 3 * built u.seen ≤ least_bytes old + (at + n)
     CostSoFar-built_within u k = omega (arith, h.built_within, w, k)

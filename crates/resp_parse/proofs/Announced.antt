@@ -1,8 +1,9 @@
 -- What a header announces, as a machine begins it.
-use Rattle.std.proofs.Common.{◌≡◌, ℕ, suc, List, [], ◌∷◌, refl, Some, None, Ok, Err}
+use Rattle.std.proofs.Common.{◌≡◌, ℕ, suc, List, [], ◌∷◌, refl, ◌∙◌, Some, None, Result, Ok, Err}
 use Rattle.std.specs.Str.{IsUtf8, is_utf8}
 use Rattle.std.proofs.lemmas.Str.{IsUtf8-from_is_utf8, is_utf8-from_IsUtf8}
 use Rattle.resp_value.specs.declared.value.Value.{Value}
+use Rattle.resp_errors.specs.declared.kinds.FrameFault.{FrameFault}
 use Rattle.resp_errors.specs.declared.kinds.FrameFault.TheVariants.{LineNotUtf8}
 use Rattle.resp_parse.specs.declared.read_error.ReadError.{ReadError}
 use Rattle.resp_parse.specs.declared.read_error.ReadError.TheVariants.{Memory, Fault}
@@ -11,11 +12,14 @@ use Rattle.resp_parse.specs.declared.shape.BodyKind.{BodyKind}
 use Rattle.resp_parse.specs.declared.shape.ElementsKind.{ElementsKind}
 use Rattle.resp_parse.specs.declared.shape.Shape.TheVariants as shape
 use Rattle.resp_parse.specs.declared.open_aggregates.OpenAggregate.{OpenAggregate}
+use Rattle.resp_parse.specs.declared.body.Body.{Body}
+use Rattle.resp_parse.specs.declared.whole.Whole.{Whole}
+use Rattle.resp_parse.specs.Building.{BeginsBody, BeginsAggregate}
 use Rattle.resp_parse.specs.declared.machine.Machine.{Machine}
-use Rattle.resp_parse.specs.Grammar.{Announcement, announced, invalid}
+use Rattle.resp_parse.specs.Grammar.{Announcement, complete, elements, announced, invalid, with_valid}
 use Rattle.resp_parse.specs.Shapes.{Announces, announced_in_line, elements_value}
 use Rattle.resp_parse.specs.PlainReading.{ReadOutcome, then, read_announced, read}
-use Rattle.resp_parse.specs.Computes.{Computes}
+use Rattle.resp_parse.specs.Computes.{Computes, ComputesSeen}
 use Rattle.resp_parse.specs.Resume.{place, depth_below, Goes}
 use Rattle.resp_parse.proofs.ByteTests.{not_true}
 use Rattle.resp_parse.proofs.OpenAggregates.{opens}
@@ -29,22 +33,34 @@ module _ (d : ℕ) (fs : List OpenAggregate) (a : Announcement) where
   announced-stops m Memory h = tt
   announced-stops m (Fault f) h = λ more. rw h refl
 
-  pub announced-whole : (m : Machine) (v : Value) → Announces (Ok (shape.Whole v)) a → m.depth ≡ d → m.open_aggregates ≡ fs → m.body ≡ None → Goes begins m (Ok (Some v))
-  announced-whole m v h l e b = ((λ more. rw (h, l, e) refl), b)
+  pub announced-whole : (m : Machine) (v : Value) (w : Whole) → a ≡ complete v → w.seen ≡ v → m.depth ≡ d → m.open_aggregates ≡ fs → m.body ≡ None → Goes begins m (Ok (Some w))
+  announced-whole m v w h s l e b = ((λ more. rw (h, s, l, e) refl), b)
 
-  pub announced-body : (m : Machine) (kind : BodyKind) (n : ℕ) → Announces (Ok (shape.Body kind n)) a → m.depth ≡ d → m.open_aggregates ≡ fs → m.body ≡ Some (record { kind = kind; missing = n; bytes = [] }) → Goes begins m (Ok None)
-  announced-body m kind n h l e b = ((λ more. rw (h, l, e, b) refl), rw b refl)
+  pub announced-line : (m : Machine) (r : Result Value FrameFault) (w : Whole) → a ≡ with_valid r complete → ComputesSeen (Ok w) r → m.depth ≡ d → m.open_aggregates ≡ fs → m.body ≡ None → Goes begins m (Ok (Some w))
+  announced-line m r w h c l e b = announced-whole m w.seen w (h ∙ rw c refl) refl l e b
 
-  pub announced-empty : (m : Machine) (kind : ElementsKind) (n : ℕ) (v : Value) → Announces (Ok (shape.Elements kind n)) a → n ≡ 0 → m.depth ≡ d → m.open_aggregates ≡ fs → m.body ≡ None → Computes (Ok v) (elements_value kind []) → Goes begins m (Ok (Some v))
-  announced-empty m kind n v h z l e b c = ((λ more. rw (h, z, l, e) (rw c refl)), b)
+  pub announced-no_line : (m : Machine) (r : Result Value FrameFault) (e : ReadError) → a ≡ with_valid r complete → ComputesSeen (Err e) r → Goes begins m (Err e)
+  announced-no_line m r Memory h c = tt
+  announced-no_line m r (Fault f) h c = λ more. rw h (rw c refl)
 
-  pub announced-refused : (m : Machine) (kind : ElementsKind) (n : ℕ) (e : ReadError) → Announces (Ok (shape.Elements kind n)) a → n ≡ 0 → Computes (Err e) (elements_value kind []) → Goes begins m (Err e)
-  announced-refused m kind n Memory h z c = tt
-  announced-refused m kind n (Fault f) h z c = λ more. rw (h, z) (rw c refl)
+  pub announced-body : (m : Machine) (kind : BodyKind) (n : ℕ) (body : Body) → Announces (Ok (shape.Body kind n)) a → m.depth ≡ d → m.open_aggregates ≡ fs → m.body ≡ Some body → BeginsBody kind n body → Goes begins m (Ok None)
+  announced-body m kind n body h l e b i = ((λ more. rw (h, l, e, b) (rw (i.kind_is, i.missing_is, i.none) refl)), rw b refl)
 
-  pub announced-aggregate : (m : Machine) (kind : ElementsKind) (n k : ℕ) (f : OpenAggregate) → Announces (Ok (shape.Elements kind n)) a → n ≡ suc k → f ≡ record { kind = kind; after = k; elements = [] } → m.depth ≡ d → m.open_aggregates ≡ f ∷ fs → m.body ≡ None → Goes begins m (Ok None)
-  announced-aggregate m kind n k f h z x l e b = (
-    (λ more. rw (h, z, l, e, b, x) (opens d k kind fs more)),
+-- a header of elements
+module _ (d : ℕ) (fs : List OpenAggregate) (kind : ElementsKind) where
+  abbrev begins_elements : ℕ → List ℕ → ReadOutcome Value
+  begins_elements n more = then (read_announced (read (depth_below d fs)) (elements n (elements_value kind)) more) (place d fs)
+
+  pub elements-empty : (m : Machine) (n : ℕ) (v : Value) (w : Whole) → n ≡ 0 → w.seen ≡ v → m.depth ≡ d → m.open_aggregates ≡ fs → m.body ≡ None → Computes (Ok v) (elements_value kind []) → Goes (begins_elements n) m (Ok (Some w))
+  elements-empty m n v w z s l e b c = ((λ more. rw (z, s, l, e) (rw c refl)), b)
+
+  pub elements-refused : (m : Machine) (n : ℕ) (e : ReadError) → n ≡ 0 → Computes (Err e) (elements_value kind []) → Goes (begins_elements n) m (Err e)
+  elements-refused m n Memory z c = tt
+  elements-refused m n (Fault f) z c = λ more. rw z (rw c refl)
+
+  pub elements-opened : (m : Machine) (n k : ℕ) (f : OpenAggregate) → n ≡ suc k → BeginsAggregate kind k f → m.depth ≡ d → m.open_aggregates ≡ f ∷ fs → m.body ≡ None → Goes (begins_elements n) m (Ok None)
+  elements-opened m n k f z i l e b = (
+    (λ more. rw (z, l, e, b) (opens d k kind f fs more i.kind_is i.after_is i.none)),
     rw (e, b) refl,
   )
 

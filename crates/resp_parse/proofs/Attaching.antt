@@ -1,9 +1,10 @@
 -- A whole value is put in the innermost of the open aggregates.
-use Rattle.std.proofs.Common.{◌≡◌, ℕ, suc, ◌+◌, ◌*◌, ◌≤◌, List, [], ◌∷◌, ◌++◌, length, refl, ap, ◌∙◌, sym, subst, arith, Some, None, Ok, Err}
+use Rattle.std.proofs.Common.{◌≡◌, ℕ, suc, ◌+◌, ◌*◌, ◌≤◌, Bool, List, [], ◌∷◌, ◌++◌, length, refl, ap, ◌∙◌, sym, subst, arith, Some, None, Ok, Err}
 use Rattle.std.proofs.lemmas.Grind.{common_steps}
 use Rattle.std.proofs.lemmas.List.Sums.{sum_by-cons, sum_by-append}
 use Rattle.std.specs.List.{sum_by}
 use Rattle.resp_value.specs.declared.value.Value.{Value}
+use Rattle.resp_parse.specs.declared.whole.Whole.{Whole}
 use Rattle.resp_parse.specs.declared.read_error.ReadError.{ReadError}
 use Rattle.resp_parse.specs.declared.read_error.ReadError.TheVariants.{Memory, Fault}
 use Rattle.resp_parse.specs.declared.shape.ElementsKind.{ElementsKind}
@@ -13,7 +14,7 @@ use Rattle.resp_parse.specs.OpenAggregates.{Adds, KeptIn, ClosedBy}
 use Rattle.resp_parse.specs.declared.machine.Machine.{Machine}
 use Rattle.resp_parse.specs.Shapes.{elements_value}
 use Rattle.resp_parse.specs.PlainReading.{then, made}
-use Rattle.resp_parse.specs.Computes.{Computes}
+use Rattle.resp_parse.specs.Computes.{Computes, ComputesSeen}
 use Rattle.resp_parse.specs.Resume.{place, Ends}
 use Rattle.resp_parse.specs.Built.{built}
 use Rattle.resp_parse.specs.Costs.{built_of, aggregates_least_bytes, aggregates_potential}
@@ -22,13 +23,13 @@ use Rattle.resp_parse.proofs.Sizes.{elements-small}
 
 -- what began as w inside gs has become v inside f and fs; the elements of f are then vs
 module _ (d : ℕ) (gs : List OpenAggregate) (w : Value) (now : List OpenAggregate) (v : Value) (same : (more : List ℕ) → place d gs w more ≡ place d now v more)
-    (f : OpenAggregate) (fs : List OpenAggregate) (now_is : now ≡ f ∷ fs) (vs : List Value) (vs_is : vs ≡ f.elements ++ (v ∷ [])) where
+    (f : OpenAggregate) (fs : List OpenAggregate) (now_is : now ≡ f ∷ fs) (vs : List Value) (vs_is : vs ≡ f.seen ++ (v ∷ [])) where
   before : (more : List ℕ) → place d gs w more ≡ place d (f ∷ fs) v more
   before more = same more ∙ ap (λ x. place d x v more) now_is
 
   -- more elements are to come
-  pub attach-keeps : (m : Machine) (k : ℕ) → f.after ≡ suc k → m.depth ≡ d → m.open_aggregates ≡ record { kind = f.kind; after = k; elements = vs } ∷ fs → m.body ≡ None → Ends (place d gs w) m (Ok None)
-  attach-keeps m k a l e b = ((λ more. before more ∙ rw (l, e, b, vs_is) (keeps d k f fs v more a)), rw (e, b) refl)
+  pub attach-keeps : (m : Machine) (k : ℕ) (g : OpenAggregate) → f.after ≡ suc k → g.kind ≡ f.kind → g.after ≡ k → g.seen ≡ vs → m.depth ≡ d → m.open_aggregates ≡ g ∷ fs → m.body ≡ None → Ends (place d gs w) m (Ok None)
+  attach-keeps m k g a gk ga gv l e b = ((λ more. before more ∙ rw (l, e, b) (keeps d k f g fs v more a gk ga (gv ∙ vs_is))), rw (e, b) refl)
 
   closed : f.after ≡ 0 → (more : List ℕ) → place d gs w more ≡ then (made (elements_value f.kind vs) more) (place d fs)
   closed a more = before more ∙ closes d f fs v more a ∙ ap (λ x. then (made (elements_value f.kind x) more) (place d fs)) (sym vs_is)
@@ -38,30 +39,30 @@ module _ (d : ℕ) (gs : List OpenAggregate) (w : Value) (now : List OpenAggrega
   attach-closes u a c more = closed a more ∙ rw c refl
 
   -- all elements are there, and make none
-  pub attach-refused : (m : Machine) (e : ReadError) → f.after ≡ 0 → Computes (Err e) (elements_value f.kind vs) → Ends (place d gs w) m (Err e)
+  pub attach-refused : (m : Machine) (e : ReadError) → f.after ≡ 0 → ComputesSeen (Err e) (elements_value f.kind vs) → Ends (place d gs w) m (Err e)
   attach-refused m Memory a c = tt
   attach-refused m (Fault g) a c = λ more. closed a more ∙ rw c refl
 
 -- the least bytes and the potential of the aggregates, where the innermost has one element more
-module _ (now : List OpenAggregate) (f : OpenAggregate) (fs : List OpenAggregate) (now_is : now ≡ f ∷ fs) (v : Value) (vs : List Value) (vs_is : vs ≡ f.elements ++ (v ∷ [])) where
-  pub elements-more : length vs ≡ suc (length f.elements)
+module _ (now : List OpenAggregate) (f : OpenAggregate) (fs : List OpenAggregate) (now_is : now ≡ f ∷ fs) (v : Value) (vs : List Value) (vs_is : vs ≡ f.seen ++ (v ∷ [])) where
+  pub elements-more : length vs ≡ suc (length f.seen)
   elements-more = ap length vs_is ∙ grind (arith, common_steps)
 
-  pub built-more : built_of vs ≡ built_of f.elements + built v
-  built-more = let one : sum_by built (v ∷ []) ≡ built v + sum_by built [] = sum_by-cons built v [] in let both : sum_by built (f.elements ++ (v ∷ [])) ≡ sum_by built f.elements + sum_by built (v ∷ []) = sum_by-append built f.elements (v ∷ []) in ap built_of vs_is ∙ omega (arith, one, both)
+  pub built-more : built_of vs ≡ built_of f.seen + built v
+  built-more = let one : sum_by built (v ∷ []) ≡ built v + sum_by built [] = sum_by-cons built v [] in let both : sum_by built (f.seen ++ (v ∷ [])) ≡ sum_by built f.seen + sum_by built (v ∷ []) = sum_by-append built f.seen (v ∷ []) in ap built_of vs_is ∙ omega (arith, one, both)
 
-  pub least_bytes-now : aggregates_least_bytes now ≡ 3 + 3 * built_of f.elements + aggregates_least_bytes fs
+  pub least_bytes-now : aggregates_least_bytes now ≡ 3 + 3 * built_of f.seen + aggregates_least_bytes fs
   least_bytes-now = ap aggregates_least_bytes now_is
 
-  pub potential-now : aggregates_potential now ≡ 2 + length f.elements + aggregates_potential fs
+  pub potential-now : aggregates_potential now ≡ 2 + length f.seen + aggregates_potential fs
   potential-now = ap aggregates_potential now_is
 
   -- more elements are to come
-  pub keeps-least_bytes : (m : ℕ) (new : List OpenAggregate) → new ≡ record { kind = f.kind; after = m; elements = vs } ∷ fs → aggregates_least_bytes new ≡ aggregates_least_bytes now + 3 * built v
-  keeps-least_bytes m new e = ap aggregates_least_bytes e ∙ omega (arith, built-more, least_bytes-now)
+  pub keeps-least_bytes : (g : OpenAggregate) (new : List OpenAggregate) → g.seen ≡ vs → new ≡ g ∷ fs → aggregates_least_bytes new ≡ aggregates_least_bytes now + 3 * built v
+  keeps-least_bytes g new s e = let b : built_of g.seen ≡ built_of vs = ap built_of s in ap aggregates_least_bytes e ∙ omega (arith, b, built-more, least_bytes-now)
 
-  pub keeps-potential : (m : ℕ) (new : List OpenAggregate) → new ≡ record { kind = f.kind; after = m; elements = vs } ∷ fs → aggregates_potential new ≡ suc (aggregates_potential now)
-  keeps-potential m new e = ap aggregates_potential e ∙ omega (arith, elements-more, potential-now)
+  pub keeps-potential : (g : OpenAggregate) (new : List OpenAggregate) → g.seen ≡ vs → new ≡ g ∷ fs → aggregates_potential new ≡ suc (aggregates_potential now)
+  keeps-potential g new s e = let b : length g.seen ≡ length vs = ap length s in ap aggregates_potential e ∙ omega (arith, b, elements-more, potential-now)
 
   -- all elements are there
   pub closes-least_bytes : (u : Value) → Computes (Ok u) (elements_value f.kind vs) → aggregates_least_bytes fs + 3 * built u ≤ aggregates_least_bytes now + 3 * built v
@@ -71,31 +72,37 @@ module _ (now : List OpenAggregate) (f : OpenAggregate) (fs : List OpenAggregate
   closes-potential = omega (arith, elements-more, potential-now)
 
 -- what an open aggregate that a value was put in has become
-module _ (d : ℕ) (gs : List OpenAggregate) (w : Value) (now : List OpenAggregate) (v : Value) (same : (more : List ℕ) → place d gs w more ≡ place d now v more) where
-  pub added-outermost : (m : Machine) (u : Value) → Adds {E = Unit {0}} now v m.open_aggregates (Ok (added.Outermost u)) → m.body ≡ None → Ends (place d gs w) m (Ok (Some u))
+module _ (flat : Bool) (x : Value) (d : ℕ) (gs : List OpenAggregate) (w : Value) (now : List OpenAggregate) (v : Whole) (same : (more : List ℕ) → place d gs w more ≡ place d now v.seen more) where
+  pub added-outermost : (m : Machine) (u : Whole) → Adds {E = Unit {0}} flat now x v m.open_aggregates (Ok (added.Outermost u)) → m.body ≡ None → Ends (place d gs w) m (Ok (Some u))
   added-outermost m u a b = ((λ more. same more ∙ rw (a.0, a.2) refl), rw (b, a.1) refl)
 
-  pub added-kept : (m : Machine) → m.depth ≡ d → KeptIn now v m.open_aggregates → m.body ≡ None → Ends (place d gs w) m (Ok None)
-  added-kept m l a b = attach-keeps d gs w now v same a.aggregate a.outer a.old_is (a.aggregate.elements ++ (v ∷ [])) refl m a.after a.after_is l a.new_is b
+  pub added-kept : (m : Machine) → m.depth ≡ d → KeptIn flat now x v m.open_aggregates → m.body ≡ None → Ends (place d gs w) m (Ok None)
+  added-kept m l a b = attach-keeps d gs w now v.seen same a.aggregate a.outer a.old_is (a.aggregate.seen ++ (v.seen ∷ [])) refl m a.after _ a.after_is refl refl refl l a.new_is b
 
-  module _ (fs : List OpenAggregate) (kind : ElementsKind) (vs : List Value) (a : ClosedBy now v fs kind vs) where
-    pub added-closed : (u : Value) → Computes (Ok u) (elements_value kind vs) → (more : List ℕ) → place d gs w more ≡ place d fs u more
-    added-closed u c = attach-closes d gs w now v same a.aggregate fs a.old_is vs a.elements_are u a.last (rw (← a.kind_is) c)
+  module _ (fs : List OpenAggregate) (f : OpenAggregate) (a : ClosedBy flat now x v fs f) where
+    kind-is : f.kind ≡ a.aggregate.kind
+    kind-is = ap (λ (g : OpenAggregate). g.kind) a.closed_is
 
-    pub added-refused : (m : Machine) (e : ReadError) → Computes (Err e) (elements_value kind vs) → Ends (place d gs w) m (Err e)
-    added-refused m e c = attach-refused d gs w now v same a.aggregate fs a.old_is vs a.elements_are m e a.last (subst (λ (k : ElementsKind). Computes (Err e) (elements_value k vs)) a.kind_is c)
+    seen-is : f.seen ≡ a.aggregate.seen ++ (v.seen ∷ [])
+    seen-is = ap (λ (g : OpenAggregate). g.seen) a.closed_is
 
-    pub closed-least_bytes : (u : Value) → Computes (Ok u) (elements_value kind vs) → aggregates_least_bytes fs + 3 * built u ≤ aggregates_least_bytes now + 3 * built v
-    closed-least_bytes u c = closes-least_bytes now a.aggregate fs a.old_is v vs a.elements_are u (rw (← a.kind_is) c)
+    pub added-closed : (u : Value) → Computes (Ok u) (elements_value f.kind f.seen) → (more : List ℕ) → place d gs w more ≡ place d fs u more
+    added-closed u c = attach-closes d gs w now v.seen same a.aggregate fs a.old_is f.seen seen-is u a.last (rw (← kind-is) c)
 
-    pub closed-potential : aggregates_potential fs + length vs + 1 ≤ aggregates_potential now
-    closed-potential = closes-potential now a.aggregate fs a.old_is v vs a.elements_are
+    pub added-refused : (m : Machine) (e : ReadError) → ComputesSeen (Err e) (elements_value f.kind f.seen) → Ends (place d gs w) m (Err e)
+    added-refused m e c = attach-refused d gs w now v.seen same a.aggregate fs a.old_is f.seen seen-is m e a.last (subst (λ (k : ElementsKind). ComputesSeen (Err e) (elements_value k f.seen)) kind-is c)
+
+    pub closed-least_bytes : (u : Value) → Computes (Ok u) (elements_value f.kind f.seen) → aggregates_least_bytes fs + 3 * built u ≤ aggregates_least_bytes now + 3 * built v.seen
+    closed-least_bytes u c = closes-least_bytes now a.aggregate fs a.old_is v.seen f.seen seen-is u (rw (← kind-is) c)
+
+    pub closed-potential : aggregates_potential fs + length f.seen + 1 ≤ aggregates_potential now
+    closed-potential = closes-potential now a.aggregate fs a.old_is v.seen f.seen seen-is
 
     pub closed-shorter : length now ≡ suc (length fs)
     closed-shorter = ap (λ (x : List OpenAggregate). length x) a.old_is
 
-pub kept-least_bytes : (now : List OpenAggregate) (v : Value) (new : List OpenAggregate) → KeptIn now v new → aggregates_least_bytes new ≡ aggregates_least_bytes now + 3 * built v
-kept-least_bytes now v new a = keeps-least_bytes now a.aggregate a.outer a.old_is v (a.aggregate.elements ++ (v ∷ [])) refl a.after new a.new_is
+pub kept-least_bytes : (flat : Bool) (x : Value) (now : List OpenAggregate) (v : Whole) (new : List OpenAggregate) → KeptIn flat now x v new → aggregates_least_bytes new ≡ aggregates_least_bytes now + 3 * built v.seen
+kept-least_bytes flat x now v new a = keeps-least_bytes now a.aggregate a.outer a.old_is v.seen (a.aggregate.seen ++ (v.seen ∷ [])) refl _ new refl a.new_is
 
-pub kept-potential : (now : List OpenAggregate) (v : Value) (new : List OpenAggregate) → KeptIn now v new → aggregates_potential new ≡ suc (aggregates_potential now)
-kept-potential now v new a = keeps-potential now a.aggregate a.outer a.old_is v (a.aggregate.elements ++ (v ∷ [])) refl a.after new a.new_is
+pub kept-potential : (flat : Bool) (x : Value) (now : List OpenAggregate) (v : Whole) (new : List OpenAggregate) → KeptIn flat now x v new → aggregates_potential new ≡ suc (aggregates_potential now)
+kept-potential flat x now v new a = keeps-potential now a.aggregate a.outer a.old_is v.seen (a.aggregate.seen ++ (v.seen ∷ [])) refl _ new refl a.new_is

@@ -6,12 +6,13 @@ use Rattle.resp_value.specs.declared.value.Value.{Value}
 use Rattle.resp_errors.specs.declared.kinds.FrameFault.TheVariants.{BodyEnd}
 use Rattle.resp_parse.specs.declared.read_error.ReadError.{ReadError}
 use Rattle.resp_parse.specs.declared.read_error.ReadError.TheVariants.{Memory, Fault}
-use Rattle.resp_parse.specs.declared.machine.Body.{Body}
+use Rattle.resp_parse.specs.declared.body.Body.{Body}
+use Rattle.resp_parse.specs.declared.whole.Whole.{Whole}
 use Rattle.resp_parse.specs.declared.machine.Machine.{Machine}
 use Rattle.resp_parse.specs.declared.machine.Step.TheVariants as step
 use Rattle.resp_parse.specs.PlainReading.{ReadOutcome, got, fault, incomplete, then, end_of_body, read_body, made}
 use Rattle.resp_parse.specs.Shapes.{body_value}
-use Rattle.resp_parse.specs.Computes.{Computes}
+use Rattle.resp_parse.specs.Computes.{ComputesSeen}
 use Rattle.resp_parse.specs.Resume.{value_of, place, resume, depth_left, IsScanned, EndsBody, FillsBody, Steps}
 
 pub drop-all : (n : ℕ) (xs : List ℕ) → length xs ≤ n → drop n xs ≡ []
@@ -42,15 +43,15 @@ runs K (suc n) bytes (b ∷ piece) l more =
     ∙ ap (λ s. in_body K s (n - length piece) more) (append_assoc bytes (b ∷ []) piece) ∙ ap (λ k. in_body K (bytes ++ (b ∷ piece)) k more) (sym e)
 
 -- a body that took n bytes
-module _ (old new : Body) (bytes : List ℕ) (n : ℕ) (n_is : n ≡ min (length bytes) old.missing) (new_is : new ≡ record old { missing = old.missing - n; bytes = old.bytes ++ take n bytes }) where
+module _ (old new : Body) (bytes : List ℕ) (n : ℕ) (n_is : n ≡ min (length bytes) old.missing) (new_is : new ≡ record old { missing = old.missing - n; bytes = new.bytes; seen = old.seen ++ take n bytes }) where
   fills : (d : ℕ) (more : List ℕ) → value_of d (Some old) (bytes ++ more) ≡ value_of d (Some new) (drop n bytes ++ more)
   fills d more =
       let K : List ℕ → List ℕ → ReadOutcome Value = λ x rest. made (body_value old.kind x) rest in
       let l : length (take n bytes) ≡ n = grind (arith, common_steps) in
       let s : bytes ++ more ≡ take n bytes ++ (drop n bytes ++ more) = ap (λ s. s ++ more) (sym (Rattle.std.proofs.lemmas.List.take-append-drop n bytes)) ∙ append_assoc (take n bytes) (drop n bytes) more in
-      ap (in_body K old.bytes old.missing) s
-      ∙ runs K old.missing old.bytes (take n bytes) (omega (arith, l, n_is)) (drop n bytes ++ more)
-      ∙ ap (λ k. in_body K (old.bytes ++ take n bytes) (old.missing - k) (drop n bytes ++ more)) l
+      ap (in_body K old.seen old.missing) s
+      ∙ runs K old.missing old.seen (take n bytes) (omega (arith, l, n_is)) (drop n bytes ++ more)
+      ∙ ap (λ k. in_body K (old.seen ++ take n bytes) (old.missing - k) (drop n bytes ++ more)) l
       ∙ ap (λ (b : Body). value_of d (Some b) (drop n bytes ++ more)) (sym new_is)
 
   missing-is : new.missing ≡ old.missing - n
@@ -65,11 +66,11 @@ module _ (old new : Body) (bytes : List ℕ) (n : ℕ) (n_is : n ≡ min (length
 
   -- with no CR LF the body waits
   waits-missing : (k d : ℕ) → new.missing ≡ k → end_of_body (drop n bytes) ≡ incomplete → value_of d (Some new) (drop n bytes) ≡ incomplete
-  waits-missing zero d e h = ap (λ k. in_body (λ x rest. made (body_value new.kind x) rest) new.bytes k (drop n bytes)) e ∙ rw h refl
+  waits-missing zero d e h = ap (λ k. in_body (λ x rest. made (body_value new.kind x) rest) new.seen k (drop n bytes)) e ∙ rw h refl
   waits-missing (suc k) d e h =
       let none : drop n bytes ≡ [] = none_left (omega (arith, e)) in
-      ap (λ k. in_body (λ x rest. made (body_value new.kind x) rest) new.bytes k (drop n bytes)) e
-      ∙ ap (λ s. in_body (λ x rest. made (body_value new.kind x) rest) new.bytes (suc k) s) none
+      ap (λ k. in_body (λ x rest. made (body_value new.kind x) rest) new.seen k (drop n bytes)) e
+      ∙ ap (λ s. in_body (λ x rest. made (body_value new.kind x) rest) new.seen (suc k) s) none
 
   -- the byte after the body is a fault: nothing is missing
   none_missing : (k j : ℕ) → new.missing ≡ k → EndsBody (drop n bytes) (Err j) → k ≡ 0
@@ -80,19 +81,19 @@ module _ (old new : Body) (bytes : List ℕ) (n : ℕ) (n_is : n ≡ min (length
 
   -- the body and its CR LF are there
   whole : (d : ℕ) (more : List ℕ) → 2 ≤ length (drop n bytes) → end_of_body (drop n bytes ++ more) ≡ got [] (drop 2 (drop n bytes) ++ more) →
-      value_of d (Some new) (drop n bytes ++ more) ≡ made (body_value new.kind new.bytes) (drop 2 (drop n bytes) ++ more)
+      value_of d (Some new) (drop n bytes ++ more) ≡ made (body_value new.kind new.seen) (drop 2 (drop n bytes) ++ more)
   whole d more l h =
       let r : length (drop n bytes) ≡ length bytes - n = grind (arith, common_steps) in
       let z : new.missing ≡ 0 = omega (arith, missing-is, n_is, l, r) in
-      ap (λ k. in_body (λ x rest. made (body_value new.kind x) rest) new.bytes k (drop n bytes ++ more)) z
-      ∙ ap (λ o. then o (λ x rest. made (body_value new.kind (new.bytes ++ x)) rest)) h
-      ∙ ap (λ s. made (body_value new.kind s) (drop 2 (drop n bytes) ++ more)) (append-nil new.bytes)
+      ap (λ k. in_body (λ x rest. made (body_value new.kind x) rest) new.seen k (drop n bytes ++ more)) z
+      ∙ ap (λ o. then o (λ x rest. made (body_value new.kind (new.seen ++ x)) rest)) h
+      ∙ ap (λ s. made (body_value new.kind s) (drop 2 (drop n bytes) ++ more)) (append-nil new.seen)
 
   malformed : (d j : ℕ) → EndsBody (drop n bytes) (Err j) → (more : List ℕ) → value_of d (Some new) (drop n bytes ++ more) ≡ fault BodyEnd (drop (n + j) bytes ++ more)
   malformed d j h more =
       let z : new.missing ≡ 0 = none_missing new.missing j refl h in
-      ap (λ k. in_body (λ x rest. made (body_value new.kind x) rest) new.bytes k (drop n bytes ++ more)) z
-      ∙ ap (λ o. then o (λ x rest. made (body_value new.kind (new.bytes ++ x)) rest)) (h.1 more)
+      ap (λ k. in_body (λ x rest. made (body_value new.kind x) rest) new.seen k (drop n bytes ++ more)) z
+      ∙ ap (λ o. then o (λ x rest. made (body_value new.kind (new.seen ++ x)) rest)) (h.1 more)
       ∙ ap (λ s. fault BodyEnd (s ++ more)) (drop-drop n j bytes)
 
 -- a machine in a body that took n bytes
@@ -105,7 +106,7 @@ module _ (m : Machine) (old new : Body) (bytes : List ℕ) (n : ℕ) (body_is : 
   within : n ≤ length bytes
   within = omega (arith, h.0)
 
-  pub body-waits : m.scanned ≡ 0 → EndsBody (drop n bytes) (Ok false) → (m' : Machine) → m' ≡ record m { body = Some new } → Steps m bytes m' (Ok (step.Waits n))
+  pub body-waits : m.scanned ≡ 0 → EndsBody (drop n bytes) (Ok false) → (m' : Machine) → m' ≡ record m { builder = m'.builder; body = Some new } → Steps m bytes m' (Ok (step.Waits n))
   body-waits s e m' i = rw i (record {
     within = within;
     same = resumes;
@@ -121,10 +122,10 @@ module _ (m : Machine) (old new : Body) (bytes : List ℕ) (n : ℕ) (body_is : 
       let l : j ≤ length (drop n bytes) = e.0 in
       rw i (omega (arith, r, l, within), λ more. resumes more ∙ ap (λ o. then o (place m.depth m.open_aggregates)) (malformed old new bytes n h.0 h.1 (depth_left m.depth m.open_aggregates) j e more))
 
-  ended : EndsBody (drop n bytes) (Ok true) → (more : List ℕ) → resume m (bytes ++ more) ≡ then (made (body_value new.kind new.bytes) (drop 2 (drop n bytes) ++ more)) (place m.depth m.open_aggregates)
+  ended : EndsBody (drop n bytes) (Ok true) → (more : List ℕ) → resume m (bytes ++ more) ≡ then (made (body_value new.kind new.seen) (drop 2 (drop n bytes) ++ more)) (place m.depth m.open_aggregates)
   ended e more = resumes more ∙ ap (λ o. then o (place m.depth m.open_aggregates)) (whole old new bytes n h.0 h.1 (depth_left m.depth m.open_aggregates) more e.0 (e.1 more))
 
-  pub body-refused : EndsBody (drop n bytes) (Ok true) → (m' : Machine) (e : ReadError) → m'.shown ≡ n + 2 → Computes (Err e) (body_value new.kind new.bytes) → Steps m bytes m' (Err e)
+  pub body-refused : EndsBody (drop n bytes) (Ok true) → (m' : Machine) (e : ReadError) → m'.shown ≡ n + 2 → ComputesSeen (Err e) (body_value new.kind new.seen) → Steps m bytes m' (Err e)
   body-refused e m' Memory i c = tt
   body-refused e m' (Fault f) i c =
       let r : length (drop n bytes) ≡ length bytes - n = grind (arith, common_steps) in
@@ -132,8 +133,8 @@ module _ (m : Machine) (old new : Body) (bytes : List ℕ) (n : ℕ) (body_is : 
       let d : drop 2 (drop n bytes) ≡ drop (n + 2) bytes = drop-drop n 2 bytes in
       rw i (omega (arith, r, l, within), λ more. ended e more ∙ rw (c, d) refl)
 
-  pub body-whole : m.scanned ≡ 0 → EndsBody (drop n bytes) (Ok true) → (m' : Machine) → m' ≡ record m { body = None } → (v : Value) → Computes (Ok v) (body_value new.kind new.bytes) → Steps m bytes m' (Ok (step.Whole (n + 2) v))
-  body-whole s e m' i v c =
+  pub body-whole : m.scanned ≡ 0 → EndsBody (drop n bytes) (Ok true) → (m' : Machine) → m' ≡ record m { builder = m'.builder; body = None } → (w : Whole) → ComputesSeen (Ok w) (body_value new.kind new.seen) → Steps m bytes m' (Ok (step.Whole (n + 2) w))
+  body-whole s e m' i w c =
       let r : length (drop n bytes) ≡ length bytes - n = grind (arith, common_steps) in
       let l : 2 ≤ length (drop n bytes) = e.0 in
       let d : drop 2 (drop n bytes) ≡ drop (n + 2) bytes = drop-drop n 2 bytes in

@@ -1,17 +1,15 @@
 -- What a parser has counted, from call to call.
-use Rattle.std.proofs.Common.{◌≡◌, ℕ, ◌+◌, ◌-◌, ◌*◌, ◌≤◌, Bool, true, false, List, [], ◌∷◌, length, drop, refl, ap, ◌∙◌, arith, Option, Some, None, Ok, Err}
+use Rattle.std.proofs.Common.{◌≡◌, ℕ, ◌+◌, ◌-◌, ◌*◌, ◌≤◌, Bool, true, false, List, [], ◌∷◌, length, drop, refl, ap, ◌∙◌, arith, Option, Some, None}
 use Rattle.std.proofs.lemmas.Grind.{common_steps}
 use Rattle.std.proofs.lemmas.List.{length-append}
-use Rattle.resp_value.specs.declared.value.Value.{Value}
-use Rattle.resp_parse.specs.declared.read_error.ReadError.{ReadError}
 use Rattle.resp_parse.specs.declared.open_aggregates.OpenAggregate.{OpenAggregate}
-use Rattle.resp_parse.specs.declared.machine.Body.{Body}
+use Rattle.resp_parse.specs.declared.body.Body.{Body}
 use Rattle.resp_parse.specs.declared.machine.Machine.{Machine}
 use Rattle.resp_parse.specs.Counts.{Counts, nothing_done}
 use Rattle.resp_parse.specs.State.{State}
 use Rattle.resp_parse.specs.Bounds.{Bounded, OneCall}
 use Rattle.resp_parse.specs.Resume.{fresh_of, IsScanned}
-use Rattle.resp_parse.specs.Costs.{built_in, aggregates_least_bytes, potential, RunCost}
+use Rattle.resp_parse.specs.Costs.{built_in, aggregates_least_bytes, potential, Spent, SpentAtStop}
 use Rattle.resp_parse.specs.Invariant.{Counted, Holds, CountsTaken, limits_of}
 use Rattle.resp_parse.proofs.Holding.{nothing_open}
 
@@ -39,8 +37,8 @@ begun c t e i s =
 
 -- a call was counted, and the machine went on
 module _ (m new : Machine) (u : List ℕ) (c t e : Counts) (failed : Bool) where
-  pub Counted-taken : (n : ℕ) (o : Option Value) → n ≤ length u → new.scanned ≤ length (drop n u) → Counted m u c failed → failed ≡ false → t ≡ record c { calls = c.calls + 1 } → RunCost m new u t e (Ok (n, o)) → Counted new (drop n u) e failed
-  Counted-taken n o l s k w i p =
+  pub Counted-taken : (n : ℕ) → n ≤ length u → new.scanned ≤ length (drop n u) → Counted m u c failed → failed ≡ false → t ≡ record c { calls = c.calls + 1 } → Spent m new t e n → Counted new (drop n u) e failed
+  Counted-taken n l s k w i p =
       let b = k.works w in
       let g = begun c t e i p.0.same in
       let r : length (drop n u) ≡ length u - n = grind (arith, common_steps) in
@@ -51,8 +49,8 @@ module _ (m new : Machine) (u : List ℕ) (c t e : Counts) (failed : Bool) where
         works = λ _. record { cost = omega (arith, b.cost, p.1, g.iterations, g.examined, g.calls); accounted = omega (arith, b.accounted, p.0.examined, g.examined, g.received, l, r) };
       }
 
-  pub Counted-stopped : (x : ReadError) → Counted m u c failed → failed ≡ false → t ≡ record c { calls = c.calls + 1 } → RunCost m new u t e (Err x) → (v : List ℕ) → Counted new v e true
-  Counted-stopped x k w i p v =
+  pub Counted-stopped : Counted m u c failed → failed ≡ false → t ≡ record c { calls = c.calls + 1 } → SpentAtStop m u t e → (v : List ℕ) → Counted new v e true
+  Counted-stopped k w i p v =
       let b = k.works w in
       let g = begun c t e i p.0.same in
       record {

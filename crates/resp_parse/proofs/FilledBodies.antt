@@ -2,7 +2,8 @@
 use Rattle.std.proofs.Common.{◌≡◌, ℕ, ◌+◌, ◌≤◌, ◌<◌, Bool, true, false, List, [], ◌++◌, length, drop, refl, ap, sym, ◌∙◌, subst, append_assoc, arith, Option, Some, None, Ok}
 use Rattle.std.proofs.lemmas.List.{append-nil}
 use Rattle.std.proofs.lemmas.Grind.{common_steps}
-use Rattle.resp_parse.specs.declared.machine.Body.{Body}
+use Rattle.resp_parse.specs.declared.body.Body.{Body}
+use Rattle.resp_parse.specs.declared.builder.Builder.{Builder}
 use Rattle.resp_parse.specs.declared.machine.Machine.{Machine}
 use Rattle.resp_parse.specs.Counts.{Counts}
 use Rattle.resp_parse.specs.PlainReading.{then, read}
@@ -42,8 +43,8 @@ module _ (m : Machine) (old new : Body) (bytes : List ℕ) (n : ℕ) (body_is : 
   none-left : drop n bytes ≡ []
   none-left = drop-all n bytes (omega (arith, all-taken))
 
-  pub FilledOpenBody-body : (c t d : Counts) → t ≡ record c { iterations = c.iterations + 1 } → d ≡ record t { examined = t.examined + n } → FilledOpenBody m bytes (record m { body = Some new }) c d
-  FilledOpenBody-body c t d e k =
+  pub FilledOpenBody-body : (c t d : Counts) (b : Builder) → t ≡ record c { iterations = c.iterations + 1 } → d ≡ record t { examined = t.examined + n } → FilledOpenBody m bytes (record m { builder = b; body = Some new }) c d
+  FilledOpenBody-body c t d b e k =
       let whole : d ≡ record c { iterations = c.iterations + 1; examined = c.examined + n } = k ∙ ap (λ (x : Counts). record x { examined = x.examined + n }) e in
       record {
         same = λ more. resumes m old new bytes n body_is h more ∙ ap (λ s. then (value_of (depth_left m.depth m.open_aggregates) (Some new) (s ++ more)) (place m.depth m.open_aggregates)) none-left;

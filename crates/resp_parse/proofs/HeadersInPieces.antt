@@ -6,7 +6,8 @@ use Rattle.resp_errors.specs.declared.kinds.FrameFault.TheVariants.{TooDeep, Unk
 use Rattle.resp_parse.specs.declared.read_error.ReadError.{ReadError}
 use Rattle.resp_parse.specs.declared.read_error.ReadError.TheVariants.{Memory, Fault}
 use Rattle.resp_parse.specs.declared.type_byte.TypeByte.{TypeByte}
-use Rattle.resp_parse.specs.declared.machine.Body.{Body}
+use Rattle.resp_parse.specs.declared.body.Body.{Body}
+use Rattle.resp_parse.specs.declared.whole.Whole.{Whole}
 use Rattle.resp_parse.specs.declared.machine.Machine.{Machine}
 use Rattle.resp_parse.specs.declared.machine.Step.TheVariants as step
 use Rattle.resp_parse.specs.TypeBytes.{type_of}
@@ -130,12 +131,12 @@ module _ (m : Machine) (c : ℕ) (after : List ℕ) (body_is : m.body ≡ None) 
           g.1,
         )
 
-        pub header-whole : (m' : Machine) (v : Value) → m'.scanned ≡ 0 → Goes begins m' (Ok (Some v)) → Steps m (c ∷ after) m' (Ok (step.Whole (len + 3) v))
-        header-whole m' v s g = (
+        pub header-whole : (m' : Machine) (w : Whole) → m'.scanned ≡ 0 → Goes begins m' (Ok (Some w)) → Steps m (c ∷ after) m' (Ok (step.Whole (len + 3) w))
+        header-whole m' w s g = (
           record {
             some = omega arith;
             within = within;
-            same = λ more. announced-reads more ∙ g.0 (drop (len + 2) after ++ more) ∙ ap (λ x. place m'.depth m'.open_aggregates v (x ++ more)) (sym dropped);
+            same = λ more. announced-reads more ∙ g.0 (drop (len + 2) after ++ more) ∙ ap (λ x. place m'.depth m'.open_aggregates w.seen (x ++ more)) (sym dropped);
             scanned = s;
           },
           g.1,

@@ -6,7 +6,7 @@ use Rattle.resp_value.specs.declared.value.Value.{Value}
 use Rattle.resp_errors.specs.declared.kinds.FrameFault.{FrameFault}
 use Rattle.resp_parse.specs.declared.read_error.ReadError.TheVariants.{Fault}
 use Rattle.resp_parse.specs.declared.open_aggregates.OpenAggregate.{OpenAggregate}
-use Rattle.resp_parse.specs.declared.machine.Body.{Body}
+use Rattle.resp_parse.specs.declared.body.Body.{Body}
 use Rattle.resp_parse.specs.declared.machine.Machine.{Machine}
 use Rattle.resp_parse.specs.PlainReading.{ReadOutcome, got, fault, incomplete, then, read}
 use Rattle.resp_parse.specs.Prefixes.{HasWellFormedPrefix, HasMalformedPrefix, FaultShownBy, IsIncomplete}

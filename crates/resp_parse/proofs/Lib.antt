@@ -35,3 +35,12 @@ pub mod CountingTaken
 pub mod Taking
 pub mod SameCounts
 pub mod TypeBytes
+pub mod FlatTokens
+pub mod FlatBuilding
+pub mod BuiltSoFar
+pub mod FlatPushes
+pub mod ReadableValues
+pub mod ReadableLayers
+pub mod TrimmedTexts
+pub mod LossyTexts
+pub mod SameMachine

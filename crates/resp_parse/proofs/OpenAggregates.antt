@@ -37,15 +37,15 @@ regroup d P m kind fs vs v (fault f r) = refl
 regroup d P m kind fs vs v incomplete = refl
 
 -- an element that isn't the last
-pub keeps : (d m : ℕ) (f : OpenAggregate) (fs : List OpenAggregate) (v : Value) (rest : List ℕ) → f.after ≡ suc m →
-    place d (f ∷ fs) v rest ≡ then (read (depth_below d fs) rest) (place d (record { kind = f.kind; after = m; elements = f.elements ++ (v ∷ []) } ∷ fs))
-keeps d m f fs v rest e =
-    rw e (among (λ vs r. makes d f.kind fs (f.elements ++ (v ∷ vs)) r) (read (depth_below d fs)) m (read (depth_below d fs) rest)
-    ∙ regroup d (read (depth_below d fs)) m f.kind fs f.elements v (read (depth_below d fs) rest))
+pub keeps : (d m : ℕ) (f g : OpenAggregate) (fs : List OpenAggregate) (v : Value) (rest : List ℕ) → f.after ≡ suc m → g.kind ≡ f.kind → g.after ≡ m → g.seen ≡ f.seen ++ (v ∷ []) →
+    place d (f ∷ fs) v rest ≡ then (read (depth_below d fs) rest) (place d (g ∷ fs))
+keeps d m f g fs v rest e kind after seen =
+    rw (e, kind, after, seen) (among (λ vs r. makes d f.kind fs (f.seen ++ (v ∷ vs)) r) (read (depth_below d fs)) m (read (depth_below d fs) rest)
+    ∙ regroup d (read (depth_below d fs)) m f.kind fs f.seen v (read (depth_below d fs) rest))
 
 -- the last element
 pub closes : (d : ℕ) (f : OpenAggregate) (fs : List OpenAggregate) (v : Value) (rest : List ℕ) → f.after ≡ 0 →
-    place d (f ∷ fs) v rest ≡ then (made (elements_value f.kind (f.elements ++ (v ∷ []))) rest) (place d fs)
+    place d (f ∷ fs) v rest ≡ then (made (elements_value f.kind (f.seen ++ (v ∷ []))) rest) (place d fs)
 closes d f fs v rest e = rw e refl
 
 outer : (d : ℕ) (kind : ElementsKind) (fs : List OpenAggregate) (o : ReadOutcome (List Value)) →
@@ -55,7 +55,7 @@ outer d kind fs (fault f r) = refl
 outer d kind fs incomplete = refl
 
 -- a header of elements
-pub opens : (d m : ℕ) (kind : ElementsKind) (fs : List OpenAggregate) (rest : List ℕ) →
-    then (read_announced (read (depth_below d fs)) (elements (suc m) (elements_value kind)) rest) (place d fs) ≡ then (read (depth_below d fs) rest) (place d (record { kind = kind; after = m; elements = [] } ∷ fs))
-opens d m kind fs rest =
-    outer d kind fs (read_elements (read (depth_below d fs)) (suc m) rest) ∙ among (λ vs r. makes d kind fs vs r) (read (depth_below d fs)) m (read (depth_below d fs) rest)
+pub opens : (d m : ℕ) (kind : ElementsKind) (f : OpenAggregate) (fs : List OpenAggregate) (rest : List ℕ) → f.kind ≡ kind → f.after ≡ m → f.seen ≡ [] →
+    then (read_announced (read (depth_below d fs)) (elements (suc m) (elements_value kind)) rest) (place d fs) ≡ then (read (depth_below d fs) rest) (place d (f ∷ fs))
+opens d m kind f fs rest is after seen =
+    rw (is, after, seen) (outer d kind fs (read_elements (read (depth_below d fs)) (suc m) rest) ∙ among (λ vs r. makes d kind fs vs r) (read (depth_below d fs)) m (read (depth_below d fs) rest))

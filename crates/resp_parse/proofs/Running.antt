@@ -1,14 +1,15 @@
 -- Steps, one after another.
-use Rattle.std.proofs.Common.{◌≡◌, ℕ, ◌+◌, ◌<◌, ◌≤◌, true, false, List, ◌++◌, length, drop, refl, ap, sym, ◌∙◌, subst, arith, Some, None, Ok, Err}
+use Rattle.std.proofs.Common.{◌≡◌, ℕ, ◌+◌, ◌<◌, ◌≤◌, true, false, List, [], ◌∷◌, ◌++◌, length, drop, refl, ap, sym, ◌∙◌, subst, arith, Some, None, Ok, Err}
 use Rattle.std.proofs.lemmas.Grind.{common_steps}
 use Rattle.resp_value.specs.declared.value.Value.{Value}
+use Rattle.resp_parse.specs.declared.whole.Whole.{Whole}
 use Rattle.resp_parse.specs.declared.read_error.ReadError.{ReadError}
 use Rattle.resp_parse.specs.declared.read_error.ReadError.TheVariants.{Memory, Fault}
 use Rattle.resp_parse.specs.declared.machine.Machine.{Machine}
 use Rattle.resp_parse.specs.declared.machine.Step.TheVariants as step
 use Rattle.resp_errors.specs.declared.kinds.FrameFault.{FrameFault}
-use Rattle.resp_parse.specs.PlainReading.{got, fault}
-use Rattle.resp_parse.specs.Resume.{place, resume, fresh_of, IsScanned, Ends, Steps, Runs}
+use Rattle.resp_parse.specs.PlainReading.{got, fault, incomplete}
+use Rattle.resp_parse.specs.Resume.{place, resume, fresh_of, IsScanned, Ends, Steps, Runs, Completes}
 use Rattle.resp_parse.proofs.BodiesInPieces.{drop-all, drop-drop}
 use Rattle.resp_parse.proofs.HeadersInPieces.{resume-nothing, IsScanned-zero}
 
@@ -73,22 +74,27 @@ module _ (old m : Machine) (bytes : List ℕ) (at : ℕ) (h : Ran old m bytes at
   Ran-goes new n s k l = Ran-takes new n s.0.some s.0.within s.0.same s.0.scanned s.1 k l
 
   -- a value is whole, and was put where it belongs
-  module _ (mid new : Machine) (n : ℕ) (v : Value) (s : Steps m (drop at bytes) mid (Ok (step.Whole n v))) where
-    pub Ran-attaches : Ends (place mid.depth mid.open_aggregates v) new (Ok None) → new.scanned ≡ mid.scanned → new.depth ≡ m.depth → length new.open_aggregates ≤ new.depth → Ran old new bytes (at + n)
+  module _ (mid new : Machine) (n : ℕ) (v : Whole) (s : Steps m (drop at bytes) mid (Ok (step.Whole n v))) where
+    pub Ran-attaches : Ends (place mid.depth mid.open_aggregates v.seen) new (Ok None) → new.scanned ≡ mid.scanned → new.depth ≡ m.depth → length new.open_aggregates ≤ new.depth → Ran old new bytes (at + n)
     Ran-attaches e z k l =
         Ran-takes new n s.0.some s.0.within (λ more. s.0.same more ∙ e.0 (drop n (drop at bytes) ++ more)) (z ∙ s.0.scanned) e.1 k l
 
-    pub Ran-reads : (w : Value) → Ends (place mid.depth mid.open_aggregates v) new (Ok (Some w)) → new.scanned ≡ mid.scanned → Runs old bytes new (Ok (at + n, Some w))
+    pub Ran-reads : (w : Whole) → Ends (place mid.depth mid.open_aggregates v.seen) new (Ok (Some w)) → new.scanned ≡ mid.scanned → Runs old bytes new (Ok (at + n, Some w))
     Ran-reads w e z = record {
       within = within n s.0.within;
-      same = λ more. h.same more ∙ s.0.same more ∙ e.0 (drop n (drop at bytes) ++ more) ∙ ap (λ x. got w (x ++ more)) (dropped n);
+      same = λ more. h.same more ∙ s.0.same more ∙ e.0 (drop n (drop at bytes) ++ more) ∙ ap (λ x. got w.seen (x ++ more)) (dropped n);
       fresh = e.1;
       scanned = z ∙ s.0.scanned;
     }
 
-    pub Ran-refused : (end : Machine) (e : ReadError) → end.shown ≡ at + n → at < length bytes → Ends (place mid.depth mid.open_aggregates v) new (Err e) → Runs old bytes end (Err e)
+    pub Ran-refused : (end : Machine) (e : ReadError) → end.shown ≡ at + n → at < length bytes → Ends (place mid.depth mid.open_aggregates v.seen) new (Err e) → Runs old bytes end (Err e)
     Ran-refused end Memory i l k = (tt, omega arith)
     Ran-refused end (Fault f) i l k = (
       rw i (within n s.0.within, λ more. h.same more ∙ s.0.same more ∙ k (drop n (drop at bytes) ++ more) ∙ ap (λ x. fault f (x ++ more)) (dropped n)),
       omega arith,
     )
+
+-- a value isn't read of no bytes
+pub Completes-some : (old : Machine) (bytes : List ℕ) (new : Machine) (n : ℕ) (v : Value) → Completes old bytes new n v → 0 < length bytes
+Completes-some old [] new n v d = absurd (let e : incomplete ≡ got v (drop n [] ++ []) = sym (resume-nothing old) ∙ d.same [] in cc)
+Completes-some old (b ∷ bytes) new n v d = omega arith

@@ -13,14 +13,15 @@ use Rattle.resp_parse.specs.declared.machine.Machine.{Machine}
 use Rattle.resp_parse.specs.Limited.{HasFault, HasValue, Awaits, PassesSize, within, too_long}
 use Rattle.resp_parse.specs.State.{State}
 use Rattle.resp_parse.specs.Calls.{Takes, CannotTake}
-use Rattle.resp_parse.specs.Resume.{Runs, IsScanned, Waits}
+use Rattle.resp_parse.specs.Resume.{Runs, Completes, ReadsReadable, IsScanned, Waits}
 use Rattle.resp_parse.specs.Counts.{Counts}
-use Rattle.resp_parse.specs.Costs.{least_bytes, RunCost}
+use Rattle.resp_parse.specs.Costs.{least_bytes, Spent, SpentAtStop}
 use Rattle.resp_parse.specs.Invariant.{Resumes, Holds, Counted, CountsTaken, Placed, PassesLimit, limits_of}
 use Rattle.resp_parse.proofs.Counting.{Counted-taken, Counted-stopped, scanned-within}
 use Rattle.resp_parse.proofs.BodiesInPieces.{drop-drop}
 use Rattle.resp_parse.proofs.Holding.{Resumes-fresh, Resumes-waits, Holds-working, Holds-failed, well_formed-from_reads, malformed-from_runs, shown-from_runs, incomplete-from_waits}
 use Rattle.resp_parse.proofs.LimitedReadings.{first-value}
+use Rattle.resp_parse.proofs.ReadableValues.{Resumes-readable}
 use Rattle.resp_parse.proofs.CountingTaken.{CountsTaken-waits, CountsTaken-fresh, Resumes-front, same-later, front-size}
 use Rattle.resp_parse.proofs.FaultOffsets.{Placed-passes}
 use Rattle.resp_parse.proofs.ParserStates.{IsBetweenValues-from_same, StandsAfter-from_since, FailedAfter-from_since}
@@ -58,6 +59,9 @@ module _ (most count : ℕ) (buffer since : List ℕ) (consumed : ℕ) (failed :
   pub scanned-front : IsScanned m.body m.scanned front
   scanned-front = resumes-front.scanned
 
+  pub readable-front : m.depth ≤ 1000 → ReadsReadable m front
+  readable-front l = Resumes-readable m front (take most since) resumes-front l
+
   -- the value may have all bytes, and more are needed
   module _ (n : ℕ) (none : later ≡ []) (d : Runs m front new (Ok (n, None))) where
     all : front ≡ u
@@ -81,8 +85,8 @@ module _ (most count : ℕ) (buffer since : List ℕ) (consumed : ℕ) (failed :
     pub waits-holds : least_bytes new ≤ least_bytes m + n → Holds new (drop (consumed + n) buffer) since failed
     waits-holds k = subst (λ x. Holds new x since failed) (dropped n) (Holds-working new (drop n u) since failed (Resumes-waits m new u since resumes n waits same k))
 
-    pub waits-counted : (c t e : Counts) → Counted m (drop consumed buffer) c failed → t ≡ record c { calls = c.calls + 1 } → RunCost m new front t e (Ok (n, None)) → Counted new (drop (consumed + n) buffer) e failed
-    waits-counted c t e k i p = subst (λ x. Counted new x e failed) (dropped n) (Counted-taken m new u c t e failed n None waits.within (scanned-within new.body new.scanned (drop n u) waits.scanned) (subst (λ x. Counted m x c failed) (sym u_is) k) w i p)
+    pub waits-counted : (c t e : Counts) → Counted m (drop consumed buffer) c failed → t ≡ record c { calls = c.calls + 1 } → Spent m new t e n → Counted new (drop (consumed + n) buffer) e failed
+    waits-counted c t e k i p = subst (λ x. Counted new x e failed) (dropped n) (Counted-taken m new u c t e failed n waits.within (scanned-within new.body new.scanned (drop n u) waits.scanned) (subst (λ x. Counted m x c failed) (sym u_is) k) w i p)
 
     pub waits-spelled : least_bytes new ≤ least_bytes m + n → CountsTaken most new (drop (consumed + n) buffer) since (count + n)
     waits-spelled k = subst (λ x. CountsTaken most new x since (count + n)) (dropped n) (CountsTaken-waits most m new u since count n resumes (sym since-size) few waits same k)
@@ -93,7 +97,7 @@ module _ (most count : ℕ) (buffer since : List ℕ) (consumed : ℕ) (failed :
         (rw (l ∙ ap (λ x. record { depth = x; bytes = most }) same) (subst (Awaits (limits_of m most)) (sym e) here), StandsAfter-from_since s b (f ∙ w) (e ∙ sym k))
 
   -- a value was read
-  module _ (n : ℕ) (v : Value) (d : Runs m front new (Ok (n, Some v))) (now : List ℕ) (now_is : now ≡ drop (consumed + n) buffer) where
+  module _ (n : ℕ) (v : Value) (d : Completes m front new n v) (now : List ℕ) (now_is : now ≡ drop (consumed + n) buffer) where
     examined : n ≤ length u
     examined = let l : n ≤ length front = d.within in omega (arith, l, u-size)
 
@@ -106,8 +110,8 @@ module _ (most count : ℕ) (buffer since : List ℕ) (consumed : ℕ) (failed :
     pub value-holds : Holds new (drop (consumed + n) buffer) now failed
     value-holds = subst (λ x. Holds new (drop (consumed + n) buffer) x failed) (sym now_is) (Holds-working new (drop (consumed + n) buffer) (drop (consumed + n) buffer) failed (Resumes-fresh new (drop (consumed + n) buffer) d.fresh d.scanned))
 
-    pub value-counted : (c t e : Counts) → Counted m (drop consumed buffer) c failed → t ≡ record c { calls = c.calls + 1 } → RunCost m new front t e (Ok (n, Some v)) → Counted new (drop (consumed + n) buffer) e failed
-    value-counted c t e k i p = subst (λ x. Counted new x e failed) (dropped n) (Counted-taken m new u c t e failed n (Some v) examined (omega (arith, d.scanned)) (subst (λ x. Counted m x c failed) (sym u_is) k) w i p)
+    pub value-counted : (c t e : Counts) → Counted m (drop consumed buffer) c failed → t ≡ record c { calls = c.calls + 1 } → Spent m new t e n → Counted new (drop (consumed + n) buffer) e failed
+    value-counted c t e k i p = subst (λ x. Counted new x e failed) (dropped n) (Counted-taken m new u c t e failed n examined (omega (arith, d.scanned)) (subst (λ x. Counted m x c failed) (sym u_is) k) w i p)
 
     pub value-spelled : CountsTaken most new (drop (consumed + n) buffer) now 0
     value-spelled = CountsTaken-fresh most new (drop (consumed + n) buffer) now d.fresh d.scanned (sym now_is)
@@ -125,10 +129,10 @@ module _ (most count : ℕ) (buffer since : List ℕ) (consumed : ℕ) (failed :
     pub stops-holds : Holds new (drop consumed buffer) since true
     stops-holds = let l : 0 < length front = d.1 in Holds-failed m new (drop consumed buffer) since failed h (subst (λ (x : List ℕ). 0 < length x) u_is (omega (arith, l, u-size)))
 
-    pub stops-counted : (c t e' : Counts) → Counted m (drop consumed buffer) c failed → t ≡ record c { calls = c.calls + 1 } → RunCost m new front t e' (Err e) → Counted new (drop consumed buffer) e' true
+    pub stops-counted : (c t e' : Counts) → Counted m (drop consumed buffer) c failed → t ≡ record c { calls = c.calls + 1 } → SpentAtStop m front t e' → Counted new (drop consumed buffer) e' true
     stops-counted c t e' k i p =
         let most-looked : e'.examined + m.scanned ≤ t.examined + length u = (let z = p.0.most in omega (arith, z, u-size)) in
-        Counted-stopped m new u c t e' failed e (subst (λ y. Counted m y c failed) (sym u_is) k) w i (record { same = p.0.same; once = p.0.once; most = most-looked }, p.1) (drop consumed buffer)
+        Counted-stopped m new u c t e' failed (subst (λ y. Counted m y c failed) (sym u_is) k) w i (record { same = p.0.same; once = p.0.once; most = most-looked }, p.1) (drop consumed buffer)
 
   pub stops-fault : (s : State) → s.limits ≡ limits_of new most → s.failed ≡ true → s.since ≡ since → (f : FrameFault) → Runs m front new (Err (record_fault.Fault f)) → (b : List ℕ) → b ≡ since → Takes b s (Err (form.Parse (parsing.Fault f)))
   stops-fault s l k y f d b e =
@@ -162,13 +166,13 @@ module _ (most count : ℕ) (buffer since : List ℕ) (consumed : ℕ) (failed :
     pub long-holds : Holds new (drop consumed buffer) since true
     long-holds = Holds-failed m new (drop consumed buffer) since failed h (subst (λ (x : List ℕ). 0 < length x) u_is (omega (arith, later-size, u-size)))
 
-    pub long-counted : (c t e : Counts) → Counted m (drop consumed buffer) c failed → t ≡ record c { calls = c.calls + 1 } → RunCost m new front t e (Ok (n, None)) → Counted new (drop consumed buffer) e true
+    pub long-counted : (c t e : Counts) → Counted m (drop consumed buffer) c failed → t ≡ record c { calls = c.calls + 1 } → Spent m new t e n → Counted new (drop consumed buffer) e true
     long-counted c t e k i p =
         let l : n ≤ length front = d.within in
         let s : new.scanned ≤ length (drop n front) = scanned-within new.body new.scanned (drop n front) d.scanned in
         let a : length (drop n front) ≡ length front - n = length-drop n front in
         let b : length (drop n u) ≡ length u - n = length-drop n u in
-        let now = Counted-taken m new u c t e failed n None (omega (arith, l, u-size)) (omega (arith, l, s, a, b, u-size)) (subst (λ x. Counted m x c failed) (sym u_is) k) w i p in
+        let now = Counted-taken m new u c t e failed n (omega (arith, l, u-size)) (omega (arith, l, s, a, b, u-size)) (subst (λ x. Counted m x c failed) (sym u_is) k) w i p in
         record { iterations = now.iterations; looks = now.looks; examined = now.examined; works = λ z. absurd (let y : true ≡ false = z in cc) }
 
     pub long-placed : (e : RedisError) (offset : Option ℕ) → PassesLimit most e offset → Placed (limits_of new most) offset since true

@@ -1,7 +1,9 @@
 -- What the calls of a parser answer that stood after b: how it stands then, and, where a source was
 -- asked, how that went from s to t, and that what was filled is all that was received.
-use Rattle.std.specs.Prelude.{◌≡◌, ◌≢◌, ◌<◌, ◌≤◌, ◌+◌, ℕ, true, List, [], ◌++◌, length, Option, None, Some, Result, Ok, Err}
+use Rattle.std.specs.Prelude.{◌≡◌, ◌≢◌, ◌<◌, ◌≤◌, ◌+◌, ℕ, Bool, true, false, List, [], ◌++◌, length, Option, None, Some, Result, Ok, Err}
 use Rattle.resp_value.specs.declared.value.Value.{Value}
+use Rattle.resp_flat.specs.declared.flat_reply.FlatReply.{FlatReply}
+use Rattle.resp_flat.specs.FlatReplies.{IsFlatOf}
 use Rattle.resp_errors.specs.declared.kinds.FrameFault.{FrameFault}
 use Rattle.resp_errors.specs.declared.kinds.IoKind.{IoKind}
 use Rattle.resp_errors.specs.declared.kinds.IoKind.TheVariants.{UnexpectedEof}
@@ -32,6 +34,16 @@ abbrev pub Takes : List ℕ → State → Result (Option Value) RedisError → T
 Takes b new (Ok (Some v)) = HasValue new.limits b v new.unparsed × IsBetweenValues new
 Takes b new (Ok None) = Awaits new.limits b × StandsAfter new b
 Takes b new (Err e) = CannotTake new.limits b e × FailedAfter new b
+
+-- the same in a place for what shows a value, which is as it was where no value is taken
+abbrev pub TakesInto : {T : Type 0} → (T → Value → Type 0) → List ℕ → State → T → T → Result Bool RedisError → Type 0
+TakesInto shows b new before after (Ok true) = (v : Value) × (shows after v × Takes b new (Ok (Some v)))
+TakesInto shows b new before after (Ok false) = Takes b new (Ok None) × (after ≡ before)
+TakesInto shows b new before after (Err e) = Takes b new (Err e) × (after ≡ before)
+
+-- the same in a flat reply
+abbrev pub TakesFlat : List ℕ → State → FlatReply → FlatReply → Result Bool RedisError → Type 0
+TakesFlat = TakesInto IsFlatOf
 
 -- Asking a source once.
 

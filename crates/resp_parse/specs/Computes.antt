@@ -1,7 +1,9 @@
 -- What a function of the parser answers: what a definition computes, or out of memory, which says
 -- nothing of the bytes.
 use Rattle.std.specs.Prelude.{◌≡◌, Result, Ok, Err}
+use Rattle.resp_value.specs.declared.value.Value.{Value}
 use Rattle.resp_errors.specs.declared.kinds.FrameFault.{FrameFault}
+use Rattle.resp_parse.specs.declared.whole.Whole.{Whole}
 use Rattle.resp_parse.specs.declared.read_error.ReadError.{ReadError}
 use Rattle.resp_parse.specs.declared.read_error.ReadError.TheVariants.{Memory, Fault}
 
@@ -10,3 +12,14 @@ abbrev pub Computes : {X : Type 0} → Result X ReadError → Result X FrameFaul
 Computes (Ok x) r = r ≡ Ok x
 Computes (Err Memory) r = Unit {0}
 Computes (Err (Fault f)) r = r ≡ Err f
+
+-- the same of a value that is whole
+abbrev pub ComputesSeen : Result Whole ReadError → Result Value FrameFault → Type 0
+ComputesSeen (Ok w) r = r ≡ Ok w.seen
+ComputesSeen (Err Memory) r = Unit {0}
+ComputesSeen (Err (Fault f)) r = r ≡ Err f
+
+-- the same where memory isn't asked for
+abbrev pub MakesSeen : Result Whole FrameFault → Result Value FrameFault → Type 0
+MakesSeen (Ok w) r = r ≡ Ok w.seen
+MakesSeen (Err f) r = r ≡ Err f

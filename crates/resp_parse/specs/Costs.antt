@@ -5,8 +5,9 @@ use Rattle.std.specs.List.{sum_by}
 use Rattle.resp_value.specs.declared.value.Value.{Value}
 use Rattle.resp_parse.specs.declared.read_error.ReadError.{ReadError}
 use Rattle.resp_parse.specs.declared.open_aggregates.OpenAggregate.{OpenAggregate}
-use Rattle.resp_parse.specs.declared.machine.Body.{Body}
+use Rattle.resp_parse.specs.declared.body.Body.{Body}
 use Rattle.resp_parse.specs.declared.machine.Machine.{Machine}
+use Rattle.resp_parse.specs.declared.whole.Whole.{Whole}
 use Rattle.resp_parse.specs.declared.machine.Step.{Step}
 use Rattle.resp_parse.specs.declared.machine.Step.TheVariants as step
 use Rattle.resp_parse.specs.Built.{built}
@@ -19,12 +20,12 @@ built_of values = sum_by built values
 -- the values in the open aggregates
 abbrev pub built_in : List OpenAggregate → ℕ
 built_in [] = 0
-built_in (f ∷ fs) = built_of f.elements + built_in fs
+built_in (f ∷ fs) = built_of f.seen + built_in fs
 
 -- the bytes that the open aggregates have taken, at least: three for a header and for each value
 abbrev pub aggregates_least_bytes : List OpenAggregate → ℕ
 aggregates_least_bytes [] = 0
-aggregates_least_bytes (f ∷ fs) = 3 + 3 * built_of f.elements + aggregates_least_bytes fs
+aggregates_least_bytes (f ∷ fs) = 3 + 3 * built_of f.seen + aggregates_least_bytes fs
 
 abbrev pub body_least_bytes : Option Body → ℕ
 body_least_bytes None = 0
@@ -34,26 +35,31 @@ abbrev pub least_bytes : Machine → ℕ
 least_bytes m = body_least_bytes m.body + aggregates_least_bytes m.open_aggregates
 
 -- the machine and a whole value are built within n bytes
-abbrev pub BuiltWithin : Machine → ℕ → Result (Option Value) ReadError → Type 0
+abbrev pub BuiltWithin : Machine → ℕ → Result (Option Whole) ReadError → Type 0
 BuiltWithin new n (Ok None) = least_bytes new ≤ n
-BuiltWithin new n (Ok (Some v)) = least_bytes new + 3 * built v ≤ n
+BuiltWithin new n (Ok (Some w)) = least_bytes new + 3 * built w.seen ≤ n
 BuiltWithin new n (Err e) = Unit {0}
 
 abbrev pub StepBuiltWithin : Machine → Machine → Result Step ReadError → Type 0
 StepBuiltWithin old new (Ok (step.Waits n)) = least_bytes new ≤ least_bytes old + n
 StepBuiltWithin old new (Ok (step.Goes n)) = least_bytes new ≤ least_bytes old + n
-StepBuiltWithin old new (Ok (step.Whole n v)) = least_bytes new + 3 * built v ≤ least_bytes old + n
+StepBuiltWithin old new (Ok (step.Whole n w)) = least_bytes new + 3 * built w.seen ≤ least_bytes old + n
 StepBuiltWithin old new (Err e) = Unit {0}
 
-abbrev pub RunBuiltWithin : Machine → Machine → Result (ℕ × Option Value) ReadError → Type 0
+abbrev pub RunBuiltWithin : Machine → Machine → Result (ℕ × Option Whole) ReadError → Type 0
 RunBuiltWithin old new (Ok (n, o)) = BuiltWithin new (least_bytes old + n) (Ok o)
 RunBuiltWithin old new (Err e) = Unit {0}
+
+-- the same where a whole value is handed out
+abbrev pub ReadBuiltWithin : {A : Type 0} → Machine → Machine → Result (ℕ × A) ReadError → Type 0
+ReadBuiltWithin old new (Ok (n, o)) = least_bytes new ≤ least_bytes old + n
+ReadBuiltWithin old new (Err e) = Unit {0}
 
 -- iterations that are paid for and not yet made: two for a value that will be whole, of which one
 -- is for its place and one for the pairs of its aggregate
 abbrev pub aggregates_potential : List OpenAggregate → ℕ
 aggregates_potential [] = 0
-aggregates_potential (f ∷ fs) = 2 + length f.elements + aggregates_potential fs
+aggregates_potential (f ∷ fs) = 2 + length f.seen + aggregates_potential fs
 
 abbrev pub body_potential : Option Body → ℕ
 body_potential None = 0
@@ -87,7 +93,7 @@ LooksAt scanned bytes c d None =
     LooksAlone c d × (d.iterations + (scanned - 1) ≤ c.iterations + (length bytes - 1))
 
 -- a value is begun: one that is whole makes no iteration, another prepays two
-abbrev pub Begins : Machine → Machine → Counts → Counts → Result (Option Value) ReadError → Type 0
+abbrev pub Begins : Machine → Machine → Counts → Counts → Result (Option Whole) ReadError → Type 0
 Begins old new c d (Ok (Some v)) = d.iterations + prepaid new ≤ c.iterations + prepaid old
 Begins old new c d (Ok None) = d.iterations + prepaid new ≤ c.iterations + prepaid old + 2
 Begins old new c d (Err e) = d.iterations ≤ c.iterations + prepaid old
@@ -126,9 +132,17 @@ abbrev pub StepCost : Machine → Machine → List ℕ → Counts → Counts →
 StepCost old new bytes c d r =
     HeaderCost old new bytes (record c { iterations = c.iterations + 1 }) d r
 
-abbrev pub RunCost : Machine → Machine → List ℕ → Counts → Counts →
-    Result (ℕ × Option Value) ReadError → Type 0
-RunCost old new bytes c d (Ok (n, o)) = Looks old new c d n
+-- n bytes were taken, which pay for what was done and one iteration more
+abbrev pub Spent : Machine → Machine → Counts → Counts → ℕ → Type 0
+Spent old new c d n = Looks old new c d n
     × (3 * d.iterations + potential new + 4 * c.examined ≤ 3 * c.iterations + potential old + 4 * d.examined + 3)
-RunCost old new bytes c d (Err e) = Stopped old c d (length bytes)
+
+-- or the machine stopped in these
+abbrev pub SpentAtStop : Machine → List ℕ → Counts → Counts → Type 0
+SpentAtStop old bytes c d = Stopped old c d (length bytes)
     × (3 * d.iterations + 4 * c.examined ≤ 3 * c.iterations + potential old + 4 * d.examined + 3)
+
+abbrev pub RunCost : {A : Type 0} → Machine → Machine → List ℕ → Counts → Counts →
+    Result (ℕ × A) ReadError → Type 0
+RunCost old new bytes c d (Ok (n, o)) = Spent old new c d n
+RunCost old new bytes c d (Err e) = SpentAtStop old bytes c d

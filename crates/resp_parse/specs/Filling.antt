@@ -1,6 +1,6 @@
 -- Bytes of a body that go straight to it.
 use Rattle.std.specs.Prelude.{◌≡◌, ◌+◌, ◌≤◌, ℕ, true, List, [], ◌++◌, length, Option, None, Some, Result, Ok, Err}
-use Rattle.resp_parse.specs.declared.machine.Body.{Body}
+use Rattle.resp_parse.specs.declared.body.Body.{Body}
 use Rattle.resp_parse.specs.declared.machine.Machine.{Machine}
 use Rattle.resp_parse.specs.Counts.{Counts}
 use Rattle.resp_parse.specs.Resume.{resume, fresh_of, IsScanned}
@@ -26,8 +26,8 @@ pub record FilledOpenBody (old : Machine) (bytes : List ℕ) (new : Machine) (c 
   pub counts : d ≡ record c { iterations = d.iterations; examined = c.examined + length bytes }
   pub iterations : d.iterations ≤ c.iterations + 1
 
--- or memory ran out, and nothing changed
+-- or memory ran out, and nothing else changed
 abbrev pub FillsOpenBody : {E : Type 0} → Machine → List ℕ → Machine → Counts → Counts →
     Result (Unit {0}) E → Type 0
 FillsOpenBody old bytes new c d (Ok u) = FilledOpenBody old bytes new c d
-FillsOpenBody old bytes new c d (Err e) = (new ≡ old) × (d ≡ c)
+FillsOpenBody old bytes new c d (Err e) = (new ≡ record old { builder = new.builder }) × (d ≡ c)

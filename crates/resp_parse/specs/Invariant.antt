@@ -6,6 +6,7 @@ use Rattle.resp_errors.specs.declared.kinds.FrameFault.TheVariants.{TooLong}
 use Rattle.resp_errors.specs.declared.parsing_error.ParsingError.TheVariants as parsing
 use Rattle.resp_errors.specs.declared.redis_error.RedisError.{RedisError}
 use Rattle.resp_errors.specs.declared.redis_error.RedisError.TheVariants as form
+use Rattle.resp_parse.specs.Building.{BuildsIn}
 use Rattle.resp_parse.specs.Counts.{Counts}
 use Rattle.resp_parse.specs.Costs.{least_bytes, potential}
 use Rattle.resp_parse.specs.PlainReading.{read}
@@ -80,4 +81,5 @@ pub record Invariant (p : Inside) : Type 0 where
   pub counted : Counted p.machine (drop p.consumed p.buffer.items) p.counts p.failed
   pub taken : p.failed ≡ false →
       CountsTaken p.size_limit p.machine (drop p.consumed p.buffer.items) p.since p.taken
+  pub builds : p.failed ≡ false → BuildsIn p.machine.builder p.machine.open_aggregates p.machine.body
   pub placed : Placed (limits_of p.machine p.size_limit) p.fault_offset p.since p.failed

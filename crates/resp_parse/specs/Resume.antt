@@ -6,10 +6,13 @@ use Rattle.resp_errors.specs.declared.kinds.FrameFault.TheVariants.{BodyEnd}
 use Rattle.resp_parse.specs.declared.read_error.ReadError.{ReadError}
 use Rattle.resp_parse.specs.declared.read_error.ReadError.TheVariants.{Memory, Fault}
 use Rattle.resp_parse.specs.declared.open_aggregates.OpenAggregate.{OpenAggregate}
-use Rattle.resp_parse.specs.declared.machine.Body.{Body}
+use Rattle.resp_parse.specs.declared.body.Body.{Body}
 use Rattle.resp_parse.specs.declared.machine.Machine.{Machine}
+use Rattle.resp_parse.specs.declared.whole.Whole.{Whole}
 use Rattle.resp_parse.specs.declared.machine.Step.{Step}
 use Rattle.resp_parse.specs.declared.machine.Step.TheVariants as step
+use Rattle.resp_flat.specs.Readable.{IsReadable}
+use Rattle.resp_parse.specs.Building.{BuildsIn, BuildsWhole}
 use Rattle.resp_parse.specs.Lines.{NoneBefore, Scanned}
 use Rattle.resp_parse.specs.Shapes.{body_value, elements_value}
 use Rattle.resp_parse.specs.PlainReading.{ReadOutcome, got, fault, incomplete, then, line, end_of_body, read_body, read_elements, made, read}
@@ -28,13 +31,13 @@ abbrev pub place : ℕ → List OpenAggregate → Value → List ℕ → ReadOut
 place d [] v rest = got v rest
 place d (f ∷ fs) v rest =
     then (read_elements (read (depth_below d fs)) f.after rest)
-    (λ vs after. then (made (elements_value f.kind (f.elements ++ (v ∷ vs))) after) (place d fs))
+    (λ vs after. then (made (elements_value f.kind (f.seen ++ (v ∷ vs))) after) (place d fs))
 
 -- the value in progress, where d levels are left
 abbrev pub value_of : ℕ → Option Body → List ℕ → ReadOutcome Value
 value_of d None more = read d more
 value_of d (Some b) more =
-    then (read_body b.missing more) (λ x rest. made (body_value b.kind (b.bytes ++ x)) rest)
+    then (read_body b.missing more) (λ x rest. made (body_value b.kind (b.seen ++ x)) rest)
 
 abbrev pub resume : Machine → List ℕ → ReadOutcome Value
 resume m more =
@@ -68,19 +71,19 @@ FaultsWithin before bytes n (Fault f) = (n ≤ length bytes)
 
 -- from `before`, by the bytes that come, the machine has come to `new`, and a body or an aggregate
 -- is open; with Some, the value in progress is whole
-abbrev pub Goes : (List ℕ → ReadOutcome Value) → Machine → Result (Option Value) ReadError → Type 0
+abbrev pub Goes : (List ℕ → ReadOutcome Value) → Machine → Result (Option Whole) ReadError → Type 0
 Goes before new (Ok None) =
     ((more : List ℕ) → before more ≡ resume new more) × (fresh_of new.body new.open_aggregates ≡ false)
-Goes before new (Ok (Some v)) =
-    ((more : List ℕ) → before more ≡ place new.depth new.open_aggregates v more) × (new.body ≡ None)
+Goes before new (Ok (Some w)) =
+    ((more : List ℕ) → before more ≡ place new.depth new.open_aggregates w.seen more) × (new.body ≡ None)
 Goes before new (Err e) = FaultsAtOnce before e
 
 -- the same, with Some where the outermost value is whole
-abbrev pub Ends : (List ℕ → ReadOutcome Value) → Machine → Result (Option Value) ReadError → Type 0
+abbrev pub Ends : (List ℕ → ReadOutcome Value) → Machine → Result (Option Whole) ReadError → Type 0
 Ends before new (Ok None) =
     ((more : List ℕ) → before more ≡ resume new more) × (fresh_of new.body new.open_aggregates ≡ false)
-Ends before new (Ok (Some v)) =
-    ((more : List ℕ) → before more ≡ got v more) × (fresh_of new.body new.open_aggregates ≡ true)
+Ends before new (Ok (Some w)) =
+    ((more : List ℕ) → before more ≡ got w.seen more) × (fresh_of new.body new.open_aggregates ≡ true)
 Ends before new (Err e) = FaultsAtOnce before e
 
 -- the length of the first line's text, or none
@@ -100,7 +103,7 @@ EndsBody bs (Err n) = (n ≤ length bs)
 -- a body took n bytes: all, or as many as it lacked
 abbrev pub FillsBody : {E : Type 0} → Body → List ℕ → Body → Result ℕ E → Type 0
 FillsBody old bytes new (Ok n) = (n ≡ min (length bytes) old.missing)
-    × (new ≡ record old { missing = old.missing - n; bytes = old.bytes ++ take n bytes })
+    × (new ≡ record old { missing = old.missing - n; bytes = new.bytes; seen = old.seen ++ take n bytes })
 FillsBody old bytes new (Err e) = new ≡ old
 
 -- n bytes were taken, and no more can be before more bytes come
@@ -125,8 +128,8 @@ abbrev pub Steps : Machine → List ℕ → Machine → Result Step ReadError �
 Steps old bytes new (Ok (step.Waits n)) = Waits old bytes new n
 Steps old bytes new (Ok (step.Goes n)) =
     Consumes old bytes new (resume new) n × (fresh_of new.body new.open_aggregates ≡ false)
-Steps old bytes new (Ok (step.Whole n v)) =
-    Consumes old bytes new (place new.depth new.open_aggregates v) n × (new.body ≡ None)
+Steps old bytes new (Ok (step.Whole n w)) =
+    Consumes old bytes new (place new.depth new.open_aggregates w.seen) n × (new.body ≡ None)
 Steps old bytes new (Err e) = FaultsWithin (resume old) bytes new.shown e
 
 -- a value was read, and n bytes taken
@@ -137,8 +140,36 @@ pub record Completes (old : Machine) (bytes : List ℕ) (new : Machine) (n : ℕ
   pub scanned : new.scanned ≡ 0
 
 -- what all steps do until a value is whole or more bytes are needed
-abbrev pub Runs : Machine → List ℕ → Machine → Result (ℕ × Option Value) ReadError → Type 0
-Runs old bytes new (Ok (n, Some v)) = Completes old bytes new n v
+abbrev pub Runs : Machine → List ℕ → Machine → Result (ℕ × Option Whole) ReadError → Type 0
+Runs old bytes new (Ok (n, Some w)) = Completes old bytes new n w.seen
 Runs old bytes new (Ok (n, None)) = Waits old bytes new n
 Runs old bytes new (Err e) =
     FaultsWithin (resume old) bytes new.shown e × (0 < length bytes)
+
+-- what is read from there, from these bytes on, can be read back from its tokens and its text
+abbrev pub ReadsReadable : Machine → List ℕ → Type 0
+ReadsReadable m bytes =
+    (more : List ℕ) (v : Value) (rest : List ℕ) → resume m (bytes ++ more) ≡ got v rest → IsReadable 1000 v
+
+-- the same in a place for what shows a value, which is as it was where no value is read
+abbrev pub ReadsInto : {T : Type 0} → (T → Value → Type 0) → Machine → List ℕ → Machine → T → T → Result (ℕ × Bool) ReadError → Type 0
+ReadsInto shows old bytes new before after (Ok (n, true)) = (v : Value) × (shows after v × Completes old bytes new n v)
+ReadsInto shows old bytes new before after (Ok (n, false)) = Waits old bytes new n × (after ≡ before)
+ReadsInto shows old bytes new before after (Err e) =
+    (FaultsWithin (resume old) bytes new.shown e × (0 < length bytes)) × (after ≡ before)
+
+-- what is built then, where memory doesn't run out and no fault is met
+abbrev pub BuildsThen : Machine → Result (Option Whole) ReadError → Type 0
+BuildsThen m (Ok None) = BuildsIn m.builder m.open_aggregates m.body
+BuildsThen m (Ok (Some w)) = BuildsWhole m.builder m.open_aggregates w
+BuildsThen m (Err e) = Unit {0}
+
+abbrev pub StepBuilds : Machine → Result Step ReadError → Type 0
+StepBuilds m (Ok (step.Waits n)) = BuildsIn m.builder m.open_aggregates m.body
+StepBuilds m (Ok (step.Goes n)) = BuildsIn m.builder m.open_aggregates m.body
+StepBuilds m (Ok (step.Whole n w)) = BuildsWhole m.builder m.open_aggregates w
+StepBuilds m (Err e) = Unit {0}
+
+abbrev pub RunBuilds : Machine → Result (ℕ × Option Whole) ReadError → Type 0
+RunBuilds m (Ok (n, o)) = BuildsThen m (Ok o)
+RunBuilds m (Err e) = Unit {0}

@@ -6,6 +6,8 @@ use Rattle.resp_parse.specs.declared.limits.Limits.{Limits}
 use Rattle.resp_errors.specs.declared.parsing_error.ParsingError.TheVariants as parsing
 use Rattle.resp_errors.specs.declared.redis_error.RedisError.{RedisError}
 use Rattle.resp_errors.specs.declared.redis_error.RedisError.TheVariants as form
+use Rattle.resp_parse.specs.declared.read_error.ReadError.{ReadError}
+use Rattle.resp_parse.specs.declared.read_error.ReadError.TheVariants.{Memory, Fault}
 
 -- the limits on what is read as a value; the bytes that are buffered and not yet parsed, and how
 -- many of them were looked at; those since the last value that was handed out; whether the parser
@@ -46,6 +48,15 @@ HasOffset _ offset = offset ≡ None
 abbrev pub KeepsFaultOffset : {X : Type 0} → State → Result X RedisError → Type 0
 KeepsFaultOffset s (Ok x) = s.fault_offset ≡ None
 KeepsFaultOffset s (Err e) = HasOffset e s.fault_offset
+
+-- what a call answers where a value can't be read
+abbrev pub refusal_of : ReadError → RedisError
+refusal_of Memory = form.OutOfMemory
+refusal_of (Fault f) = form.Parse (parsing.Fault f)
+
+abbrev pub answered : {X : Type 0} → Result X ReadError → Result X RedisError
+answered (Ok x) = Ok x
+answered (Err e) = Err (refusal_of e)
 
 -- what a parser that has failed answers
 abbrev pub has_failed : RedisError

@@ -1,9 +1,11 @@
 #![tactic(auto)]
 //! Reading replies of a RESP server (RESP2 and RESP3) from bytes.
 
-mod bytes_since_value;
+mod body;
+mod builder;
 mod counter;
 mod double;
+mod form;
 pub mod laws;
 mod limits;
 mod line;
@@ -14,10 +16,13 @@ mod parser;
 mod prefix;
 mod read_error;
 mod reader_source;
+mod seen;
+mod seen_bytes;
 mod shape;
 mod source;
 mod type_byte;
 mod value_of;
+mod whole;
 
 pub use double::is_double_text;
 pub use limits::Limits;

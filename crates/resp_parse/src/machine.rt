@@ -1,71 +1,32 @@
 //! The reading of a value, which stops where the bytes end and goes on from there.
 
-ghost use Rattle.std.specs.Prelude.{◌≡◌, ◌<◌, ◌≤◌, ◌+◌, ◌*◌, [], length, true, IfOk};
-ghost use Rattle.resp_parse.specs.declared.read_error.ReadError.{ReadError};
-ghost use Rattle.std.specs.Prelude.{None};
+ghost use Rattle.std.specs.Prelude.{◌≡◌, ◌<◌, ◌≤◌, ◌+◌, ◌*◌, ◌^◌, length, true, None, IfOk, OnOk};
+ghost use Rattle.resp_parse.specs.Building.{Builds, BuildsIn, BuildsWhole};
+ghost use Rattle.resp_parse.specs.Resume.{BuildsThen, StepBuilds, RunBuilds};
+ghost use Rattle.resp_parse.specs.Computes.{ComputesSeen};
+ghost use Rattle.resp_parse.specs.Grammar.{elements};
 ghost use Rattle.resp_parse.specs.PlainReading.{then, read_announced, read};
-ghost use Rattle.resp_parse.specs.Shapes.{announced_in_line, body_value};
-ghost use Rattle.resp_parse.specs.Computes.{Computes};
+ghost use Rattle.resp_parse.specs.Shapes.{announced_in_line, line_value, elements_value, count_of};
 ghost use Rattle.resp_parse.specs.Resume.{place, resume, fresh_of, IsScanned, Goes, Ends, Steps};
-ghost use Rattle.resp_parse.specs.Resume.{Runs, FillsBody, depth_below};
+ghost use Rattle.resp_parse.specs.Resume.{Runs, ReadsInto, ReadsReadable, depth_below};
 ghost use Rattle.resp_parse.specs.Filling.{lacks_of, FillsOpenBody};
 ghost use Rattle.resp_parse.specs.Built.{built};
 ghost use Rattle.resp_parse.specs.Costs.{least_bytes, BuiltWithin, StepBuiltWithin, RunBuiltWithin, Places, Begins};
-ghost use Rattle.resp_parse.specs.Costs.{HeaderCost, StepCost, RunCost};
+ghost use Rattle.resp_parse.specs.Costs.{HeaderCost, StepCost, RunCost, ReadBuiltWithin};
 
+use crate::body::Body;
+use crate::builder::Builder;
 use crate::counter::Counter;
+use crate::form::Form;
 use crate::line::{body_ends, line_end};
-use crate::open_aggregates::{Added, OpenAggregate, OpenAggregates};
+use crate::open_aggregates::{Added, OpenAggregates};
 use crate::read_error::ReadError;
-use crate::shape::{BodyKind, Shape, shape_of};
+use crate::shape::{ElementsKind, LineKind, Shape, shape_of};
 use crate::type_byte::TypeByte;
+use crate::whole::Whole;
+use resp_flat::FlatReply;
 use resp_value::{FrameFault, Items, Value};
 use std::alloc::{AllocError, Global};
-use std::mem;
-
-/// A body whose bytes and CR LF aren't all there.
-#[derive(Drop)]
-pub(crate) struct Body {
-    pub(crate) kind: BodyKind,
-    /// How many bytes it lacks, its CR LF aside.
-    pub(crate) missing: usize,
-    pub(crate) bytes: Items<u8>,
-}
-
-impl Body {
-    /// Takes what it lacks, or all of the bytes if they are fewer; answers how many.
-    fn fill(&mut self, bytes: &[u8]) -> Result<usize, AllocError>
-        ensures fills { FillsBody self.old bytes.now self.new result }
-    {
-        let taken = bytes.len().min(self.missing);
-        self.bytes.extend_from_slice(&bytes[..taken])?;
-        self.missing -= taken;
-        Ok(taken)
-    }
-
-    /// The value of the body, which hands out its bytes.
-    fn value(&mut self, alloc: Global) -> Result<Value, ReadError>
-        ensures value { Computes result (body_value self.old.kind self.old.bytes) }
-    {
-        let bytes = mem::replace(&mut self.bytes, Items::new(alloc));
-        self.kind.value(alloc, bytes)
-    }
-}
-
-/// Room for elements: for no more than are announced, than the bytes at hand can spell, and 128.
-fn room_for(alloc: Global, count: usize, at_hand: usize) -> Result<Items<Value>, AllocError>
-    ensures { IfOk result (λ room. room ≡ []) }
-{
-    let room = count.min(at_hand / 3).min(128);
-    Ok(Items::from(Vec::with_capacity(alloc, room)?))
-}
-
-/// Room for the bytes of a body: for no more than are announced, and 64.
-fn room_for_bytes(alloc: Global, missing: usize) -> Result<Items<u8>, AllocError>
-    ensures { IfOk result (λ room. room ≡ []) }
-{
-    Ok(Items::from(Vec::with_capacity(alloc, missing.min(64))?))
-}
 
 /// How many bytes one step took, and what came of it.
 #[derive(Drop)]
@@ -75,7 +36,7 @@ pub(crate) enum Step {
     /// A body or elements follow.
     Goes(usize),
     /// A value is whole.
-    Whole(usize, Value),
+    Whole(usize, Whole),
 }
 
 /// What was read of a value that isn't whole.
@@ -83,6 +44,7 @@ pub(crate) enum Step {
 pub(crate) struct Machine {
     /// How many levels of values inside values are read.
     pub(crate) depth: usize,
+    pub(crate) builder: Builder,
     pub(crate) open_aggregates: OpenAggregates,
     pub(crate) body: Option<Body>,
     /// How many bytes of the line in progress were looked at; they hold no CR LF.
@@ -97,9 +59,11 @@ impl Machine {
         ensures limit { result.depth ≡ depth }
         ensures fresh { fresh_of result.body result.open_aggregates ≡ true }
         ensures scanned { result.scanned ≡ 0 }
+        ensures builds { BuildsIn result.builder result.open_aggregates result.body }
     {
         Machine {
             depth,
+            builder: Builder::new(alloc),
             open_aggregates: OpenAggregates::new(alloc),
             body: None,
             scanned: 0,
@@ -132,9 +96,10 @@ impl Machine {
         line: &[u8],
         at_hand: usize,
         counts: &mut Counter,
-    ) -> Result<Option<Value>, ReadError>
+    ) -> Result<Option<Whole>, ReadError>
         requires no_body { self.old.body ≡ None }
         requires level { length self.old.open_aggregates < self.old.depth }
+        requires builds { Builds self.old.builder self.old.open_aggregates }
         ensures goes { Goes (λ more. then (read_announced
             (read (depth_below self.old.depth self.old.open_aggregates))
             (announced_in_line kind line.now) more)
@@ -142,30 +107,70 @@ impl Machine {
         ensures limit { self.new.depth ≡ self.old.depth }
         ensures depth { length self.new.open_aggregates ≤ self.new.depth }
         ensures scanned { self.new.scanned ≡ self.old.scanned }
+        ensures builds { BuildsThen self.new result }
         ensures built_within { BuiltWithin self.new (3 + least_bytes self.old) result }
         ensures begins { Begins self.old self.new counts.old counts.new result }
         ensures iterations { counts.new ≡ record counts.old { iterations = counts.new.iterations } }
     {
-        match shape_of(alloc, kind, line)? {
-            Shape::Whole(value) => Ok(Some(value)),
+        match shape_of(kind, line)? {
+            Shape::Nil => Ok(Some(self.builder.leaf(Value::Nil)?)),
+            Shape::Int(n) => Ok(Some(self.builder.int(n)?)),
+            Shape::Line(kind, text) => Ok(Some(self.begin_line(alloc, kind, text)?)),
+            Shape::Simple(text) => Ok(Some(self.builder.simple(alloc, text)?)),
             Shape::Body(kind, missing) => {
-                self.body = Some(Body {
-                    kind,
-                    missing,
-                    bytes: room_for_bytes(alloc, missing)?,
-                });
+                self.body = Some(self.builder.body(alloc, kind, missing)?);
                 Ok(None)
             }
-            Shape::Elements(kind, 0) => { Ok(Some(kind.value(alloc, Items::new(alloc), counts)?)) }
-            Shape::Elements(kind, count) => {
-                self.open_aggregates.push(OpenAggregate {
-                    kind,
-                    after: count - 1,
-                    elements: room_for(alloc, count, at_hand)?,
-                })?;
-                Ok(None)
-            }
+            Shape::Elements(kind, size) => self.begin_elements(alloc, kind, size, at_hand, counts),
         }
+    }
+
+    /// A value that is read from its line.
+    #[inline(never)]
+    fn begin_line(&mut self, alloc: Global, kind: LineKind, text: &str) -> Result<Whole, ReadError>
+        requires builds { Builds self.old.builder self.old.open_aggregates }
+        ensures same { self.new ≡ record self.old { builder = self.new.builder } }
+        ensures value { ComputesSeen result (line_value kind text.now) }
+        ensures builds { IfOk result
+            (BuildsWhole self.new.builder self.new.open_aggregates) }
+    {
+        let value = kind.value(alloc, text)?;
+        Ok(self.builder.leaf(value)?)
+    }
+
+    /// Begins an aggregate; Some is one that has no elements.
+    fn begin_elements(
+        &mut self,
+        alloc: Global,
+        kind: ElementsKind,
+        size: usize,
+        at_hand: usize,
+        counts: &mut Counter,
+    ) -> Result<Option<Whole>, ReadError>
+        requires no_body { self.old.body ≡ None }
+        requires level { length self.old.open_aggregates < self.old.depth }
+        requires builds { Builds self.old.builder self.old.open_aggregates }
+        requires small { size < 2 ^ 63 }
+        ensures goes { Goes (λ more. then (read_announced
+            (read (depth_below self.old.depth self.old.open_aggregates))
+            (elements (count_of kind size) (elements_value kind)) more)
+            (place self.old.depth self.old.open_aggregates)) self.new result }
+        ensures limit { self.new.depth ≡ self.old.depth }
+        ensures depth { length self.new.open_aggregates ≤ self.new.depth }
+        ensures scanned { self.new.scanned ≡ self.old.scanned }
+        ensures builds { BuildsThen self.new result }
+        ensures built_within { BuiltWithin self.new (3 + least_bytes self.old) result }
+        ensures begins { Begins self.old self.new counts.old counts.new result }
+        ensures iterations { counts.new ≡ record counts.old { iterations = counts.new.iterations } }
+    {
+        let count = kind.count(size);
+        if count == 0 {
+            let value = kind.value(alloc, Items::new(alloc), counts)?;
+            return Ok(Some(self.builder.leaf(value)?));
+        }
+        let opened = self.builder.open(alloc, kind, size, count - 1, at_hand)?;
+        self.open_aggregates.push(opened)?;
+        Ok(None)
     }
 
     /// Reads the header at the start of the bytes.
@@ -178,9 +183,11 @@ impl Machine {
         requires no_body { self.old.body ≡ None }
         requires depth { length self.old.open_aggregates ≤ self.old.depth }
         requires scanned { IsScanned self.old.body self.old.scanned bytes.now }
+        requires builds { BuildsIn self.old.builder self.old.open_aggregates self.old.body }
         ensures steps { Steps self.old bytes.now self.new result }
         ensures limit { self.new.depth ≡ self.old.depth }
         ensures depth { length self.new.open_aggregates ≤ self.new.depth }
+        ensures builds { StepBuilds self.new result }
         ensures built_within { StepBuiltWithin self.old self.new result }
         ensures cost { HeaderCost self.old self.new bytes.now counts.old counts.new result }
     {
@@ -202,7 +209,7 @@ impl Machine {
         self.scanned = 0;
         let at_hand = after.len() - (len + 2);
         match self.begin(alloc, kind, &after[..len], at_hand, counts) {
-            Ok(Some(value)) => Ok(Step::Whole(len + 3, value)),
+            Ok(Some(whole)) => Ok(Step::Whole(len + 3, whole)),
             Ok(None) => Ok(Step::Goes(len + 3)),
             Err(why) => Err(self.record_fault(why, len + 3)),
         }
@@ -212,9 +219,11 @@ impl Machine {
     fn step(&mut self, alloc: Global, bytes: &[u8], counts: &mut Counter) -> Result<Step, ReadError>
         requires depth { length self.old.open_aggregates ≤ self.old.depth }
         requires scanned { IsScanned self.old.body self.old.scanned bytes.now }
+        requires builds { BuildsIn self.old.builder self.old.open_aggregates self.old.body }
         ensures steps { Steps self.old bytes.now self.new result }
         ensures limit { self.new.depth ≡ self.old.depth }
         ensures depth { length self.new.open_aggregates ≤ self.new.depth }
+        ensures builds { StepBuilds self.new result }
         ensures built_within { StepBuiltWithin self.old self.new result }
         ensures cost { StepCost self.old self.new bytes.now counts.old counts.new result }
     {
@@ -222,7 +231,7 @@ impl Machine {
         let Some(body) = &mut self.body else {
             return self.header(alloc, bytes, counts);
         };
-        let taken = body.fill(bytes)?;
+        let taken = self.builder.fill(body, bytes)?;
         counts.examine(taken);
         match body_ends(&bytes[taken..]) {
             Ok(true) => {}
@@ -233,10 +242,10 @@ impl Machine {
             )),
         }
         counts.examine(2);
-        let value = body.value(alloc);
+        let whole = self.builder.end(alloc, body);
         self.body = None;
-        match value {
-            Ok(value) => Ok(Step::Whole(taken + 2, value)),
+        match whole {
+            Ok(whole) => Ok(Step::Whole(taken + 2, whole)),
             Err(why) => Err(self.record_fault(why, taken + 2)),
         }
     }
@@ -255,6 +264,8 @@ impl Machine {
     pub(crate) fn fill(&mut self, bytes: &[u8], counts: &mut Counter) -> Result<(), AllocError>
         requires lacks { length bytes.now ≤ lacks_of self.old.body }
         ensures fills { FillsOpenBody self.old bytes.now self.new counts.old counts.new result }
+        ensures builds { BuildsIn self.old.builder self.old.open_aggregates self.old.body →
+            BuildsIn self.new.builder self.new.open_aggregates self.new.body }
     {
         if bytes.is_empty() {
             return Ok(());
@@ -262,7 +273,7 @@ impl Machine {
         let Some(body) = &mut self.body else {
             return Ok(());
         };
-        let taken = body.fill(bytes)?;
+        let taken = self.builder.fill(body, bytes)?;
         counts.iterate();
         counts.examine(taken);
         Ok(())
@@ -272,26 +283,37 @@ impl Machine {
     fn attach(
         &mut self,
         alloc: Global,
-        value: Value,
+        whole: Whole,
         counts: &mut Counter,
-    ) -> Result<Option<Value>, ReadError>
+    ) -> Result<Option<Whole>, ReadError>
         requires no_body { self.old.body ≡ None }
         requires depth { length self.old.open_aggregates ≤ self.old.depth }
-        ensures ends { Ends (place self.old.depth self.old.open_aggregates value) self.new result }
+        requires builds { BuildsWhole self.old.builder self.old.open_aggregates whole }
+        ensures ends { Ends (place self.old.depth self.old.open_aggregates whole.seen) self.new result }
         ensures limit { self.new.depth ≡ self.old.depth }
         ensures depth { length self.new.open_aggregates ≤ self.new.depth }
         ensures scanned { self.new.scanned ≡ self.old.scanned }
-        ensures built_within { BuiltWithin self.new (least_bytes self.old + 3 * built value) result }
+        ensures builds { BuildsThen self.new result }
+        ensures built_within { BuiltWithin self.new (least_bytes self.old + 3 * built whole.seen) result }
         ensures places { Places self.old self.new counts.old counts.new result }
         ensures iterations { counts.new ≡ record counts.old { iterations = counts.new.iterations } }
     {
-        let mut value = value;
+        let mut whole = whole;
         loop {
             counts.iterate();
-            match self.open_aggregates.add(alloc, value)? {
-                Added::Outermost(value) => return Ok(Some(value)),
+            let flat = self.builder.flat;
+            match self
+                .open_aggregates
+                .add(alloc, whole, flat, &mut self.builder.value)?
+            {
+                Added::Outermost(whole) => return Ok(Some(whole)),
                 Added::StillOpen => return Ok(None),
-                Added::Closed(kind, elements) => value = kind.value(alloc, elements, counts)?,
+                Added::Closed(aggregate) => {
+                    match self.builder.close(alloc, aggregate, counts) {
+                        Ok(made) => whole = made,
+                        Err(why) => return Err(why),
+                    }
+                }
             }
         }
     }
@@ -302,12 +324,14 @@ impl Machine {
         alloc: Global,
         bytes: &[u8],
         counts: &mut Counter,
-    ) -> Result<(usize, Option<Value>), ReadError>
+    ) -> Result<(usize, Option<Whole>), ReadError>
         requires depth { length self.old.open_aggregates ≤ self.old.depth }
         requires scanned { IsScanned self.old.body self.old.scanned bytes.now }
+        requires builds { BuildsIn self.old.builder self.old.open_aggregates self.old.body }
         ensures runs { Runs self.old bytes.now self.new result }
         ensures limit { self.new.depth ≡ self.old.depth }
         ensures depth { length self.new.open_aggregates ≤ self.new.depth }
+        ensures builds { RunBuilds self.new result }
         ensures built_within { RunBuiltWithin self.old self.new result }
         ensures cost { RunCost self.old self.new bytes.now counts.old counts.new result }
     {
@@ -316,10 +340,10 @@ impl Machine {
             match self.step(alloc, &bytes[at..], counts) {
                 Ok(Step::Waits(taken)) => return Ok((at + taken, None)),
                 Ok(Step::Goes(taken)) => at += taken,
-                Ok(Step::Whole(taken, value)) => {
+                Ok(Step::Whole(taken, whole)) => {
                     at += taken;
-                    match self.attach(alloc, value, counts) {
-                        Ok(Some(value)) => return Ok((at, Some(value))),
+                    match self.attach(alloc, whole, counts) {
+                        Ok(Some(whole)) => return Ok((at, Some(whole))),
                         Ok(None) => {}
                         Err(why) => return Err(self.record_fault(why, at)),
                     }
@@ -332,5 +356,46 @@ impl Machine {
             }
         }
         Ok((at, None))
+    }
+
+    /// The same, with a whole value put in its place in the form that is wanted.
+    pub(crate) fn read<T: Form>(
+        &mut self,
+        alloc: Global,
+        bytes: &[u8],
+        counts: &mut Counter,
+        out: &mut T,
+    ) -> Result<(usize, bool), ReadError>
+        requires depth { length self.old.open_aggregates ≤ self.old.depth }
+        requires scanned { IsScanned self.old.body self.old.scanned bytes.now }
+        requires builds { BuildsIn self.old.builder self.old.open_aggregates self.old.body }
+        requires readable { ReadsReadable self.old bytes.now }
+        ensures reads { ReadsInto T.shows self.old bytes.now self.new out.old out.new result }
+        ensures limit { self.new.depth ≡ self.old.depth }
+        ensures depth { length self.new.open_aggregates ≤ self.new.depth }
+        ensures builds { OnOk result
+            (BuildsIn self.new.builder self.new.open_aggregates self.new.body) }
+        ensures built_within { ReadBuiltWithin self.old self.new result }
+        ensures cost { RunCost self.old self.new bytes.now counts.old counts.new result }
+    {
+        let (taken, whole) = self.run(alloc, bytes, counts)?;
+        let Some(whole) = whole else {
+            return Ok((taken, false));
+        };
+        match T::put(alloc, &mut self.builder, whole, out) {
+            Ok(()) => Ok((taken, true)),
+            Err(_) => Err(ReadError::Memory),
+        }
+    }
+
+    /// Chooses what is built of the next value, where none is in progress.
+    pub(crate) fn choose(&mut self, flat: bool)
+        ensures same { self.new ≡ record self.old { builder = self.new.builder } }
+        ensures builds { BuildsIn self.old.builder self.old.open_aggregates self.old.body →
+            BuildsIn self.new.builder self.new.open_aggregates self.new.body }
+    {
+        if self.is_fresh() {
+            self.builder.choose(flat);
+        }
     }
 }

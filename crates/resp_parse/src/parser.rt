@@ -3,22 +3,25 @@
 ghost use Rattle.std.specs.Prelude.{◌≡◌, ◌≢◌, ◌↔◌, ◌++◌, ◌⊎◌, [], true, false, Err, List, ℕ};
 ghost use Rattle.std.specs.Prelude.{length, IsTrue, IfErr, IfOk, IsOk, OnOk, IfSome, None};
 ghost use Rattle.resp_parse.specs.State.{StandsAfter, FailedAfter, IsBetweenValues, has_failed};
-ghost use Rattle.resp_parse.specs.State.{KeepsFaultOffset};
+ghost use Rattle.resp_parse.specs.State.{KeepsFaultOffset, refusal_of, answered};
 ghost use Rattle.resp_parse.specs.Limits.{AreLimits, IsDepthLimit, IsSizeLimit, RefusesLimits};
 ghost use Rattle.resp_parse.specs.Limits.{depth_refused, of_depth, usual};
 ghost use Rattle.resp_parse.specs.Limited.{FaultShownAt};
 ghost use Rattle.resp_parse.specs.Invariant.{PassesLimit};
-ghost use Rattle.resp_parse.specs.Calls.{Feeds, Takes, Asks, Parses, ParsesReader};
+ghost use Rattle.resp_parse.specs.Calls.{Feeds, Takes, TakesInto, TakesFlat, Asks, Parses};
+ghost use Rattle.resp_parse.specs.Calls.{ParsesReader};
 ghost use Rattle.resp_parse.specs.Bounds.{Bounded, FedBy, OneCall, CallsWithin, AskedFor};
 ghost use Rattle.resp_parse.specs.Counts.{nothing_done};
 
-use crate::bytes_since_value::BytesSinceValue;
 use crate::counter::Counter;
+use crate::form::Form;
 use crate::limits::{LONGEST, Limits};
 use crate::machine::Machine;
 use crate::read_error::ReadError;
 use crate::reader_source::Reading;
+use crate::seen_bytes::SeenBytes;
 use crate::source::ReplySource;
+use resp_flat::FlatReply;
 use resp_value::{FrameFault, IoKind, ParsingError, RedisError, RedisResult, Value};
 use std::alloc::Global;
 use std::io::Read;
@@ -60,7 +63,7 @@ pub struct Parser {
     failed: bool,
     /// How many bytes since the last value show the fault that was answered.
     fault_offset: Option<usize>,
-    since: BytesSinceValue,
+    since: SeenBytes,
     counts: Counter,
 }
 
@@ -166,7 +169,7 @@ impl Parser {
             machine: Machine::new(alloc, limits.depth),
             failed: false,
             fault_offset: None,
-            since: BytesSinceValue::new(),
+            since: SeenBytes::new(),
             counts: Counter::new(),
         }
     }
@@ -235,23 +238,93 @@ impl Parser {
         ensures offset { self.old.failed ≡ false → KeepsFaultOffset self.new result }
         ensures counts { self.old.failed ≡ false → OneCall self.old.counts self.new.counts }
     {
+        let mut value = Value::Nil;
+        match self.take(&mut value) {
+            Ok(true) => Ok(Some(value)),
+            Ok(false) => Ok(None),
+            Err(why) => Err(why),
+        }
+    }
+
+    /// The next value as a flat reply; false while the bytes since the last value are incomplete.
+    ///
+    /// What the reply held before is lost where a value is taken, and is as it was where none is.
+    /// Its memory is used again for the next value, so that in the steady state none is asked for but
+    /// by errors, doubles, big numbers and verbatim strings, which are made apart first. Refusals are
+    /// those of [`Parser::take_value`].
+    ///
+    /// ```text
+    /// let mut reply = FlatReply::new(alloc);
+    /// parser.feed(b"*2\r\n:1\r\n$5\r\nhello\r\n")?;
+    /// let taken = parser.take_flat(&mut reply)?; // true: three tokens, and the text `hello`
+    /// ```
+    ///
+    /// In `crates/resp_tests_public_calls/src/flat_replies.rt`.
+    pub fn take_flat(&mut self, reply: &mut FlatReply) -> RedisResult<bool>
+        ensures failed { self.old.failed ≡ true → (result ≡ Err has_failed)
+            × ((self.new ≡ self.old) × (reply.new ≡ reply.old)) }
+        ensures takes { (b : List ℕ) → StandsAfter self.old b →
+            TakesFlat b self.new reply.old reply.new result }
+        ensures limits { self.new.limits ≡ self.old.limits }
+        ensures bounds { Bounded self.new }
+        ensures offset { self.old.failed ≡ false → KeepsFaultOffset self.new result }
+        ensures counts { self.old.failed ≡ false → OneCall self.old.counts self.new.counts }
+    {
+        self.take(reply)
+    }
+
+    /// The next value, put in its place in the form that is wanted; false while it is incomplete.
+    fn take<T: Form>(&mut self, out: &mut T) -> RedisResult<bool>
+        ensures failed { self.old.failed ≡ true → (result ≡ Err has_failed)
+            × ((self.new ≡ self.old) × (out.new ≡ out.old)) }
+        ensures takes { (b : List ℕ) → StandsAfter self.old b →
+            TakesInto T.shows b self.new out.old out.new result }
+        ensures limits { self.new.limits ≡ self.old.limits }
+        ensures bounds { Bounded self.new }
+        ensures offset { self.old.failed ≡ false → KeepsFaultOffset self.new result }
+        ensures counts { self.old.failed ≡ false → OneCall self.old.counts self.new.counts }
+    {
         if self.failed {
             return Err(failed_before());
         }
+        self.choose(T::FLAT);
+        match self.read(out) {
+            Ok(taken) => Ok(taken),
+            Err(why) => Err(refusal(why)),
+        }
+    }
+
+    /// Chooses what is built of the next value, where none is in progress.
+    fn choose(&mut self, flat: bool)
+        ensures same { self.new ≡ self.old }
+    {
+        self.machine.choose(flat);
+    }
+
+    /// Reads on.
+    fn read<T: Form>(&mut self, out: &mut T) -> Result<bool, ReadError>
+        requires works { self.old.failed ≡ false }
+        ensures takes { (b : List ℕ) → StandsAfter self.old b →
+            TakesInto T.shows b self.new out.old out.new (answered result) }
+        ensures limits { self.new.limits ≡ self.old.limits }
+        ensures bounds { Bounded self.new }
+        ensures offset { KeepsFaultOffset self.new (answered result) }
+        ensures counts { OneCall self.old.counts self.new.counts }
+    {
         self.counts.call();
         let alloc = *self.buffer.allocator();
         let unparsed = &self.buffer[self.consumed..];
         let room = self.size_limit - self.taken;
         let (bytes, later) = unparsed.split_at(room.min(unparsed.len()));
         let passes = !later.is_empty();
-        match self.machine.run(alloc, bytes, &mut self.counts) {
-            Ok((taken, Some(value))) => {
+        match self.machine.read(alloc, bytes, &mut self.counts, out) {
+            Ok((taken, true)) => {
                 self.consumed += taken;
                 self.taken = 0;
                 self.since.restart(&self.buffer[self.consumed..]);
-                Ok(Some(value))
+                Ok(true)
             }
-            Ok((taken, None)) => {
+            Ok((taken, false)) => {
                 if passes {
                     let (why, offset) = too_long(self.size_limit);
                     self.failed = true;
@@ -260,16 +333,16 @@ impl Parser {
                 }
                 self.consumed += taken;
                 self.taken += taken;
-                Ok(None)
+                Ok(false)
             }
             Err(ReadError::Fault(fault)) => {
                 self.failed = true;
                 self.fault_offset = Some(self.taken + self.machine.shown);
-                Err(RedisError::Parse(ParsingError::Fault(fault)))
+                Err(ReadError::Fault(fault))
             }
             Err(ReadError::Memory) => {
                 self.failed = true;
-                Err(RedisError::OutOfMemory)
+                Err(ReadError::Memory)
             }
         }
     }
@@ -432,14 +505,23 @@ fn failed_before() -> RedisError
     RedisError::Parse(ParsingError::from("parser has failed"))
 }
 
-/// What a value of more than `most` bytes is refused with, and how many bytes show its fault.
-fn too_long(most: usize) -> (RedisError, Option<usize>)
+/// What a call answers where a value can't be read.
+fn refusal(why: ReadError) -> RedisError
+    ensures refusal { result ≡ refusal_of why }
+{
+    match why {
+        ReadError::Memory => RedisError::OutOfMemory,
+        ReadError::Fault(fault) => RedisError::Parse(ParsingError::Fault(fault)),
+    }
+}
+
+/// Why a value of more than `most` bytes can't be read, and how many bytes show its fault.
+fn too_long(most: usize) -> (ReadError, Option<usize>)
     requires limit { IsSizeLimit most }
-    ensures refuses { PassesLimit most result.0 result.1 }
+    ensures refuses { PassesLimit most (refusal_of result.0) result.1 }
 {
     if most == LONGEST {
-        return (RedisError::OutOfMemory, None);
+        return (ReadError::Memory, None);
     }
-    let fault = ParsingError::Fault(FrameFault::TooLong);
-    (RedisError::Parse(fault), Some(most + 1))
+    (ReadError::Fault(FrameFault::TooLong), Some(most + 1))
 }

@@ -19,9 +19,10 @@ pub fn parse_redis_value(alloc: Global, bytes: &[u8]) -> RedisResult<Value>
 {
     let mut machine = Machine::new(alloc, USUAL_DEPTH);
     let mut counts = Counter::new();
-    match machine.run(alloc, bytes, &mut counts) {
-        Ok((_, Some(value))) => Ok(value),
-        Ok((_, None)) => Err(RedisError::Io(IoKind::UnexpectedEof)),
+    let mut value = Value::Nil;
+    match machine.read(alloc, bytes, &mut counts, &mut value) {
+        Ok((_, true)) => Ok(value),
+        Ok((_, false)) => Err(RedisError::Io(IoKind::UnexpectedEof)),
         Err(ReadError::Fault(fault)) => Err(RedisError::Parse(ParsingError::Fault(fault))),
         Err(ReadError::Memory) => Err(RedisError::OutOfMemory),
     }

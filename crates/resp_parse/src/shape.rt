@@ -1,14 +1,14 @@
 //! What the line of a header announces.
 
-ghost use Rattle.std.specs.Prelude.{length, IfSome, Ok};
+ghost use Rattle.std.specs.Prelude.{◌≡◌, ◌<◌, ◌^◌, length, IfSome, IfOk, Ok};
 ghost use Rattle.std.specs.Str.{IsUtf8};
 ghost use Rattle.resp_parse.specs.Costs.{Iterations};
 ghost use Rattle.resp_parse.specs.Grammar.{announced, boolean_in, with_valid};
-ghost use Rattle.resp_parse.specs.Grammar.{or_nil, or_empty_push, complete, body as a_body};
+ghost use Rattle.resp_parse.specs.Grammar.{or_nil, or_empty_push, body as a_body};
 ghost use Rattle.resp_parse.specs.Grammar.{elements as some_elements, push};
 ghost use Rattle.resp_parse.specs.Number.{integer_in};
 ghost use Rattle.resp_parse.specs.Shapes.{Announces, announced_in_line, body_value};
-ghost use Rattle.resp_parse.specs.Shapes.{elements_value};
+ghost use Rattle.resp_parse.specs.Shapes.{elements_value, line_value, count_of, token_kind, is_small};
 ghost use Rattle.resp_parse.specs.Computes.{Computes};
 
 use crate::counter::Counter;
@@ -16,9 +16,9 @@ use crate::number::{few_digits, integer_of, length_of};
 use crate::read_error::ReadError;
 use crate::type_byte::TypeByte;
 use crate::value_of::{
-    attribute_of, bulk_error_of, double_of, error_of, no_push, pairs_from, push_of, simple_of,
-    verbatim_of,
+    attribute_of, bulk_error_of, double_of, error_of, no_push, pairs_from, push_of, verbatim_of,
 };
+use resp_flat::TokenKind;
 use resp_value::{FrameFault, Items, Value};
 use std::alloc::Global;
 
@@ -54,6 +54,31 @@ pub(crate) enum ElementsKind {
 }
 
 impl ElementsKind {
+    /// How many elements follow where this many elements or pairs are announced.
+    pub(crate) fn count(self, size: usize) -> usize
+        requires small { size < 2 ^ 63 }
+        ensures count { result ≡ count_of self size }
+    {
+        match self {
+            ElementsKind::Map => 2 * size,
+            ElementsKind::Attribute => 2 * size + 1,
+            _ => size,
+        }
+    }
+
+    /// The token of an aggregate.
+    pub(crate) fn token(self) -> TokenKind
+        ensures { result ≡ token_kind self }
+    {
+        match self {
+            ElementsKind::Array => TokenKind::Array,
+            ElementsKind::Set => TokenKind::Set,
+            ElementsKind::Map => TokenKind::Map,
+            ElementsKind::Attribute => TokenKind::Attribute,
+            ElementsKind::Push => TokenKind::Push,
+        }
+    }
+
     /// The value of the elements.
     pub(crate) fn value(
         self,
@@ -74,20 +99,54 @@ impl ElementsKind {
     }
 }
 
+/// What a text spells that is a whole line.
+#[derive(Clone, Copy, Debug)]
+pub(crate) enum LineKind {
+    Error,
+    Boolean,
+    Double,
+    BigNumber,
+    EmptyPush,
+}
+
+impl LineKind {
+    /// The value of the text.
+    pub(crate) fn value(self, alloc: Global, text: &str) -> Result<Value, ReadError>
+        ensures value { Computes result (line_value self text.now) }
+    {
+        match self {
+            LineKind::Error => Ok(error_of(alloc, text)?),
+            LineKind::Boolean => boolean_of(text),
+            LineKind::Double => double_of(alloc, text),
+            LineKind::BigNumber => {
+                Ok(Value::BigNumber(Items::from_slice(alloc, text.as_bytes())?))
+            }
+            LineKind::EmptyPush => Ok(no_push(alloc)),
+        }
+    }
+}
+
 /// What the line of a header announces.
 #[derive(Drop)]
-pub(crate) enum Shape {
-    /// The value is whole; no more bytes belong to it.
-    Whole(Value),
+pub(crate) enum Shape<'a> {
+    /// Nil is whole.
+    Nil,
+    /// An integer is whole.
+    Int(i64),
+    /// The simple string of this text is whole.
+    Simple(&'a str),
+    /// The value of this text is whole, if it has one.
+    Line(LineKind, &'a str),
     /// A body of n bytes follows.
     Body(BodyKind, usize),
-    /// n elements follow.
+    /// n elements or pairs follow.
     Elements(ElementsKind, usize),
 }
 
 /// What a line announces, for a value of this type.
-pub(crate) fn shape_of(alloc: Global, kind: TypeByte, line: &[u8]) -> Result<Shape, ReadError>
+pub(crate) fn shape_of(kind: TypeByte, line: &[u8]) -> Result<Shape<'_>, ReadError>
     ensures announced { Announces result (announced_in_line kind line.now) }
+    ensures small { IfOk result is_small }
 {
     if let Some(shape) = shape_of_digits(kind, line) {
         return Ok(shape);
@@ -95,91 +154,93 @@ pub(crate) fn shape_of(alloc: Global, kind: TypeByte, line: &[u8]) -> Result<Sha
     let Ok(text) = std::str::from_utf8(line) else {
         return Err(ReadError::Fault(FrameFault::LineNotUtf8));
     };
-    shape_of_text(alloc, kind, text)
+    shape_of_text(kind, text)
 }
 
 /// What a line of few digits alone announces, for an integer, a bulk string, an array or a map.
 /// None for other types, and of any other line.
-fn shape_of_digits(kind: TypeByte, line: &[u8]) -> Option<Shape>
+fn shape_of_digits(kind: TypeByte, line: &[u8]) -> Option<Shape<'static>>
     ensures text { IfSome result (λ shape. IsUtf8 line.now) }
     ensures announced { IfSome result (λ shape.
         Announces (Ok shape) (announced kind line.now)) }
+    ensures small { IfSome result is_small }
 {
     match kind {
-        TypeByte::Integer => Some(Shape::Whole(Value::Int(few_digits(line)? as i64))),
+        TypeByte::Integer => Some(Shape::Int(few_digits(line)? as i64)),
         TypeByte::BulkString => Some(Shape::Body(BodyKind::Bulk, few_digits(line)? as usize)),
         TypeByte::Array => Some(Shape::Elements(ElementsKind::Array, few_digits(line)? as usize)),
-        TypeByte::Map => Some(Shape::Elements(ElementsKind::Map, 2 * few_digits(line)? as usize)),
+        TypeByte::Map => Some(Shape::Elements(ElementsKind::Map, few_digits(line)? as usize)),
         _ => None,
     }
 }
 
 /// What the line of this text announces, for a value of this type.
-fn shape_of_text(alloc: Global, kind: TypeByte, text: &str) -> Result<Shape, ReadError>
+fn shape_of_text(kind: TypeByte, text: &str) -> Result<Shape<'_>, ReadError>
     ensures announced { Announces result (announced kind text.now) }
+    ensures small { IfOk result is_small }
 {
     match kind {
-        TypeByte::SimpleString => Ok(Shape::Whole(simple_of(alloc, text)?)),
-        TypeByte::SimpleError => Ok(Shape::Whole(error_of(alloc, text)?)),
-        TypeByte::Integer => Ok(Shape::Whole(Value::Int(integer_of(text)?))),
+        TypeByte::SimpleString => Ok(Shape::Simple(text)),
+        TypeByte::SimpleError => Ok(Shape::Line(LineKind::Error, text)),
+        TypeByte::Integer => Ok(Shape::Int(integer_of(text)?)),
         TypeByte::BulkString => body_or_nil(text, BodyKind::Bulk),
         TypeByte::Array => elements_or_nil(text, ElementsKind::Array),
-        TypeByte::Null => Ok(Shape::Whole(Value::Nil)),
-        TypeByte::Boolean => boolean_shape(text),
-        TypeByte::Double => Ok(Shape::Whole(double_of(alloc, text)?)),
-        TypeByte::BigNumber => {
-            Ok(Shape::Whole(Value::BigNumber(Items::from_slice(alloc, text.as_bytes())?)))
-        }
+        TypeByte::Null => Ok(Shape::Nil),
+        TypeByte::Boolean => Ok(Shape::Line(LineKind::Boolean, text)),
+        TypeByte::Double => Ok(Shape::Line(LineKind::Double, text)),
+        TypeByte::BigNumber => Ok(Shape::Line(LineKind::BigNumber, text)),
         TypeByte::BulkError => Ok(Shape::Body(BodyKind::Error, length_of(text)?)),
         TypeByte::VerbatimString => Ok(Shape::Body(BodyKind::Verbatim, length_of(text)?)),
-        TypeByte::Map => Ok(Shape::Elements(ElementsKind::Map, 2 * length_of(text)?)),
-        TypeByte::Attribute => {
-            Ok(Shape::Elements(ElementsKind::Attribute, 2 * length_of(text)? + 1))
-        }
+        TypeByte::Map => Ok(Shape::Elements(ElementsKind::Map, length_of(text)?)),
+        TypeByte::Attribute => Ok(Shape::Elements(ElementsKind::Attribute, length_of(text)?)),
         TypeByte::Set => elements_or_nil(text, ElementsKind::Set),
-        TypeByte::Push => push_shape(alloc, text),
+        TypeByte::Push => push_shape(text),
     }
 }
 
-fn boolean_shape(text: &str) -> Result<Shape, ReadError>
-    ensures announced { Announces result (with_valid (boolean_in text.now) complete) }
+/// The value of a boolean line (RESP3, "Booleans").
+fn boolean_of(text: &str) -> Result<Value, ReadError>
+    ensures value { Computes result (boolean_in text.now) }
 {
     match text {
-        "t" => Ok(Shape::Whole(Value::Boolean(true))),
-        "f" => Ok(Shape::Whole(Value::Boolean(false))),
+        "t" => Ok(Value::Boolean(true)),
+        "f" => Ok(Value::Boolean(false)),
         _ => Err(ReadError::Fault(FrameFault::NotBoolean)),
     }
 }
 
-fn body_or_nil(text: &str, kind: BodyKind) -> Result<Shape, ReadError>
+fn body_or_nil(text: &str, kind: BodyKind) -> Result<Shape<'static>, ReadError>
     ensures announced { Announces result (with_valid (integer_in text.now)
         (or_nil (λ n. a_body n (body_value kind)))) }
+    ensures small { IfOk result is_small }
 {
     let len = integer_of(text)?;
     if len < 0 {
-        return Ok(Shape::Whole(Value::Nil));
+        return Ok(Shape::Nil);
     }
     Ok(Shape::Body(kind, len as usize))
 }
 
-fn elements_or_nil(text: &str, kind: ElementsKind) -> Result<Shape, ReadError>
+fn elements_or_nil(text: &str, kind: ElementsKind) -> Result<Shape<'static>, ReadError>
     ensures announced { Announces result (with_valid (integer_in text.now)
-        (or_nil (λ n. some_elements n (elements_value kind)))) }
+        (or_nil (λ n. some_elements (count_of kind n) (elements_value kind)))) }
+    ensures small { IfOk result is_small }
 {
     let count = integer_of(text)?;
     if count < 0 {
-        return Ok(Shape::Whole(Value::Nil));
+        return Ok(Shape::Nil);
     }
     Ok(Shape::Elements(kind, count as usize))
 }
 
-fn push_shape(alloc: Global, text: &str) -> Result<Shape, ReadError>
+fn push_shape(text: &str) -> Result<Shape<'_>, ReadError>
     ensures announced { Announces result (with_valid (integer_in text.now)
         (or_empty_push (λ n. some_elements n push))) }
+    ensures small { IfOk result is_small }
 {
     let count = integer_of(text)?;
     if count <= 0 {
-        return Ok(Shape::Whole(no_push(alloc)));
+        return Ok(Shape::Line(LineKind::EmptyPush, text));
     }
     Ok(Shape::Elements(ElementsKind::Push, count as usize))
 }

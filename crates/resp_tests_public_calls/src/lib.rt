@@ -21,6 +21,10 @@ mod encodings;
 #[cfg(test)]
 mod errors;
 #[cfg(test)]
+mod flat_conversions;
+#[cfg(test)]
+mod flat_replies;
+#[cfg(test)]
 mod one_value;
 #[cfg(test)]
 mod own_types;

@@ -2,8 +2,9 @@
 
 use crate::heap::{Test, made, refuse, shows};
 use resp_core::{
-    FromRedisValue, IncrexResult, Items, ParsingError, RedisError, RedisResult, Role, Text, Value,
-    ValueType, from_redis_value, from_redis_value_by, from_redis_value_ref, parse_redis_value,
+    FlatReply, FromFlatValue, FromRedisValue, IncrexResult, Items, ParsingError, RedisError,
+    RedisResult, Role, Text, Value, ValueType, from_flat_reply, from_redis_value,
+    from_redis_value_by, from_redis_value_ref, parse_redis_value,
 };
 use std::boxed::BoxedSlice;
 use std::collections::{BTreeMap, BTreeSet, HashMap, HashSet};
@@ -37,6 +38,17 @@ fn converts_moved<T: FromRedisValue + Debug>(rt: &impl Test, moved: Value, wante
 fn converts_borrowed<T: FromRedisValue + Debug>(rt: &impl Test, borrowed: &Value, wanted: &str) {
     refuse(rt.alloc());
     converted(rt, from_redis_value_ref::<T>(rt.alloc(), borrowed), wanted);
+}
+
+/// The flat form of a reply converts to what shows like this.
+fn converts_flat<T: FromFlatValue + Debug>(rt: &impl Test, reply: &[u8], wanted: &str) {
+    let mut flat = FlatReply::new(rt.alloc());
+    flat.append(&value_of(rt, reply)).expect(rt, "no refusal");
+    refuse(rt.alloc());
+    converted(rt, from_flat_reply::<T>(rt.alloc(), &flat), wanted);
+    let root = flat.root().expect(rt, "a token");
+    refuse(rt.alloc());
+    converted(rt, T::from_flat_value(rt.alloc(), root), wanted);
 }
 
 const ABC: &[u8] = b"$3\r\nabc\r\n";
@@ -100,6 +112,14 @@ fn replies_of_single_commands(rt: HostRuntime) {
 fn items_of(rt: &impl Test, reply: &[u8]) -> Vec<Value> {
     let items = value_of(rt, reply).into_sequence(rt.alloc());
     items.expect(rt, "an array")
+}
+
+#[test]
+fn flat_replies(rt: HostRuntime) {
+    converts_flat::<String>(&rt, ABC, "Ok(\"abc\")");
+    converts_flat::<Value>(&rt, ABC, "Ok(bulk-string('\"abc\"'))");
+    converts_flat::<Vec<String>>(&rt, TEXTS, "Ok([\"a\", \"12\", \"abc\"])");
+    converts_flat::<Vec<(i64, i64)>>(&rt, NUMBERS, "Ok([(1, 2), (3, 4)])");
 }
 
 /// Lists that the type makes of several replies.

@@ -2,7 +2,7 @@
 
 use crate::heap::{Test, made, ran_out, refuse};
 use resp_core::{
-    FlatReply, ProtocolVersion, RedisResult, Value, as_resp2, encode, encode_within,
+    FlatReply, FlatValue, ProtocolVersion, RedisResult, Value, as_resp2, encode, encode_within,
     parse_redis_value,
 };
 
@@ -71,4 +71,13 @@ fn flat_replies(rt: HostRuntime) {
         assert_eq!(rt; flat.tokens.len(), 10);
         assert_eq!(rt; flat.text.as_slice(), b"MINE x yown:xyminea1.5".as_slice());
     }
+}
+
+#[test]
+fn flat_replies_read_back(rt: HostRuntime) {
+    let value = reply(&rt, REPLY);
+    let mut flat = FlatReply::new(rt.alloc());
+    flat.append(&value).expect(&rt, "no refusal");
+    let root: FlatValue<'_> = flat.root().expect(&rt, "a token");
+    makes! { rt; flat.to_value(rt.alloc()) => value, root.to_value(rt.alloc()) => value }
 }

@@ -9,10 +9,11 @@ use crate::made::get;
 use crate::subjects::Subject;
 use resp_core::{
     ArgList, ArgWriter, Boxed, ByteLink, Cmd, CommandSink, ConnectionLike, Fields, FlatReply,
-    FromRedisValue, InfoDict, IntegerReplyOrNoOp, Items, Limits, NumericBehavior, Parser, Pipeline,
-    ProtocolVersion, PushKind, Reading, RedisWrite, ReplySource, Text, ToRedisArgs, Value,
-    ValueType, VerbatimFormat, Writing, from_redis_value, from_redis_value_ref, get_push_kind,
-    is_double_text, is_valid_16_bytes_hex_digest, parse_redis_value, pipe, verbatim_format,
+    FlatValue, FromRedisValue, InfoDict, IntegerReplyOrNoOp, Items, Limits, NumericBehavior,
+    Parser, Pipeline, ProtocolVersion, PushKind, Reading, RedisWrite, ReplySource, Text,
+    ToRedisArgs, TokenKind, Value, ValueType, VerbatimFormat, Writing, from_redis_value,
+    from_redis_value_ref, get_push_kind, is_double_text, is_valid_16_bytes_hex_digest,
+    parse_redis_value, pipe, verbatim_format,
 };
 use std::alloc::Global;
 use std::collections::BTreeMap;
@@ -161,6 +162,26 @@ fn flat_replies(rt: HostRuntime) {
     refuse_all(rt.alloc());
     flat.clear();
     assert!(rt; flat.tokens.is_empty() && FlatReply::new(rt.alloc()).text.is_empty());
+    took_none(&rt);
+}
+
+#[test]
+fn cursors_over_flat_replies(rt: HostRuntime) {
+    let bytes = b"|1\r\n+ttl\r\n:1\r\n*2\r\n#t\r\n$1\r\na\r\n";
+    let value = parse_redis_value(rt.alloc(), bytes).expect(&rt, "no refusal");
+    let mut flat = FlatReply::new(rt.alloc());
+    flat.append(&value).expect(&rt, "no refusal");
+    refuse_all(rt.alloc());
+    let root: FlatValue<'_> = flat.root().expect(&rt, "a token");
+    assert!(rt; root.kind() == TokenKind::Attribute && !TokenKind::Attribute.has_text());
+    assert!(rt; root.len() == 1 && !root.is_empty());
+    let (key, number) = root.pairs().next().expect(&rt, "a pair");
+    assert!(rt; key.as_bytes() == Some(b"ttl".as_slice()));
+    assert!(rt; key.as_str() == Some("ttl"));
+    assert!(rt; number.as_int() == Some(1));
+    let list = root.described().expect(&rt, "a value");
+    let truth = list.elements().next().expect(&rt, "an element");
+    assert!(rt; truth.as_bool() == Some(true));
     took_none(&rt);
 }
 

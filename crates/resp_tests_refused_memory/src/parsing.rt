@@ -1,7 +1,7 @@
 //! Parsers: after want of memory a parser has failed for good, but for a refused `feed`.
 
 use crate::heap::{Test, equal, made, ran_out, refuse};
-use resp_core::{Parser, Reading, RedisError, RedisResult, Value, parse_redis_value};
+use resp_core::{FlatReply, Parser, Reading, RedisError, RedisResult, Value, parse_redis_value};
 use std::process::Abort;
 
 /// Whole replies, of each type that takes memory.
@@ -37,9 +37,10 @@ fn says_failed<T: Drop>(rt: &impl Abort, answer: RedisResult<T>) {
 }
 
 /// Each call of the parser says that it has failed, and asks for no bytes.
-fn has_failed(rt: &impl Abort, mut parser: Parser) {
+fn has_failed(rt: &impl Test, mut parser: Parser) {
     assert!(rt; parser.is_failed());
     says_failed(rt, parser.take_value());
+    says_failed(rt, parser.take_flat(&mut FlatReply::new(rt.alloc())));
     says_failed(rt, parser.feed(b":1\r\n"));
     says_failed(rt, parser.parse_value(b":1\r\n".as_slice()));
     let mut source = Reading::new(b":1\r\n".as_slice());
@@ -77,6 +78,22 @@ fn takes(rt: &impl Test, bytes: &[u8], wanted: &Option<Value>) {
     answered(rt, parser, answer, wanted);
 }
 
+/// What is fed gives the flat reply of this, or leaves the reply before as it was.
+fn takes_flat(rt: &impl Test, bytes: &[u8], wanted: &Option<Value>) {
+    let mut parser = fed(rt, bytes);
+    let mut reply = FlatReply::new(rt.alloc());
+    reply.append(&Value::Okay).expect(rt, "no refusal");
+    refuse(rt.alloc());
+    let answer = parser.take_flat(&mut reply);
+    let taken = matches!(answer, Ok(true));
+    answered(rt, parser, answer, &wanted.is_some());
+    let shown = reply.to_value(rt.alloc()).expect(rt, "no refusal");
+    match wanted {
+        Some(value) if taken => assert!(rt; shown == *value),
+        _ => assert!(rt; shown == Value::Okay),
+    }
+}
+
 /// What is read gives this.
 fn reads(rt: &impl Test, bytes: &[u8], wanted: &Value) {
     let mut parser = Parser::new(rt.alloc());
@@ -100,7 +117,9 @@ fn gives_value(rt: &impl Test, bytes: &[u8]) {
     makes! { rt; parse_redis_value(rt.alloc(), bytes) => value }
     reads(rt, bytes, &value);
     reads_source(rt, bytes, &value);
-    takes(rt, bytes, &Some(value));
+    let wanted = Some(value);
+    takes_flat(rt, bytes, &wanted);
+    takes(rt, bytes, &wanted);
 }
 
 #[test]
@@ -109,6 +128,7 @@ fn replies(rt: HostRuntime) {
         gives_value(&rt, bytes);
         if let Some((_last, front)) = bytes.split_last() {
             takes(&rt, front, &None);
+            takes_flat(&rt, front, &None);
         }
     }
 }

@@ -3,7 +3,7 @@
 use crate::encodings::values_written_again;
 use crate::rows::{Row, malformed, number_of};
 use crate::texts::{add_part, refusal_text};
-use resp_core::{Limits, Parser, Reading, RedisError, RedisResult};
+use resp_core::{ErrorKind, FlatReply, Limits, Parser, Reading, RedisError, RedisResult, Value};
 use std::alloc::Global;
 use std::io;
 use std::io::Read;
@@ -74,10 +74,14 @@ pub fn limits(alloc: Global, row: &Row) -> RedisResult<String> {
 /// What the bytes show, if they show it however they come in.
 fn shown_however(alloc: Global, limits: Limits, bytes: &[u8]) -> RedisResult<String> {
     let wanted = shown_in_pieces(alloc, limits, &[bytes])?;
-    let singly = shown_singly(alloc, limits, bytes)?;
+    let singly = shown_as(alloc, limits, Form::Tree, bytes)?;
     let wanted = agreed(alloc, wanted, singly, "in single bytes")?;
     let from_source = shown_from_source(alloc, limits, bytes)?;
     let wanted = agreed(alloc, wanted, from_source, "from a source")?;
+    let flat = shown_as(alloc, limits, Form::Flat, bytes)?;
+    let wanted = agreed(alloc, wanted, flat, "as flat replies")?;
+    let by_turns = shown_as(alloc, limits, Form::ByTurns, bytes)?;
+    let wanted = agreed(alloc, wanted, by_turns, "in both forms by turns")?;
     if bytes.len() > CUT {
         return Ok(wanted);
     }
@@ -136,17 +140,37 @@ fn other_cut_before(
     Ok(None)
 }
 
+/// How values are asked for.
+#[derive(Clone, Copy)]
+enum Form {
+    Tree,
+    Flat,
+    /// Each call of the parser in the other form than the one before.
+    ByTurns,
+}
+
 /// What a parser takes from the bytes, and the text that it shows.
 #[derive(Drop)]
 struct Taken {
     parser: Parser,
+    form: Form,
+    /// Whether the last call was in flat form.
+    was_flat: bool,
+    reply: FlatReply,
     text: String,
 }
 
 impl Taken {
     fn new(alloc: Global, limits: Limits) -> RedisResult<Taken> {
+        Taken::of_form(alloc, limits, Form::Tree)
+    }
+
+    fn of_form(alloc: Global, limits: Limits, form: Form) -> RedisResult<Taken> {
         Ok(Taken {
             parser: Parser::with_limits(alloc, limits)?,
+            form,
+            was_flat: false,
+            reply: FlatReply::new(alloc),
             text: String::new(alloc),
         })
     }
@@ -165,9 +189,37 @@ impl Taken {
         Ok(())
     }
 
+    /// The next value, if it is whole, by the call whose turn it is.
+    fn next(&mut self, alloc: Global) -> RedisResult<Option<Value>> {
+        self.was_flat = match self.form {
+            Form::Tree => false,
+            Form::Flat => true,
+            Form::ByTurns => !self.was_flat,
+        };
+        if !self.was_flat {
+            return self.parser.take_value();
+        }
+        if !self.parser.take_flat(&mut self.reply)? {
+            return Ok(None);
+        }
+        self.value_of_reply(alloc)
+    }
+
+    /// The value that the flat reply is read back as, if the reply is that value's.
+    fn value_of_reply(&self, alloc: Global) -> RedisResult<Option<Value>> {
+        let value = self.reply.to_value(alloc)?;
+        let mut flat = FlatReply::new(alloc);
+        flat.append(&value)?;
+        let tokens = flat.tokens.as_slice() == self.reply.tokens.as_slice();
+        if tokens && flat.text.as_slice() == self.reply.text.as_slice() {
+            return Ok(Some(value));
+        }
+        Err(RedisError::from((ErrorKind::Client, "another flat reply")))
+    }
+
     /// Adds the next value, if it is whole, or the fault. Whether there was a value.
     fn take(&mut self, alloc: Global) -> RedisResult<bool> {
-        match self.parser.take_value() {
+        match self.next(alloc) {
             Ok(Some(value)) => {
                 add_part(&mut self.text, format!(in alloc; "{value:?}")?.as_str())?;
                 Ok(true)
@@ -207,9 +259,9 @@ fn shown_in_pieces(alloc: Global, limits: Limits, pieces: &[&[u8]]) -> RedisResu
     taken.end()
 }
 
-/// What the bytes show, one at a time.
-fn shown_singly(alloc: Global, limits: Limits, bytes: &[u8]) -> RedisResult<String> {
-    let mut taken = Taken::new(alloc, limits)?;
+/// What the bytes show, one at a time, where values are asked for in this form.
+fn shown_as(alloc: Global, limits: Limits, form: Form, bytes: &[u8]) -> RedisResult<String> {
+    let mut taken = Taken::of_form(alloc, limits, form)?;
     for single in bytes.chunks(1) {
         taken.feed(alloc, single)?;
     }

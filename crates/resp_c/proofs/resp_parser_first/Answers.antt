@@ -5,11 +5,13 @@ use Rattle.resp_c.proofs.resp_parser_first.Goals as goal
 
 pub returns-clause-first : goal.returns-clause-first
 returns-clause-first c =
+    let did = c.first-status.ensures in
+    let same = c.deref_mut.ensures.value in
     Called.held c.in-Some.session.value c.first-status.new.self (sym c.in-Some.ensures.session) c.put.ensures (record {
-      first = c.first-status.ensures.first;
-      empty = c.first-status.ensures.empty;
-      parser = c.first-status.ensures.parser ∙ ap (λ (s : Session). s.parser) c.deref_mut.ensures.value;
-      lost = c.first-status.ensures.lost ∙ ap (λ (s : Session). s.lost) c.deref_mut.ensures.value;
+      first = did.first;
+      empty = did.empty;
+      parser = did.parser ∙ ap (λ (s : Session). s.parser) same;
+      fault = λ no. let stays = did.fault no in (stays.0 ∙ ap (λ (s : Session). s.fault) same, stays.1 ∙ ap (λ (s : Session). s.place) same);
     })
 
 pub returns-clause-shown : goal.returns-clause-shown

@@ -4,6 +4,7 @@ use Rattle.resp_parse.proofs.Prefixes.{law_of_prefixes}
 use Rattle.resp_encode.specs.FlatLaw.{LawOfFlatReplies}
 use Rattle.resp_encode.proofs.EncodedSpells.{encoding-spells}
 use Rattle.resp_encode.proofs.FlatWires.{same-spelling}
+use Rattle.resp_parse.proofs.ReadableValues.{spelled-readable}
 use Rattle.resp_encode.proofs.laws.law_of_flat_replies.Goals as goal
 
 law : (d : ℕ) (v w : Value) → LawOfFlatReplies d v w
@@ -12,4 +13,4 @@ law d v w = λ b c e f tokens text.
     ((law_of_prefixes d b [] b []).values v w refl (encoding-spells d b v e) (encoding-spells d b w (f ∙ ap Some (sym same)))).1
 
 pub returns : goal.returns
-returns c = record { law = law }
+returns c = record { law = law; readable = spelled-readable }

@@ -7,5 +7,6 @@ use Rattle.resp_c.proofs.session.Session.feed.Goals as goal
 pub returns-then-is_err : goal.returns-then-is_err
 returns-then-is_err c =
     let s = c.args.self.now in
-    let same = feed_refused s.parser c.feed.new.self c.args.bytes.now c.feed.result (works_unless s c.if-has_failed.ensures.failed).parser c.feed.ensures.feeds (search rules) in
-    record { fed = Fed.memory refl (ap (λ (p : State). record { parser = p; reply = s.reply; fault = s.fault; place = s.place; lost = s.lost }) same) }
+    let works = works_unless s c.if-is_failed.ensures.failed in
+    let same = feed_refused s.parser c.feed.new.self c.args.bytes.now c.feed.result works c.feed.ensures.feeds (search rules) in
+    record { fed = Fed.memory refl works (ap (λ (p : State). record { parser = p; reply = s.reply; fault = s.fault; place = s.place }) same) }

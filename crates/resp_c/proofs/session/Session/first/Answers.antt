@@ -1,25 +1,33 @@
-use Rattle.std.proofs.Common.{ℕ, ◌-◌, length, Ok, Some, ap, ◌∙◌, [], subst, sym}
+use Rattle.std.proofs.Common.{[], ap, sym, subst, ◌∙◌}
 use Rattle.resp_flat.specs.declared.flat_reply.FlatReply.{FlatReply}
 use Rattle.resp_c.specs.declared.session.Session.{Session}
 use Rattle.resp_c.specs.Sessions.{Holds}
-use Rattle.resp_parse.specs.Calls.{Takes}
-use Rattle.resp_c.proofs.Outcomes.{stands_works, first_value, first_noted, with_fault-keeps}
+use Rattle.resp_c.proofs.Outcomes.{stands_works, first_noted, with_fault-keeps}
 use Rattle.resp_c.proofs.session.Session.first.Goals as goal
-
-pub returns-in-Ok-Some-clause-first : goal.returns-in-Ok-Some-clause-first
-returns-in-Ok-Some-clause-first c =
-    let took : Takes c.args.bytes.now c.take_value.new.self (Ok (Some c.in-Ok-Some.value)) = rw c.in-Ok-Some.field-0-is at (c.in-Ok-Some.ensures.takes c.args.bytes.now c.in-Ok.ensures.stands) in
-    first_value _ _ _ _ _ _ _ _ took.0 (c.in-Ok-Some.ensures.limits ∙ c.in-Ok.ensures.limits ∙ c.limits.ensures.limits) (ap (λ (n : ℕ). length c.args.bytes.now - n) c.unparsed_len.ensures.unparsed) c.append.ensures.appended
 
 pub returns-clause-first : goal.returns-clause-first
 returns-clause-first c =
-    let took = c.in-Err.ensures.takes c.args.bytes.now c.in-Ok.ensures.stands in
-    first_noted c.take_value.new.self.limits _ _ _ _ c.in-Err.error c.take_value.new.self.fault_offset c.fault_offset.result _ took.0 (c.in-Err.ensures.limits ∙ c.in-Ok.ensures.limits ∙ c.limits.ensures.limits)
+    let took = (c.in-Err.ensures.takes c.args.bytes.now c.in-Ok.ensures.stands).0 in
+    first_noted c.take_flat.new.self.limits _ _ _ _ c.in-Err.error c.take_flat.new.self.fault_offset c.fault_offset.result _ took.0 (c.in-Err.ensures.limits ∙ c.in-Ok.ensures.limits ∙ c.limits.ensures.limits)
     (c.in-Err.ensures.offset (stands_works _ _ c.in-Ok.ensures.stands)) c.fault_offset.ensures.offset
     (c.fault_offset.ensures.shows c.args.bytes.now took.1) c.unwrap_or.ensures c.note.ensures.status c.note.ensures.noted
 
 pub returns-clause-empty : goal.returns-clause-empty
 returns-clause-empty c = λ none.
     let s = c.args.self.now in
-    let keeps = with_fault-keeps c.in-Err.error c.unwrap_or.result (record { parser = s.parser; reply = c.clear.new.self; fault = s.fault; place = s.place; lost = s.lost }) in
-    subst (λ (r : FlatReply). Holds r [] []) (sym (ap (λ (u : Session). u.reply) c.note.ensures.noted ∙ keeps.1)) (record { tokens_are = c.clear.ensures.tokens; text_is = c.clear.ensures.text })
+    let same = (c.in-Err.ensures.takes c.args.bytes.now c.in-Ok.ensures.stands).1 in
+    let keeps = with_fault-keeps c.in-Err.error c.unwrap_or.result (record { parser = s.parser; reply = c.take_flat.new.reply; fault = s.fault; place = s.place }) in
+    subst (λ (r : FlatReply). Holds r [] []) (sym (ap (λ (u : Session). u.reply) c.note.ensures.noted ∙ keeps.1 ∙ same)) (record { tokens_are = c.clear.ensures.tokens; text_is = c.clear.ensures.text })
+
+pub returns-clause-fault : goal.returns-clause-fault
+returns-clause-fault c = λ fine.
+    let s = c.args.self.now in
+    let keeps = with_fault-keeps c.in-Err.error c.unwrap_or.result (record { parser = s.parser; reply = c.take_flat.new.reply; fault = s.fault; place = s.place }) in
+    let stays = c.note.ensures.noted ∙ keeps.2 (λ is. fine (c.note.ensures.status ∙ is)) in
+    (ap (λ (u : Session). u.fault) stays, ap (λ (u : Session). u.place) stays)
+
+pub returns-clause-parser : goal.returns-clause-parser
+returns-clause-parser c =
+    let s = c.args.self.now in
+    let keeps = with_fault-keeps c.in-Err.error c.unwrap_or.result (record { parser = s.parser; reply = c.take_flat.new.reply; fault = s.fault; place = s.place }) in
+    ap (λ (u : Session). u.parser) c.note.ensures.noted ∙ keeps.0

@@ -23,7 +23,7 @@ returns-in-Ok-Some-clause-steps c =
     let l : length c.args.self.now.open_aggregates < c.args.self.now.depth = omega arith in
     rw c.in-Some.ensures.cases.0
     (header-whole c.args.self.now c.in-Some.first.now c.in-Some.after.now c.requires.no_body l c.in-Some-from_byte.kind (sym c.in-Some-from_byte.ensures.kind) c.in-Some-line_end.len c.in-Some-line_end.ensures.line
-    c.begin.new.self c.in-Ok-Some.value c.in-Ok-Some.ensures.scanned (rw c.in-Ok-Some.field-0-is at c.in-Ok-Some.ensures.goes))
+    c.begin.new.self c.in-Ok-Some.whole c.in-Ok-Some.ensures.scanned (rw c.in-Ok-Some.field-0-is at c.in-Ok-Some.ensures.goes))
 
 pub returns-in-Ok-None-clause-steps : goal.returns-in-Ok-None-clause-steps
 returns-in-Ok-None-clause-steps c =

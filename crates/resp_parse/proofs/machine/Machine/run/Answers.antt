@@ -10,6 +10,7 @@ use Rattle.resp_parse.proofs.machine.Machine.run.Goals as goal
 pub loop-at-init : goal.loop-at-init
 loop-at-init c = record {
   ran = Ran-start c.args.self.now c.args.bytes.now c.requires.depth c.requires.scanned;
+  builds = c.requires.builds;
   cost_so_far = CostSoFar-start c.args.self.now c.args.counts.now;
 }
 
@@ -33,13 +34,13 @@ returns-in-Ok-Waits-clause-cost c =
 
 pub returns-in-Ok-Some-clause-built_within : goal.returns-in-Ok-Some-clause-built_within
 returns-in-Ok-Some-clause-built_within c =
-    CostSoFar-built_within c.args.self.now c.loop-at.self c.args.counts.now c.loop-at.counts c.loop-at.at c.loop-at.invariant.cost_so_far c.step.new.self c.attach.new.self c.step.new.counts c.attach.new.counts c.args.bytes.now c.in-Ok-Whole.taken c.in-Ok-Whole.value
-    (rw c.in-Ok-Whole.field-0-is at c.in-Ok-Whole.ensures.cost) (rw c.in-Ok-Whole.field-0-is at c.in-Ok-Whole.ensures.built_within) c.in-Ok-Some.ensures.iterations c.in-Ok-Some.value (rw c.in-Ok-Some.field-0-is at c.in-Ok-Some.ensures.built_within)
+    CostSoFar-built_within c.args.self.now c.loop-at.self c.args.counts.now c.loop-at.counts c.loop-at.at c.loop-at.invariant.cost_so_far c.step.new.self c.attach.new.self c.step.new.counts c.attach.new.counts c.args.bytes.now c.in-Ok-Whole.taken c.in-Ok-Whole.whole
+    (rw c.in-Ok-Whole.field-0-is at c.in-Ok-Whole.ensures.cost) (rw c.in-Ok-Whole.field-0-is at c.in-Ok-Whole.ensures.built_within) c.in-Ok-Some.ensures.iterations c.in-Ok-Some.whole (rw c.in-Ok-Some.field-0-is at c.in-Ok-Some.ensures.built_within)
 
 pub returns-in-Ok-Some-clause-cost : goal.returns-in-Ok-Some-clause-cost
 returns-in-Ok-Some-clause-cost c =
-    CostSoFar-reads c.args.self.now c.loop-at.self c.args.counts.now c.loop-at.counts c.loop-at.at c.loop-at.invariant.cost_so_far c.step.new.self c.attach.new.self c.step.new.counts c.attach.new.counts c.args.bytes.now c.in-Ok-Whole.taken c.in-Ok-Whole.value
-    (rw c.in-Ok-Whole.field-0-is at c.in-Ok-Whole.ensures.cost) (rw c.in-Ok-Whole.field-0-is at c.in-Ok-Whole.ensures.built_within) c.in-Ok-Some.ensures.iterations c.in-Ok-Some.value c.args.bytes.now c.in-Ok-Some.ensures.places c.in-Ok-Some.ensures.scanned
+    CostSoFar-reads c.args.self.now c.loop-at.self c.args.counts.now c.loop-at.counts c.loop-at.at c.loop-at.invariant.cost_so_far c.step.new.self c.attach.new.self c.step.new.counts c.attach.new.counts c.args.bytes.now c.in-Ok-Whole.taken c.in-Ok-Whole.whole
+    (rw c.in-Ok-Whole.field-0-is at c.in-Ok-Whole.ensures.cost) (rw c.in-Ok-Whole.field-0-is at c.in-Ok-Whole.ensures.built_within) c.in-Ok-Some.ensures.iterations c.in-Ok-Some.whole c.args.bytes.now c.in-Ok-Some.ensures.places c.in-Ok-Some.ensures.scanned
 
 pub loop-at-preserved-in-Ok-Goes : goal.loop-at-preserved-in-Ok-Goes
 loop-at-preserved-in-Ok-Goes c =
@@ -47,6 +48,7 @@ loop-at-preserved-in-Ok-Goes c =
     let s : Steps c.loop-at.self (drop c.loop-at.at c.args.bytes.now) c.step.new.self (Ok (step.Goes c.in-Ok-Goes.taken)) = rw f at (rw c.in-Ok-Goes.field-0-is at c.in-Ok-Goes.ensures.steps) in
     record {
       ran = Ran-goes c.args.self.now c.loop-at.self c.args.bytes.now c.loop-at.at c.loop-at.invariant.ran c.step.new.self c.in-Ok-Goes.taken s c.in-Ok-Goes.ensures.limit c.in-Ok-Goes.ensures.depth;
+      builds = rw c.in-Ok-Goes.field-0-is at c.in-Ok-Goes.ensures.builds;
       cost_so_far = CostSoFar-goes c.args.self.now c.loop-at.self c.args.counts.now c.loop-at.counts c.loop-at.at c.loop-at.invariant.cost_so_far c.step.new.self c.step.new.counts c.args.bytes.now c.in-Ok-Goes.taken (rw c.in-Ok-Goes.field-0-is at c.in-Ok-Goes.ensures.cost) (rw c.in-Ok-Goes.field-0-is at c.in-Ok-Goes.ensures.built_within);
     }
 
@@ -59,15 +61,16 @@ returns-in-Ok-Waits-clause-runs c =
 pub returns-in-Ok-Some-clause-runs : goal.returns-in-Ok-Some-clause-runs
 returns-in-Ok-Some-clause-runs c =
     let f : take (length c.args.bytes.now - c.loop-at.at) (drop c.loop-at.at c.args.bytes.now) ≡ drop c.loop-at.at c.args.bytes.now = grind (arith, common_steps) in
-    let s : Steps c.loop-at.self (drop c.loop-at.at c.args.bytes.now) c.step.new.self (Ok (step.Whole c.in-Ok-Whole.taken c.in-Ok-Whole.value)) = rw f at (rw c.in-Ok-Whole.field-0-is at c.in-Ok-Whole.ensures.steps) in
-    Ran-reads c.args.self.now c.loop-at.self c.args.bytes.now c.loop-at.at c.loop-at.invariant.ran c.step.new.self c.attach.new.self c.in-Ok-Whole.taken c.in-Ok-Whole.value s c.in-Ok-Some.value (rw c.in-Ok-Some.field-0-is at c.in-Ok-Some.ensures.ends) c.in-Ok-Some.ensures.scanned
+    let s : Steps c.loop-at.self (drop c.loop-at.at c.args.bytes.now) c.step.new.self (Ok (step.Whole c.in-Ok-Whole.taken c.in-Ok-Whole.whole)) = rw f at (rw c.in-Ok-Whole.field-0-is at c.in-Ok-Whole.ensures.steps) in
+    Ran-reads c.args.self.now c.loop-at.self c.args.bytes.now c.loop-at.at c.loop-at.invariant.ran c.step.new.self c.attach.new.self c.in-Ok-Whole.taken c.in-Ok-Whole.whole s c.in-Ok-Some.whole (rw c.in-Ok-Some.field-0-is at c.in-Ok-Some.ensures.ends) c.in-Ok-Some.ensures.scanned
 
 pub loop-at-preserved : goal.loop-at-preserved
 loop-at-preserved c =
     let f : take (length c.args.bytes.now - c.loop-at.at) (drop c.loop-at.at c.args.bytes.now) ≡ drop c.loop-at.at c.args.bytes.now = grind (arith, common_steps) in
-    let s : Steps c.loop-at.self (drop c.loop-at.at c.args.bytes.now) c.step.new.self (Ok (step.Whole c.in-Ok-Whole.taken c.in-Ok-Whole.value)) = rw f at (rw c.in-Ok-Whole.field-0-is at c.in-Ok-Whole.ensures.steps) in
+    let s : Steps c.loop-at.self (drop c.loop-at.at c.args.bytes.now) c.step.new.self (Ok (step.Whole c.in-Ok-Whole.taken c.in-Ok-Whole.whole)) = rw f at (rw c.in-Ok-Whole.field-0-is at c.in-Ok-Whole.ensures.steps) in
     let attached = c.in-Ok-None.ensures in
     record {
-      ran = Ran-attaches c.args.self.now c.loop-at.self c.args.bytes.now c.loop-at.at c.loop-at.invariant.ran c.step.new.self c.attach.new.self c.in-Ok-Whole.taken c.in-Ok-Whole.value s (rw c.in-Ok-None.field-0-is at attached.ends) attached.scanned (attached.limit ∙ c.in-Ok-Whole.ensures.limit) attached.depth;
-      cost_so_far = CostSoFar-attaches c.args.self.now c.loop-at.self c.args.counts.now c.loop-at.counts c.loop-at.at c.loop-at.invariant.cost_so_far c.step.new.self c.attach.new.self c.step.new.counts c.attach.new.counts c.args.bytes.now c.in-Ok-Whole.taken c.in-Ok-Whole.value (rw c.in-Ok-Whole.field-0-is at c.in-Ok-Whole.ensures.cost) (rw c.in-Ok-Whole.field-0-is at c.in-Ok-Whole.ensures.built_within) attached.iterations attached.places (rw c.in-Ok-None.field-0-is at attached.built_within) attached.scanned;
+      ran = Ran-attaches c.args.self.now c.loop-at.self c.args.bytes.now c.loop-at.at c.loop-at.invariant.ran c.step.new.self c.attach.new.self c.in-Ok-Whole.taken c.in-Ok-Whole.whole s (rw c.in-Ok-None.field-0-is at attached.ends) attached.scanned (attached.limit ∙ c.in-Ok-Whole.ensures.limit) attached.depth;
+      builds = rw c.in-Ok-None.field-0-is at attached.builds;
+      cost_so_far = CostSoFar-attaches c.args.self.now c.loop-at.self c.args.counts.now c.loop-at.counts c.loop-at.at c.loop-at.invariant.cost_so_far c.step.new.self c.attach.new.self c.step.new.counts c.attach.new.counts c.args.bytes.now c.in-Ok-Whole.taken c.in-Ok-Whole.whole (rw c.in-Ok-Whole.field-0-is at c.in-Ok-Whole.ensures.cost) (rw c.in-Ok-Whole.field-0-is at c.in-Ok-Whole.ensures.built_within) attached.iterations attached.places (rw c.in-Ok-None.field-0-is at attached.built_within) attached.scanned;
     }

@@ -1,4 +1,5 @@
 use Rattle.std.proofs.Common.{length, ◌-◌}
+use Rattle.resp_parse.specs.Building.{BuildsIn}
 use Rattle.resp_parse.proofs.Running.{Ran}
 use Rattle.resp_parse.proofs.AmortisedCost.{CostSoFar}
 use Rattle.resp_parse.proofs.machine.Machine.run.Given as goal
@@ -6,6 +7,7 @@ use Rattle.resp_parse.proofs.machine.Machine.run.Given as goal
 abbrev pub invariant-loop-at : goal.invariant-loop-at
 invariant-loop-at l = record {
   ran : Ran l.fn.self l.self l.bytes l.at;
+  builds : BuildsIn l.self.builder l.self.open_aggregates l.self.body;
   cost_so_far : CostSoFar l.fn.self l.self l.fn.counts l.counts l.at;
 }
 

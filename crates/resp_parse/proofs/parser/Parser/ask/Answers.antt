@@ -40,6 +40,7 @@ invariant_of-self-in-Ok g c =
     let bytes = take c.in-Ok.n c.fill.new.buf in
     let e = c.in_ok-extend_from_slice-in-Ok.ensures.items ∙ ap (λ x. x ++ bytes) c.reserve.ensures.items in
     record {
+      builds = c.self.invariant.builds;
       consumed = fed-fits c.self.inside.buffer.items c.extend_from_slice.new.self.items bytes c.self.inside.consumed c.self.invariant.consumed e;
       limits = c.self.invariant.limits;
       depth = c.self.invariant.depth;

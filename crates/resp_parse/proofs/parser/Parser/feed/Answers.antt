@@ -1,4 +1,4 @@
-use Rattle.std.proofs.Common.{◌≡◌, ◌≤◌, ◌+◌, ◌++◌, ◌⊎◌, inl, inr, List, [], ℕ, min, take, drop, length, false, ap, sym, ◌∙◌, arith}
+use Rattle.std.proofs.Common.{subst, ◌≡◌, ◌≤◌, ◌+◌, ◌++◌, ◌⊎◌, inl, inr, List, [], ℕ, min, take, drop, length, false, ap, sym, ◌∙◌, arith}
 use Rattle.std.proofs.lemmas.Bool.Decides.{nat_tests}
 use Rattle.std.proofs.lemmas.Grind.{common_steps}
 use Rattle.std.proofs.lemmas.List.{length-take}
@@ -12,6 +12,8 @@ use Rattle.resp_parse.proofs.FilledBodies.{apart-taken, apart-none, fed-holds, f
 use Rattle.resp_parse.proofs.FaultOffsets.{Placed-working}
 use Rattle.resp_parse.proofs.CountingTaken.{CountsTaken-fed, within-limit}
 use Rattle.resp_parse.proofs.Counting.{Bounded-from_kept}
+use Rattle.resp_parse.specs.Invariant.{Invariant}
+use Rattle.resp_parse.proofs.SameMachine.{Invariant-same, Invariant-roomier}
 use Rattle.resp_parse.proofs.parser.Parser.feed.Goals as goal
 use Rattle.resp_parse.proofs.parser.Parser.feed.Goals.{then-taken_all, else-taken_all}
 
@@ -50,6 +52,7 @@ invariant_of-self-2 c =
     let examined : length direct ≤ c.min-2.result = (let l : length (take c.min-2.result c.args.bytes.now) ≡ min c.min-2.result (length c.args.bytes.now) = length-take c.min-2.result c.args.bytes.now in omega (arith, l, ap length c.split_at.ensures.front)) in
     let fits : c.self-2.inside.taken + length direct ≤ c.self-2.inside.size_limit = omega (arith, few, examined, c.min.ensures, c.min-2.ensures) in
     record {
+      builds = λ _. c.in_ok-fill.ensures.builds (c.self-2.invariant.builds w);
       consumed = fed-fits buffer c.extend_from_slice.new.self.items rest consumed c.self-2.invariant.consumed items;
       placed = Placed-working (limits_of c.self-2.inside.machine c.self-2.inside.size_limit) (limits_of c.fill.new.self c.self-2.inside.size_limit) c.self-2.inside.fault_offset c.self-2.inside.since c.append.new.self c.self-2.inside.failed w c.self-2.invariant.placed;
       limits = rw c.in_ok-fill.ensures.fills.depth c.self-2.invariant.limits;
@@ -90,3 +93,11 @@ returns-clause-rest c = λ h.
     (fed-between c.self-2.inside.machine c.fill.new.self c.self-2.inside.counts c.fill.new.counts c.receive.new.self buffer c.extend_from_slice.new.self.items c.self-2.inside.since c.append.new.self c.args.bytes.now direct rest consumed c.self-2.inside.failed
     c.self-2.invariant.consumed w c.self-2.invariant.holds c.self-2.invariant.counted c.in_ok-fill.ensures.fills apart joined items c.append.ensures (c.receive.ensures ∙ ap (λ (t : Counts). record t { received = t.received + length c.args.bytes.now }) c.call.ensures)
     (ap (λ (s : State). s.since) e ∙ IsBetweenValues-same c.args.self.now h ∙ sym (ap (λ (s : State). s.unparsed) e)))
+
+pub invariant_of-self-in_err-fill : goal.invariant_of-self-in_err-fill
+invariant_of-self-in_err-fill c =
+    let p = c.self-2.inside in
+    let fills = c.in_err-fill.ensures.fills in
+    let h = Invariant-same p c.fill.new.self fills.0 c.in_err-fill.ensures.builds c.self-2.invariant in
+    subst (λ (k : Counts). Invariant (record p { buffer = c.reserve.new.self; machine = c.fill.new.self; counts = k })) (sym fills.1)
+    (Invariant-roomier (record p { machine = c.fill.new.self }) c.reserve.new.self c.in_ok-reserve.ensures.items h)

@@ -14,6 +14,7 @@ invariant_of-result c = record {
   depth = depth-fresh c.new-2.result c.new-2.ensures.fresh;
   holds = Holds-new c.new-2.result c.new.result.items c.new-3.result c.new.ensures.items c.new-3.ensures c.new-2.ensures.fresh c.new-2.ensures.scanned;
   placed = Placed-none (limits_of c.new-2.result c.args.limits.bytes) None _ false refl;
+  builds = λ _. c.new-2.ensures.builds;
   counted = Counted-new c.new-2.result c.new.result.items c.new-4.result c.new-4.ensures c.new-2.ensures.fresh c.new-2.ensures.scanned c.new.ensures.items;
   taken = λ _. CountsTaken-fresh c.args.limits.bytes c.new-2.result (drop 0 c.new.result.items) c.new-3.result c.new-2.ensures.fresh c.new-2.ensures.scanned (c.new.ensures.items ∙ sym c.new-3.ensures);
 }

@@ -1,0 +1,3 @@
+pub mod EmptyReply
+pub mod lemmas
+pub mod Lines

@@ -1,0 +1,19 @@
+//! A body whose bytes come in pieces.
+
+use crate::seen_bytes::SeenBytes;
+use crate::shape::BodyKind;
+use resp_value::Items;
+
+/// A body whose bytes and CR LF aren't all there.
+#[derive(Drop)]
+pub(crate) struct Body {
+    pub(crate) kind: BodyKind,
+    /// How many bytes it lacks, its CR LF aside.
+    pub(crate) missing: usize,
+    /// Where its bytes begin in the text of a flat reply.
+    pub(crate) start: usize,
+    /// Its bytes; none where a flat reply has them.
+    pub(crate) bytes: Items<u8>,
+    /// Which bytes it has.
+    pub(crate) seen: SeenBytes,
+}
