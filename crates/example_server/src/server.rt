@@ -10,24 +10,7 @@ use std::io::{Read, Write};
 /// Answers the commands of a reader, until it ends or one is `QUIT`.
 pub fn serve<R: Read, W: Write>(alloc: Global, reader: &mut R, writer: &mut W) -> RedisResult<()> {
     let mut server = Server::new(alloc);
-    let mut chunk = [0; 4096];
-    for _ in 0..u64::MAX {
-        let n = reader.read(&mut chunk[..])?;
-        if n == 0 {
-            break;
-        }
-        server.parser.feed(&chunk[..n])?;
-        let replies = server.replies()?;
-        writer.write_all(replies.as_slice())?;
-        writer.flush()?;
-        if server.has_quit {
-            return Ok(());
-        }
-    }
-    if server.parser.in_progress() {
-        return Err(RedisError::from(IoKind::UnexpectedEof));
-    }
-    Ok(())
+    server.serve(reader, writer)
 }
 
 /// A server with its client.
@@ -47,6 +30,28 @@ impl Server {
             session: Session::new(alloc),
             has_quit: false,
         }
+    }
+
+    /// Answers the commands of a reader, until it ends or one is `QUIT`.
+    fn serve<R: Read, W: Write>(&mut self, reader: &mut R, writer: &mut W) -> RedisResult<()> {
+        let mut chunk = [0; 4096];
+        for _ in 0..u64::MAX {
+            let n = reader.read(&mut chunk[..])?;
+            if n == 0 {
+                break;
+            }
+            self.parser.feed(&chunk[..n])?;
+            let replies = self.replies()?;
+            writer.write_all(replies.as_slice())?;
+            writer.flush()?;
+            if self.has_quit {
+                return Ok(());
+            }
+        }
+        if self.parser.in_progress() {
+            return Err(RedisError::from(IoKind::UnexpectedEof));
+        }
+        Ok(())
     }
 
     /// The replies to the commands that the parser holds whole, up to `QUIT`.

@@ -253,38 +253,53 @@ impl Taken {
 /// What the pieces show.
 fn shown_in_pieces(alloc: Global, limits: Limits, pieces: &[&[u8]]) -> RedisResult<String> {
     let mut taken = Taken::new(alloc, limits)?;
-    for piece in pieces {
-        taken.feed(alloc, piece)?;
-    }
+    taken.feed_each(alloc, pieces)?;
     taken.end()
 }
 
 /// What the bytes show, one at a time, where values are asked for in this form.
 fn shown_as(alloc: Global, limits: Limits, form: Form, bytes: &[u8]) -> RedisResult<String> {
     let mut taken = Taken::of_form(alloc, limits, form)?;
-    for single in bytes.chunks(1) {
-        taken.feed(alloc, single)?;
-    }
+    taken.feed_singly(alloc, bytes)?;
     taken.end()
 }
 
 /// What the bytes show, from a source that gives three at a time.
 fn shown_from_source(alloc: Global, limits: Limits, bytes: &[u8]) -> RedisResult<String> {
     let mut taken = Taken::new(alloc, limits)?;
-    let mut source = Reading::new(InThrees { rest: bytes });
-    for _ in 0..u64::MAX {
-        match taken.parser.parse_from(&mut source) {
-            Ok(value) => add_part(&mut taken.text, format!(in alloc; "{value:?}")?.as_str())?,
-            Err(error) => {
-                taken.end_source(alloc, error)?;
-                break;
-            }
-        }
-    }
+    taken.read_in_threes(alloc, bytes)?;
     Ok(taken.text)
 }
 
 impl Taken {
+    /// Feeds the pieces, one after another.
+    fn feed_each(&mut self, alloc: Global, pieces: &[&[u8]]) -> RedisResult<()> {
+        for piece in pieces {
+            self.feed(alloc, piece)?;
+        }
+        Ok(())
+    }
+
+    /// Feeds the bytes one at a time.
+    fn feed_singly(&mut self, alloc: Global, bytes: &[u8]) -> RedisResult<()> {
+        for single in bytes.chunks(1) {
+            self.feed(alloc, single)?;
+        }
+        Ok(())
+    }
+
+    /// Reads the bytes from a source that gives three at a time.
+    fn read_in_threes(&mut self, alloc: Global, bytes: &[u8]) -> RedisResult<()> {
+        let mut source = Reading::new(InThrees { rest: bytes });
+        for _ in 0..u64::MAX {
+            match self.parser.parse_from(&mut source) {
+                Ok(value) => add_part(&mut self.text, format!(in alloc; "{value:?}")?.as_str())?,
+                Err(error) => return self.end_source(alloc, error),
+            }
+        }
+        Ok(())
+    }
+
     /// Adds what a source's end or a fault shows.
     fn end_source(&mut self, alloc: Global, error: RedisError) -> RedisResult<()> {
         if error.io_kind().is_none() {
