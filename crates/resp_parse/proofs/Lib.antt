@@ -13,6 +13,7 @@ pub mod FaultOffsets
 pub mod FewDigits
 pub mod FilledBodies
 pub mod HeadersInPieces
+pub mod LastHeld
 pub mod Holding
 pub mod LimitedReadings
 pub mod LineAt

@@ -14,6 +14,7 @@ ghost use Rattle.resp_parse.specs.Costs.{Iterations};
 
 use crate::body::Body;
 use crate::counter::Counter;
+use crate::held::Held;
 use crate::open_aggregates::OpenAggregate;
 use crate::read_error::ReadError;
 use crate::seen::{SeenValue, SeenValues};
@@ -49,7 +50,7 @@ pub(crate) struct Builder {
     /// The flat reply.
     pub(crate) reply: FlatReply,
     /// The value in a tree that is whole and not yet where it belongs.
-    pub(crate) value: Value,
+    pub(crate) value: Held,
 }
 
 impl Builder {
@@ -60,7 +61,7 @@ impl Builder {
         Builder {
             flat: false,
             reply: FlatReply::new(alloc),
-            value: Value::Nil,
+            value: Held::new(alloc),
         }
     }
 
@@ -82,7 +83,7 @@ impl Builder {
     {
         let whole = Whole::new(SeenValue::of(&value));
         if !self.flat {
-            self.value = value;
+            self.value.hold(value)?;
             return Ok(whole);
         }
         self.reply.append(&value)?;
@@ -98,7 +99,7 @@ impl Builder {
     {
         let whole = Whole::new(SeenValue::of(&Value::Int(n)));
         if !self.flat {
-            self.value = Value::Int(n);
+            self.value.hold(Value::Int(n))?;
             return Ok(whole);
         }
         self.reply.tokens.push(Token {
@@ -118,7 +119,7 @@ impl Builder {
             IfOk result (BuildsWhole self.new fs) }
     {
         if !self.flat {
-            self.value = simple_of(alloc, text)?;
+            self.value.hold(simple_of(alloc, text)?)?;
             return Ok(Whole::new(SeenValue::simple(text)));
         }
         if text == "OK" {
@@ -210,7 +211,7 @@ impl Builder {
         if let BodyKind::Bulk = kind {
             let value = Value::BulkString(bytes);
             let whole = Whole::new(SeenValue::of(&value));
-            self.value = value;
+            self.value.hold(value)?;
             return Ok(whole);
         }
         self.other_body(alloc, kind, bytes)

@@ -49,7 +49,7 @@ impl Form for Value {
     ) -> Result<(), AllocError> {
         let _ = whole;
         if !builder.flat {
-            *out = mem::replace(&mut builder.value, Value::Nil);
+            *out = builder.value.take();
             return Ok(());
         }
         let Ok(value) = builder.reply.to_value(alloc) else {
@@ -82,7 +82,7 @@ impl Form for FlatReply {
             return Ok(());
         }
         let mut reply = FlatReply::new(alloc);
-        reply.append(&builder.value)?;
+        reply.append(&builder.value.take())?;
         *out = reply;
         Ok(())
     }

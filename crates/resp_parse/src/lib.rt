@@ -6,6 +6,7 @@ mod builder;
 mod counter;
 mod double;
 mod form;
+mod held;
 pub mod laws;
 mod limits;
 mod line;

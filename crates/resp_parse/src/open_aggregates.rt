@@ -3,6 +3,7 @@
 ghost use Rattle.std.specs.Prelude.{◌≡◌, ◌∷◌, ◌++◌, ◌≤◌, ◌+◌, cond, [], length, OnOk};
 ghost use Rattle.resp_parse.specs.OpenAggregates.{Adds, ClosesInnermost};
 
+use crate::held::Held;
 use crate::seen::SeenValues;
 use crate::shape::ElementsKind;
 use crate::whole::Whole;
@@ -141,7 +142,7 @@ impl OpenAggregates {
         alloc: Global,
         whole: Whole,
         flat: bool,
-        value: &mut Value,
+        value: &mut Held,
     ) -> Result<Added, AllocError>
         ensures adds { Adds flat self.old value.old whole self.new result }
         ensures value { self.old ≡ [] → value.new ≡ value.old }
@@ -193,12 +194,12 @@ impl OpenAggregates {
 }
 
 /// Keeps an element, which a flat reply has itself.
-fn keep(elements: &mut Items<Value>, value: &mut Value, flat: bool) -> Result<(), AllocError>
+fn keep(elements: &mut Items<Value>, value: &mut Held, flat: bool) -> Result<(), AllocError>
     ensures { OnOk result
         (elements.new ≡ cond flat elements.old (elements.old ++ (value.old ∷ []))) }
 {
     if flat {
         return Ok(());
     }
-    elements.push(mem::replace(value, Value::Nil))
+    elements.push(value.take())
 }

@@ -1,4 +1,4 @@
-use Rattle.std.proofs.Common.{◌≡◌, arith, subst, ap, ◌∙◌, List, ℕ, Result, Ok}
+use Rattle.std.proofs.Common.{◌≡◌, arith, subst, ap, ◌∙◌, Result, Ok}
 use Rattle.resp_value.specs.declared.value.Value.{Value}
 use Rattle.resp_errors.specs.declared.kinds.FrameFault.{FrameFault}
 use Rattle.resp_parse.specs.declared.shape.Shape.TheVariants as shape

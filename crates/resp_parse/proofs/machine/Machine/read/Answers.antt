@@ -1,4 +1,4 @@
-use Rattle.std.proofs.Common.{[], refl}
+use Rattle.std.proofs.Common.{[]}
 use Rattle.resp_parse.specs.Resume.{Completes}
 use Rattle.resp_parse.proofs.Running.{Completes-some}
 use Rattle.resp_parse.proofs.machine.Machine.read.Goals as goal

@@ -2,8 +2,10 @@ use Rattle.std.proofs.Common.{◌≡◌, ◌-◌, List, ℕ, length, take, drop,
 use Rattle.std.proofs.lemmas.Grind.{common_steps}
 use Rattle.resp_parse.specs.declared.machine.Machine.{Machine}
 use Rattle.resp_parse.specs.Resume.{EndsBody}
+use Rattle.resp_parse.specs.Costs.{body_least_bytes}
 use Rattle.resp_parse.proofs.BodiesInPieces.{body-waits, body-malformed, body-refused, body-whole, IsScanned-body}
 use Rattle.resp_parse.proofs.BuiltSoFar.{builds-body}
+use Rattle.resp_parse.proofs.Sizes.{body-small}
 use Rattle.resp_parse.proofs.machine.Machine.step.Goals as goal
 
 pub returns-in-Err-clause-steps : goal.returns-in-Err-clause-steps
@@ -34,3 +36,11 @@ returns-in-Ok-clause-steps c =
     (IsScanned-body c.args.self.now c.in-Some.body c.args.bytes.now c.in-Some.is c.requires.scanned)
     (subst (λ (s : List ℕ). EndsBody s (Ok true)) x (rw c.in-Ok-true.field-0-test at c.in-Ok-true.ensures.end))
     _ refl c.in-Ok.whole (c.in-Ok.ensures.value c.args.self.now.open_aggregates (c.in_ok-taken.ensures.builds c.args.self.now.open_aggregates (builds-body c.args.self.now c.in-Some.body c.in-Some.is c.requires.builds)))
+
+-- a body is one value, for which its header counted
+pub returns-in-Ok-clause-built_within : goal.returns-in-Ok-clause-built_within
+returns-in-Ok-clause-built_within c =
+    let value = c.in-Ok.ensures.value c.args.self.now.open_aggregates (c.in_ok-taken.ensures.builds c.args.self.now.open_aggregates (builds-body c.args.self.now c.in-Some.body c.in-Some.is c.requires.builds)) in
+    let one = body-small _ _ _ value in
+    let before : body_least_bytes c.args.self.now.body ≡ 3 = ap body_least_bytes c.in-Some.is in
+    omega (arith, one, before)
