@@ -12,7 +12,7 @@
  *   4. It uses a handle in one thread at a time. Where another thread goes on with it, a lock, the
  *      start or the end of a thread or a sequentially consistent atomic stands between their calls.
  *   5. It never passes NULL. Where a length is 0, the pointer may be any that isn't NULL.
- *   6. A pointer leads to as many bytes, or sizes, as the length beside it says. They may be read,
+ *   6. A pointer leads to as many bytes, sizes or tokens as the length beside it says. They may be read,
  *      those of `out` may be written, and nothing else writes them during the call.
  *   7. What a call writes (handle, view, size, `out`) overlaps nothing else that it is passed.
  *   8. It uses what a view shows until the next call with the same handle, whichever that is, and
@@ -47,7 +47,7 @@ enum resp_status {
     RESP_FAILED = 4, /* The parser failed in an earlier call: close it. */
     RESP_CLOSED = 5, /* No parser is open in this handle. */
     RESP_ROOM = 6,   /* The buffer is too small. */
-    RESP_RANGE = 7   /* A limit or a size is out of range. */
+    RESP_RANGE = 7   /* A limit, a size or a reply is out of range. */
 };
 
 /* The kind of a token, in a uint8_t. */
@@ -223,6 +223,23 @@ uint32_t resp_pack(const uint8_t *args, size_t args_size, const size_t *sizes, s
 uint32_t resp_pack_pipeline(const uint8_t *args, size_t args_size, const size_t *sizes,
                             size_t size_count, const size_t *counts, size_t command_count,
                             bool atomic, uint8_t *out, size_t room, size_t *size);
+
+/*
+ * Encodes one reply, as a server sends it. Its tokens and its text are those of one value, laid out
+ * as in a view: tokens in preorder, the bytes of leaves one after another, and each `start` where
+ * they begin. `protocol` is 3, or 2 for a client of RESP2: what RESP2 lacks is then sent in its
+ * types, as a map by an array of keys and values, and attributes are left out. A value may have
+ * 1000 levels.
+ *
+ * RESP_DONE    the first *size bytes of `out` are the reply, and no byte after them was written
+ * RESP_ROOM    the reply has *size bytes, more than `room`; `out` is as it was
+ * RESP_RANGE   the tokens and the text are not those of one value, no bytes spell it (a line with
+ *              CR LF in it, say), or `protocol` is another number; *size is 0, and `out` is as it was
+ * RESP_MEMORY  memory ran out; *size is 0, and `out` is as it was
+ */
+uint32_t resp_encode_reply(const resp_token *tokens, size_t token_count, const uint8_t *text,
+                           size_t text_size, uint32_t protocol, uint8_t *out, size_t room,
+                           size_t *size);
 
 /* The version of the library: major << 16 | minor << 8 | patch. */
 uint32_t resp_version(void);

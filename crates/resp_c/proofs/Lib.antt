@@ -3,3 +3,4 @@ pub mod Bools
 pub mod Cutting
 pub mod Outcomes
 mod Sent
+pub mod Tokens

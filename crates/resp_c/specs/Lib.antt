@@ -1,5 +1,6 @@
 pub mod Calls
 pub mod Held
 pub mod Packing
+pub mod Replies
 pub mod Sessions
 pub mod Views

@@ -6,20 +6,25 @@ ghost use Rattle.resp_parse.specs.Limits.{usual};
 ghost use Rattle.resp_c.specs.Calls.{Called, Opened, Shown, Told, FirstRead, FaultIs};
 ghost use Rattle.resp_c.specs.Sessions.{Fed, Next, StateIs};
 ghost use Rattle.resp_c.specs.Packing.{PackedInto, FitBoth, total, cuts, request_of};
+ghost use Rattle.resp_c.specs.Replies.{EncodedInto};
 ghost use Rattle.resp_command.specs.Packed.{packed_or_none};
 
+mod encoding;
 mod handle;
 mod packing;
 mod parts;
 mod session;
 mod slot;
 mod status;
+mod token;
 mod view;
 
+use crate::encoding::encode;
 use crate::handle::RespParser;
 use crate::packing::{give, pack, pack_pipeline};
 use crate::session::Session;
 use crate::status::{CLOSED, DONE, MEMORY, RANGE};
+use crate::token::RespToken;
 use crate::view::RespView;
 use resp_parse::Limits;
 use std::alloc::Global;
@@ -198,6 +203,26 @@ pub extern "C" fn resp_pack_pipeline(
 {
     *size = 0;
     match pack_pipeline(alloc, args, sizes, counts, atomic) {
+        Ok(bytes) => give(bytes.as_slice(), out, size),
+        Err(status) => status,
+    }
+}
+
+/// Encodes a reply, as a server sends it: its tokens in preorder, and the bytes of its leaves. `size`
+/// is how many bytes it has.
+#[unsafe(no_mangle)]
+pub extern "C" fn resp_encode_reply(
+    alloc: Global,
+    tokens: &[RespToken],
+    text: &[u8],
+    protocol: u32,
+    out: &mut [u8],
+    size: &mut usize,
+) -> u32
+    ensures encoded { EncodedInto protocol tokens.now text.now out.old out.new size.new result }
+{
+    *size = 0;
+    match encode(alloc, tokens, text, protocol) {
         Ok(bytes) => give(bytes.as_slice(), out, size),
         Err(status) => status,
     }

@@ -1,7 +1,10 @@
-use Rattle.std.proofs.Common.{[], ap, sym, subst, ◌∙◌}
+use Rattle.std.proofs.Common.{◌≡◌, ◌+◌, [], length, refl, ap, sym, subst, ◌∙◌, arith}
+use Rattle.std.proofs.lemmas.List.{length-append}
+use Rattle.resp_parse.specs.declared.limits.Limits.{Limits}
+use Rattle.resp_parse.specs.Limited.{HasValue}
 use Rattle.resp_flat.specs.declared.flat_reply.FlatReply.{FlatReply}
 use Rattle.resp_c.specs.declared.session.Session.{Session}
-use Rattle.resp_c.specs.Sessions.{Holds}
+use Rattle.resp_c.specs.Sessions.{Holds, FirstOf}
 use Rattle.resp_c.proofs.Outcomes.{stands_works, first_noted, with_fault-keeps}
 use Rattle.resp_c.proofs.session.Session.first.Goals as goal
 
@@ -31,3 +34,18 @@ returns-clause-parser c =
     let s = c.args.self.now in
     let keeps = with_fault-keeps c.in-Err.error c.unwrap_or.result (record { parser = s.parser; reply = c.take_flat.new.reply; fault = s.fault; place = s.place }) in
     ap (λ (u : Session). u.parser) c.note.ensures.noted ∙ keeps.0
+
+pub returns-in-Ok-true-clause-first : goal.returns-in-Ok-true-clause-first
+returns-in-Ok-true-clause-first c =
+    let took = rw c.in-Ok-true.field-0-test at (c.in-Ok-true.ensures.takes c.args.bytes.now c.in-Ok.ensures.stands) in
+    let within = c.in-Ok-true.ensures.limits ∙ c.in-Ok.ensures.limits ∙ c.limits.ensures.limits in
+    let rest = c.take_flat.new.self.unparsed in
+    let spelled = took.1.1.0 in
+    let size : length c.args.bytes.now ≡ length spelled.prefix + length rest = ap length spelled.whole ∙ length-append spelled.prefix rest in
+    FirstOf.value refl (record {
+      value = took.0;
+      rest = rest;
+      spelled = subst (λ (l : Limits). HasValue l c.args.bytes.now took.0 rest) within spelled;
+      reply = took.1.0;
+      taken_is = omega (arith, size, c.unparsed_len.ensures.unparsed);
+    })
