@@ -41,6 +41,7 @@ impl Form for Value {
 
     ghost shows = { λ form v. form ≡ v };
 
+    #[inline(always)]
     fn put(
         alloc: Global,
         builder: &mut Builder,

@@ -359,6 +359,7 @@ impl Machine {
     }
 
     /// The same, with a whole value put in its place in the form that is wanted.
+    #[inline(always)]
     pub(crate) fn read<T: Form>(
         &mut self,
         alloc: Global,
