@@ -155,6 +155,27 @@ fn parsers(rt: HostRuntime) {
     took_none(&rt);
 }
 
+/// The parser gives six values more.
+fn gives_six(rt: &impl Test, parser: &mut Parser) {
+    for _ in 0..6 {
+        let value = parser.take_value().expect(rt, "no refusal");
+        assert!(rt; value.is_some());
+    }
+}
+
+/// Once a parser has given a value, those without parts take no memory.
+#[test]
+fn later_values(rt: HostRuntime) {
+    let mut parser = Parser::new(rt.alloc());
+    let bytes = b":1\r\n:2\r\n_\r\n:3\r\n+OK\r\n:4\r\n:5\r\n";
+    parser.feed(bytes).expect(&rt, "no refusal");
+    let first = parser.take_value().expect(&rt, "no refusal");
+    assert!(rt; first.is_some());
+    refuse_all(rt.alloc());
+    gives_six(&rt, &mut parser);
+    took_none(&rt);
+}
+
 #[test]
 fn flat_replies(rt: HostRuntime) {
     let mut flat = FlatReply::new(rt.alloc());
