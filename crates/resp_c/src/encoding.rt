@@ -4,7 +4,8 @@ ghost use Rattle.std.specs.Prelude.{◌≡◌, IfOk, IfErr, IsSome, Some};
 ghost use Rattle.resp_value.specs.declared.value.Value.{Value};
 ghost use Rattle.resp_encode.specs.Encodings.{encoding_in};
 ghost use Rattle.resp_c.specs.Packing.{Refuses};
-ghost use Rattle.resp_c.specs.Replies.{AreTokens, CanSend, HoldsGiven, IsGiven, Sends, refusal_status, version_of};
+ghost use Rattle.resp_c.specs.Replies.{AreTokens, CanSend, HoldsGiven, IsGiven, Sends};
+ghost use Rattle.resp_c.specs.Replies.{refusal_status, version_of};
 
 use crate::status::{MEMORY, RANGE};
 use crate::token::RespToken;
