@@ -229,7 +229,8 @@ uint32_t resp_pack_pipeline(const uint8_t *args, size_t args_size, const size_t 
  * as in a view: tokens in preorder, the bytes of leaves one after another, and each `start` where
  * they begin. `protocol` is 3, or 2 for a client of RESP2: what RESP2 lacks is then sent in its
  * types, as a map by an array of keys and values, and attributes are left out. A value may have
- * 1000 levels.
+ * 1000 levels. The simple string OK is a RESP_OKAY, as in a view; a RESP_SIMPLE_STRING of this text
+ * is refused.
  *
  * RESP_DONE    the first *size bytes of `out` are the reply, and no byte after them was written
  * RESP_ROOM    the reply has *size bytes, more than `room`; `out` is as it was

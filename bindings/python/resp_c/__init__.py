@@ -1,7 +1,7 @@
-"""A RESP (Redis protocol) parser and command packer over the C library of `resp_core`, in which every
-function is proved to meet its contract. This wrapper isn't proved.
+"""A RESP (Redis protocol) parser, command packer and reply encoder over the C library of `resp_core`, in
+which every function is proved to meet its contract. This wrapper isn't proved.
 
->>> from resp_c import MORE, Parser, pack
+>>> from resp_c import MORE, Parser, encode, pack
 >>> pack("GET", "key")
 b'*2\\r\\n$3\\r\\nGET\\r\\n$3\\r\\nkey\\r\\n'
 >>> parser = Parser()
@@ -11,8 +11,11 @@ True
 >>> parser.feed(b"\\r\\n")
 >>> parser.next()
 [b'hello', 7]
+>>> encode([b"hello", 7])
+b'*2\\r\\n$5\\r\\nhello\\r\\n:7\\r\\n'
 """
 
+from ._encoding import encode
 from ._errors import Fault, IncompleteError, ParserFailedError, ProtocolError, RespError
 from ._packing import Argument, pack, pack_pipeline, version
 from ._parser import MORE, More, Parser, State, parse_one
@@ -38,6 +41,7 @@ __all__ = [
     "State",
     "Value",
     "Verbatim",
+    "encode",
     "pack",
     "pack_pipeline",
     "parse_one",

@@ -17,6 +17,26 @@ ROOM = 6
 RANGE = 7
 
 
+class Kind:
+    """The numbers of the kinds of tokens."""
+
+    NIL = 0
+    OKAY = 1
+    INT = 2
+    SIMPLE_STRING = 3
+    BULK_STRING = 4
+    ARRAY = 5
+    MAP = 6
+    ATTRIBUTE = 7
+    SERVER_ERROR = 8
+    BOOLEAN = 9
+    DOUBLE = 10
+    BIG_NUMBER = 11
+    SET = 12
+    VERBATIM_STRING = 13
+    PUSH = 14
+
+
 class Handle(ctypes.Structure):
     """A parser. All zero until it is opened, and never copied."""
 
@@ -24,7 +44,7 @@ class Handle(ctypes.Structure):
 
 
 class Token(ctypes.Structure):
-    """One value of a view; read as bytes."""
+    """One value of a reply. Those of a view are read as bytes."""
 
     _fields_ = [("kind", c_uint8), ("size", c_size_t), ("number", c_int64), ("start", c_size_t)]
 
@@ -71,6 +91,16 @@ _SIGNATURES = {
             *(POINTER(c_size_t), c_size_t),
             *(POINTER(c_size_t), c_size_t),
             c_bool,
+            *(c_char_p, c_size_t),
+            POINTER(c_size_t),
+        ],
+    ),
+    "resp_encode_reply": (
+        c_uint32,
+        [
+            *(POINTER(Token), c_size_t),
+            *(c_char_p, c_size_t),
+            c_uint32,
             *(c_char_p, c_size_t),
             POINTER(c_size_t),
         ],

@@ -3,19 +3,17 @@
 from __future__ import annotations
 
 import ctypes
-from typing import TYPE_CHECKING, Callable, Iterable, List, Sequence, Sized, Union
+from typing import TYPE_CHECKING, Iterable, List, Sequence, Sized, Union
 
-from . import _library
 from ._library import library
+from ._output import FRAME, written
 
 Argument = Union[bytes, bytearray, memoryview, str, int, float]
 """An argument of a command. Text is sent as UTF-8, and a number as Python writes it."""
 
 if TYPE_CHECKING:
-    _Buffer = ctypes.Array[ctypes.c_char]
+    from ._output import Buffer
 
-# The most bytes before and after an argument or a command: a type byte, 20 digits, and CR LF twice.
-_FRAME = 25
 # The bytes of MULTI and EXEC.
 _TRANSACTION = 29
 
@@ -29,13 +27,13 @@ def pack(*args: Argument) -> bytes:
     encoded = [_encoded(arg) for arg in args]
     joined, sizes = b"".join(encoded), _sizes(encoded)
 
-    def packer(out: _Buffer, size: ctypes.c_size_t) -> int:
+    def packer(out: Buffer, size: ctypes.c_size_t) -> int:
         status: int = library.resp_pack(
             *(joined, len(joined)), *(sizes, len(encoded)), *(out, len(out)), size
         )
         return status
 
-    return _written(len(joined) + _FRAME * (len(encoded) + 1), packer)
+    return written(len(joined) + FRAME * (len(encoded) + 1), packer)
 
 
 def pack_pipeline(commands: Iterable[Iterable[Argument]], atomic: bool = False) -> bytes:
@@ -50,7 +48,7 @@ def pack_pipeline(commands: Iterable[Iterable[Argument]], atomic: bool = False) 
     joined, sizes = b"".join(encoded), _sizes(encoded)
     counts = _sizes(listed)
 
-    def packer(out: _Buffer, size: ctypes.c_size_t) -> int:
+    def packer(out: Buffer, size: ctypes.c_size_t) -> int:
         status: int = library.resp_pack_pipeline(
             *(joined, len(joined)),
             *(sizes, len(encoded)),
@@ -61,8 +59,8 @@ def pack_pipeline(commands: Iterable[Iterable[Argument]], atomic: bool = False) 
         )
         return status
 
-    room = len(joined) + _FRAME * (len(encoded) + len(listed)) + _TRANSACTION
-    return _written(room, packer)
+    room = len(joined) + FRAME * (len(encoded) + len(listed)) + _TRANSACTION
+    return written(room, packer)
 
 
 def version() -> str:
@@ -95,17 +93,3 @@ def _sizes(parts: Sequence[Sized]) -> ctypes.Array[ctypes.c_size_t]:
     """The length of each part; one more place than parts, so that it is never empty."""
     sizes = [len(part) for part in parts]
     return (ctypes.c_size_t * (len(sizes) + 1))(*sizes)
-
-
-def _written(room: int, packer: Callable[[_Buffer, ctypes.c_size_t], int]) -> bytes:
-    """What a packer writes, which is called again where the room isn't enough."""
-    size = ctypes.c_size_t()
-    status = _library.ROOM
-    while status == _library.ROOM:
-        out = ctypes.create_string_buffer(max(room, 1))
-        status = packer(out, size)
-        room = size.value
-    if status == _library.MEMORY:
-        raise MemoryError
-    assert status == _library.DONE, status
-    return ctypes.string_at(out, size.value)

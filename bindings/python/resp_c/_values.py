@@ -7,6 +7,8 @@ import struct
 from dataclasses import dataclass
 from typing import Any, Callable, Dict, Hashable, List, Optional, Tuple, Union
 
+from ._library import Kind
+
 
 class Double(float):
     """A double; `text` is how the server wrote it."""
@@ -182,24 +184,23 @@ def _verbatim(text: bytes) -> Verbatim:
     return Verbatim(shown, text_format)
 
 
-# By the numbers of the kinds in the C interface.
 _LEAVES: Dict[int, Callable[[bytes, int], Any]] = {
-    0: lambda text, number: None,
-    1: lambda text, number: "OK",
-    2: lambda text, number: number,
-    3: lambda text, number: text.decode(),
-    4: lambda text, number: text,
-    8: lambda text, number: _server_error(text),
-    9: lambda text, number: number == 1,
-    10: lambda text, number: Double(text.decode()),
-    11: lambda text, number: _big_number(text),
-    13: lambda text, number: _verbatim(text),
+    Kind.NIL: lambda text, number: None,
+    Kind.OKAY: lambda text, number: "OK",
+    Kind.INT: lambda text, number: number,
+    Kind.SIMPLE_STRING: lambda text, number: text.decode(),
+    Kind.BULK_STRING: lambda text, number: text,
+    Kind.SERVER_ERROR: lambda text, number: _server_error(text),
+    Kind.BOOLEAN: lambda text, number: number == 1,
+    Kind.DOUBLE: lambda text, number: Double(text.decode()),
+    Kind.BIG_NUMBER: lambda text, number: _big_number(text),
+    Kind.VERBATIM_STRING: lambda text, number: _verbatim(text),
 }
 
 _AGGREGATES: Dict[int, Callable[[List[Any], int], Any]] = {
-    5: _take,
-    6: _take_pairs,
-    7: _attribute,
-    12: lambda made, size: Set(_take(made, size)),
-    14: _push,
+    Kind.ARRAY: _take,
+    Kind.MAP: _take_pairs,
+    Kind.ATTRIBUTE: _attribute,
+    Kind.SET: lambda made, size: Set(_take(made, size)),
+    Kind.PUSH: _push,
 }

@@ -1,4 +1,4 @@
-"""The examples of the doc comments, and the one of README.md."""
+"""The examples of the doc comments, and those of README.md."""
 
 import doctest
 import pathlib
@@ -6,23 +6,25 @@ import re
 import unittest
 
 import resp_c
-from resp_c import _packing, _parser
+from resp_c import _encoding, _packing, _parser
 
 README = pathlib.Path(__file__).resolve().parent.parent / "README.md"
 
 
 def load_tests(loader, tests, pattern):
-    for module in [resp_c, _parser, _packing]:
+    for module in [resp_c, _parser, _packing, _encoding]:
         tests.addTests(doctest.DocTestSuite(module))
     return tests
 
 
 class Readme(unittest.TestCase):
-    def test_the_example_runs(self):
-        example = re.search(r"```python\n(.*?)```", README.read_text("utf-8"), re.S)
+    def test_the_examples_run(self):
+        examples = re.findall(r"```python\n(.*?)```", README.read_text("utf-8"), re.S)
         printed = []
-        exec(example[1], {"print": printed.append})
-        self.assertEqual(printed, [[b"hello", 7], 1, 2])
+        for example in examples:
+            exec(example, {"print": printed.append})
+        sent = [b"%1\r\n+hits\r\n:42\r\n", b"*2\r\n+hits\r\n:42\r\n"]
+        self.assertEqual(printed, [[b"hello", 7], 1, 2, *sent])
 
 
 if __name__ == "__main__":

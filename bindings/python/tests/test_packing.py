@@ -2,7 +2,7 @@
 
 import unittest
 
-from resp_c import Double, _packing, pack, pack_pipeline, parse_one
+from resp_c import Double, _output, _packing, pack, pack_pipeline, parse_one
 
 
 class Pack(unittest.TestCase):
@@ -31,7 +31,7 @@ class Pack(unittest.TestCase):
             return _packing.library.resp_pack(b"PING", 4, sizes, 1, out, len(out), size)
 
         for room in [0, 1, 13, 14, 15]:
-            self.assertEqual(_packing._written(room, packer), b"*1\r\n$4\r\nPING\r\n")
+            self.assertEqual(_output.written(room, packer), b"*1\r\n$4\r\nPING\r\n")
 
     def test_many_long_arguments(self):
         args = [b"x" * n for n in range(1000)]

@@ -1,6 +1,8 @@
-"""The rows of `crates/resp_vectors` that speak of what this package has: `read`, `cut` and `limits` of
-replies, `pack` and `pipeline` of commands. ROWS.md there says how a row is written. The rows with
-cursor arguments (`@N`) are left out, since the C interface has none, and so are those of other tasks.
+"""The rows of `crates/resp_vectors` that speak of what this package has: `read`, `cut`, `limits` and
+`encode` of replies, `pack` and `pipeline` of commands. ROWS.md there says how a row is written. The rows
+with cursor arguments (`@N`) are left out, since the C interface has none, and so are those of other
+tasks, and two of `encode`, whose big numbers are `int`s that are sent in other bytes. Each reply of a
+row is sent and read again, too.
 """
 
 import collections
@@ -22,8 +24,10 @@ from resp_c import (
     ServerError,
     Set,
     Verbatim,
+    encode,
     pack,
     pack_pipeline,
+    parse_one,
 )
 
 DATA = pathlib.Path(__file__).resolve().parents[3] / "crates" / "resp_vectors" / "data"
@@ -217,6 +221,26 @@ def read_by_first(data, **limits):
     return escaped(" ".join(parts))
 
 
+def values_of(data, **limits):
+    """The values of these bytes, up to a fault or to the end of those that are whole."""
+    with Parser(**limits) as parser:
+        parser.feed(data)
+        try:
+            yield from parser
+        except ProtocolError:
+            return
+
+
+BIG_NUMBER = re.compile(rb"\(([+-]?[0-9]+)\r\n")
+
+
+def is_sent_as_read(data):
+    """Whether no big number of these bytes is an `int` that is sent in other bytes: as an integer, or
+    without a sign and zeros before it."""
+    numbers = BIG_NUMBER.findall(data)
+    return not any(-(2**63) <= int(it) < 2**63 or b"%d" % int(it) != it for it in numbers)
+
+
 def is_cursor(word):
     return word.startswith(b"@")
 
@@ -249,6 +273,43 @@ class Rows(unittest.TestCase):
             for cut in range(1, len(data)):
                 pieces = [data[:cut], data[cut:]]
                 self.assertEqual(read(pieces, **limits), wanted, f"{row.place} cut at {cut}")
+        for value in values_of(data, **limits):
+            self.check_sent(row, value)
+
+    def check_sent(self, row, value):
+        """What is sent in RESP3 is read as the same reply; and what is sent in RESP2 is sent again as it
+        is."""
+        resp3 = encode(value)
+        again, taken = parse_one(resp3, depth=1000)
+        self.assertEqual(taken, len(resp3), row.place)
+        self.assertEqual(shown(again), shown(value), row.place)
+        self.assertEqual(encode(again), resp3, row.place)
+        try:
+            resp2 = encode(value, protocol=2)
+        except ValueError:
+            self.assertIn(b"!", resp3, f"{row.place}: only an error in a body has no bytes in RESP2")
+            return
+        form, taken = parse_one(resp2, depth=1000)
+        self.assertEqual(taken, len(resp2), row.place)
+        self.assertEqual(encode(form, protocol=2), resp2, row.place)
+
+    def check_encode(self, row):
+        """Whether the row was checked: the bytes of both versions, or why there are none."""
+        try:
+            value, _ = parse_one(row.words[0])
+        except ProtocolError as error:
+            fault, _, _ = fault_shown(error).partition("@")
+            self.assertEqual(row.answer, f"refused: parse error ({fault})", row.place)
+            return True
+        self.check_sent(row, value)
+        if row.answer.startswith("refused: client error"):
+            self.assertRaises(ValueError, encode, value, protocol=2)
+            return True
+        resp3, resp2 = words_of(row.answer)
+        if not is_sent_as_read(resp3):
+            return False
+        self.assertEqual((encode(value), encode(value, protocol=2)), (resp3, resp2), row.place)
+        return True
 
     def check_limits(self, row):
         depth, size, data = row.words
@@ -272,6 +333,8 @@ class Rows(unittest.TestCase):
             self.check_reading(row, row.words[0])
         elif row.task == "limits":
             self.check_limits(row)
+        elif row.task == "encode":
+            return self.check_encode(row)
         elif row.task not in ("pack", "pipeline") or any(map(is_cursor, row.words)):
             return False
         elif row.task == "pack":
@@ -285,11 +348,12 @@ class Rows(unittest.TestCase):
         for row in rows():
             (checked if self.check(row) else skipped)[row.task] += 1
         print("rows checked:", dict(sorted(checked.items())))
-        print("rows skipped, with cursors or of other tasks:", dict(sorted(skipped.items())))
+        print("rows skipped, with cursors, of other tasks or with such numbers:", dict(sorted(skipped.items())))
         for task in ["read", "cut", "limits"]:
             self.assertTrue(checked[task] and not skipped[task], task)
-        for task in ["pack", "pipeline"]:
+        for task in ["encode", "pack", "pipeline"]:
             self.assertTrue(checked[task], task)
+        self.assertEqual(skipped["encode"], 2)
 
 
 if __name__ == "__main__":

@@ -35,6 +35,9 @@ pub enum Error {
     Failed,
     /// A limit is out of range.
     OutOfRange,
+    /// A reply can't be sent: it isn't exactly one value, or no bytes spell that value in the version
+    /// of the protocol, as a simple string with CR LF in it.
+    NoEncoding,
 }
 
 impl fmt::Display for Error {
@@ -44,6 +47,7 @@ impl fmt::Display for Error {
             Error::OutOfMemory => f.write_str("out of memory"),
             Error::Failed => f.write_str("the parser has failed before"),
             Error::OutOfRange => f.write_str("a limit is out of range"),
+            Error::NoEncoding => f.write_str("the reply has no encoding"),
         }
     }
 }

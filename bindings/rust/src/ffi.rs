@@ -87,10 +87,20 @@ extern "C" {
         room: usize,
         size: *mut usize,
     ) -> u32;
+    fn resp_encode_reply(
+        tokens: *const RawToken,
+        token_count: usize,
+        text: *const u8,
+        text_size: usize,
+        protocol: u32,
+        out: *mut u8,
+        room: usize,
+        size: *mut usize,
+    ) -> u32;
     fn resp_version() -> u32;
 }
 
-/// The tokens and the text of a reply, lent by a handle.
+/// The tokens and the text of a reply, lent by a handle or by a [`Reply`](crate::Reply).
 #[derive(Clone, Copy)]
 pub(crate) struct Lent<'a> {
     pub(crate) tokens: &'a [RawToken],
@@ -301,6 +311,28 @@ pub(crate) fn pack_pipeline(
             counts.as_ptr(),
             counts.len(),
             atomic,
+            out.as_mut_ptr(),
+            out.len(),
+            &mut size,
+        )
+    };
+    (status, size)
+}
+
+/// Encodes a reply, in the version of the protocol that has this number. Returns the status and how
+/// many bytes were written, or are needed.
+pub(crate) fn encode_reply(reply: Lent, protocol: u32, out: &mut [u8]) -> (u32, usize) {
+    let mut size = 0;
+    // SAFETY: the call asks for slices of tokens and of bytes to read, and for a slice of bytes and
+    // a number to write, none of them null; references are all that. Tokens may be any numbers. It
+    // isn't a call with a handle, so what a handle lends stays lent. It keeps no pointer.
+    let status = unsafe {
+        resp_encode_reply(
+            reply.tokens.as_ptr(),
+            reply.tokens.len(),
+            reply.text.as_ptr(),
+            reply.text.len(),
+            protocol,
             out.as_mut_ptr(),
             out.len(),
             &mut size,

@@ -1,6 +1,6 @@
-//! A RESP (Redis protocol) parser and command packer over the C library of `resp_core`, in which
-//! every function is proved to meet its contract. This wrapper isn't proved; its unsafe code is in
-//! one private module, `ffi`.
+//! A RESP (Redis protocol) parser, command packer and reply encoder over the C library of
+//! `resp_core`, in which every function is proved to meet its contract. This wrapper isn't proved;
+//! its unsafe code is in one private module, `ffi`.
 //!
 //! A [`Parser`] takes bytes in any pieces and gives whole replies, in RESP2 and RESP3. A reply is a
 //! [`View`] of memory that the parser owns: nothing is copied, and it is valid until the parser is
@@ -29,17 +29,39 @@
 //! ```
 //! assert_eq!(resp_c::pack(&["GET", "key"]), b"*2\r\n$3\r\nGET\r\n$3\r\nkey\r\n");
 //! ```
+//!
+//! A server or a mock makes a [`Reply`] and encodes it, in RESP3 or in RESP2. A proxy encodes a
+//! [`View`] again, or puts parts of it into a reply:
+//!
+//! ```
+//! use resp_c::{Parser, Protocol, Reply};
+//!
+//! # fn main() -> Result<(), resp_c::Error> {
+//! let mut reply = Reply::new();
+//! reply.map(1).bulk_string("key").boolean(true);
+//! assert_eq!(reply.encode(Protocol::Resp3)?, b"%1\r\n$3\r\nkey\r\n#t\r\n");
+//!
+//! let mut parser = Parser::new()?;
+//! parser.feed(b"%1\r\n$3\r\nkey\r\n#t\r\n")?;
+//! let view = parser.next()?.expect("the reply is whole");
+//! assert_eq!(view.encode(Protocol::Resp2)?, b"*2\r\n$3\r\nkey\r\n:1\r\n");
+//! # Ok(())
+//! # }
+//! ```
 
 #![deny(missing_docs)]
 #![deny(unsafe_code)]
 
+mod encode;
 mod error;
 #[allow(unsafe_code)]
 mod ffi;
+mod output;
 mod pack;
 mod parser;
 mod view;
 
+pub use encode::{Protocol, Reply};
 pub use error::{Error, Fault};
 pub use pack::{pack, pack_pipeline, version};
 pub use parser::{Limits, Parser, State};

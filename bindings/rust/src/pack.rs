@@ -1,6 +1,7 @@
 //! Commands as the bytes that are sent.
 
 use crate::ffi::{self, status};
+use crate::output::{written, FRAME};
 
 /// The bytes of a command: its name and its arguments. No arguments give no bytes.
 ///
@@ -16,7 +17,7 @@ use crate::ffi::{self, status};
 pub fn pack<A: AsRef<[u8]>>(args: &[A]) -> Vec<u8> {
     let mut joined = Joined::default();
     joined.add(args);
-    written(joined.room(0), |out| {
+    packed(joined.room(0), |out| {
         ffi::pack(&joined.bytes, &joined.sizes, out)
     })
 }
@@ -45,7 +46,7 @@ where
         joined.add(command.as_ref());
         counts.push(command.as_ref().len());
     }
-    written(joined.room(counts.len()), |out| {
+    packed(joined.room(counts.len()), |out| {
         ffi::pack_pipeline(&joined.bytes, &joined.sizes, &counts, atomic, out)
     })
 }
@@ -60,10 +61,6 @@ pub fn version() -> (u8, u8, u8) {
     let [_, major, minor, patch] = ffi::version().to_be_bytes();
     (major, minor, patch)
 }
-
-/// The most bytes before and after an argument or a command: a type byte, 20 digits, and CR LF
-/// twice.
-const FRAME: usize = 25;
 
 /// The bytes of `MULTI` and `EXEC`.
 const TRANSACTION: usize = 29;
@@ -89,19 +86,12 @@ impl Joined {
     }
 }
 
-/// What a packer writes, which is called again where the room isn't enough.
-fn written(room: usize, packer: impl Fn(&mut [u8]) -> (u32, usize)) -> Vec<u8> {
-    let mut out = vec![0; room];
-    loop {
-        match packer(&mut out) {
-            (status::DONE, size) => {
-                out.truncate(size);
-                return out;
-            }
-            (status::ROOM, size) => out.resize(size, 0),
-            (status::MEMORY, _) => out_of_memory(out.len()),
-            (status, _) => unreachable!("status {status}"),
-        }
+/// What a packer writes.
+fn packed(room: usize, packer: impl Fn(&mut [u8]) -> (u32, usize)) -> Vec<u8> {
+    match written(room, packer) {
+        Ok(bytes) => bytes,
+        Err(status::MEMORY) => out_of_memory(room),
+        Err(status) => unreachable!("status {status}"),
     }
 }
 
@@ -110,18 +100,5 @@ fn out_of_memory(size: usize) -> ! {
     match std::alloc::Layout::array::<u8>(size) {
         Ok(layout) => std::alloc::handle_alloc_error(layout),
         Err(_) => panic!("capacity overflow"),
-    }
-}
-
-#[cfg(test)]
-mod tests {
-    use super::*;
-
-    #[test]
-    fn room_that_is_too_small_grows() {
-        for room in [0, 1, 13, 14, 15] {
-            let packed = written(room, |out| ffi::pack(b"PING", &[4], out));
-            assert_eq!(packed, b"*1\r\n$4\r\nPING\r\n");
-        }
     }
 }

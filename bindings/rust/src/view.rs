@@ -73,7 +73,7 @@ const KINDS: [Kind; 15] = [
 ];
 
 impl Kind {
-    fn of(token: &RawToken) -> Kind {
+    pub(crate) fn of(token: &RawToken) -> Kind {
         KINDS[usize::from(token.kind)]
     }
 
@@ -125,7 +125,7 @@ impl Kind {
 /// ```
 #[derive(Clone, Copy)]
 pub struct View<'a> {
-    lent: Lent<'a>,
+    pub(crate) lent: Lent<'a>,
 }
 
 impl fmt::Debug for View<'_> {
@@ -365,7 +365,7 @@ impl FusedIterator for Tokens<'_> {}
 #[derive(Clone, Copy)]
 pub struct Value<'a> {
     /// Its tokens, and maybe those of values after it: never none.
-    from: Lent<'a>,
+    pub(crate) from: Lent<'a>,
 }
 
 impl fmt::Debug for Value<'_> {
@@ -583,7 +583,7 @@ impl<'a> Value<'a> {
     }
 
     /// How many tokens it has.
-    fn token_count(&self) -> usize {
+    pub(crate) fn token_count(&self) -> usize {
         let mut values = 1;
         let mut count = 0;
         while values > 0 {

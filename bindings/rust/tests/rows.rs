@@ -1,9 +1,9 @@
-//! The rows of `crates/resp_vectors` that speak of what this crate has: `read`, `cut` and `limits`
-//! of replies, `pack` and `pipeline` of commands. ROWS.md there says how a row is written. The rows
-//! with cursor arguments (`@N`) are left out, since the C interface has none, and so are those of
-//! other tasks.
+//! The rows of `crates/resp_vectors` that speak of what this crate has: `read`, `cut`, `limits` and
+//! `encode` of replies, `pack` and `pipeline` of commands. ROWS.md there says how a row is written.
+//! The rows with cursor arguments (`@N`) are left out, since the C interface has none, and so are
+//! those of other tasks. Each reply of a row is sent and read again, too.
 
-use resp_c::{pack, pack_pipeline, Error, Kind, Limits, Parser, Value};
+use resp_c::{pack, pack_pipeline, Error, Kind, Limits, Parser, Protocol, Token, Value, View};
 use std::collections::BTreeMap;
 use std::fs;
 use std::path::{Path, PathBuf};
@@ -231,7 +231,7 @@ fn take_all(parser: &mut Parser, parts: &mut Vec<String>) -> Result<(), Error> {
     Ok(())
 }
 
-/// The same by `first`, value after value.
+/// The same by `first`, value after value, each of which is sent and read again.
 fn read_by_first(limits: Limits, mut bytes: &[u8]) -> String {
     let mut parser = Parser::with_limits(limits).expect("limits");
     let mut parts = Vec::new();
@@ -239,6 +239,7 @@ fn read_by_first(limits: Limits, mut bytes: &[u8]) -> String {
         match parser.first(bytes) {
             Ok(Some((view, taken))) => {
                 parts.push(shown(view.value()));
+                check_sent(view);
                 bytes = &bytes[taken..];
             }
             Ok(None) => {
@@ -253,6 +254,60 @@ fn read_by_first(limits: Limits, mut bytes: &[u8]) -> String {
         }
     }
     escaped(&parts.join(" "))
+}
+
+/// What is sent in RESP3 is read as the same reply. What is sent in RESP2 is of that version, and is
+/// sent in it as it is.
+fn check_sent(view: View) {
+    let resp3 = view.encode(Protocol::Resp3).expect("an encoding");
+    with_view(&resp3, |again| {
+        assert_eq!(tokens_shown(again), tokens_shown(view));
+    });
+    match view.encode(Protocol::Resp2) {
+        Ok(resp2) => with_view(&resp2, |form| {
+            assert!(form.tokens().all(is_of_resp2), "{form:?}");
+            assert_eq!(form.encode(Protocol::Resp2).as_ref(), Ok(&resp2));
+        }),
+        Err(error) => {
+            assert_eq!(error, Error::NoEncoding);
+            assert!(view.tokens().any(is_bulk_error), "{view:?}");
+        }
+    }
+}
+
+/// Looks at the value that the bytes spell.
+fn with_view(bytes: &[u8], look: impl FnOnce(View)) {
+    let limits = Limits {
+        depth: 1000,
+        ..Limits::default()
+    };
+    let mut parser = Parser::with_limits(limits).expect("limits");
+    let (view, taken) = parser.first(bytes).expect("no fault").expect("whole");
+    assert_eq!(taken, bytes.len());
+    look(view);
+}
+
+fn tokens_shown(view: View) -> String {
+    format!("{:?}", view.tokens())
+}
+
+fn is_of_resp2(token: Token) -> bool {
+    matches!(
+        token.kind(),
+        Kind::Nil
+            | Kind::Okay
+            | Kind::Int
+            | Kind::SimpleString
+            | Kind::BulkString
+            | Kind::Array
+            | Kind::ServerError
+    )
+}
+
+/// Whether it is an error that no line can hold.
+fn is_bulk_error(token: Token) -> bool {
+    let text = token.bytes().unwrap_or_default();
+    token.kind() == Kind::ServerError && text.windows(2).any(|two| two == b"\r\n")
 }
 
 /// Reads the bytes whole, one by one, value by value and cut at each place.
@@ -298,6 +353,31 @@ fn check_limits(row: &Row) {
     check_reading(row, limits, &row.words[2]);
 }
 
+fn check_encode(row: &Row) {
+    let mut parser = Parser::new().expect("limits");
+    match parser.first(&row.words[0]) {
+        Ok(Some((view, _))) => check_encoded(row, view),
+        Err(Error::Fault { fault, .. }) => {
+            let refused = format!("refused: parse error ({fault})");
+            assert_eq!(row.answer, refused, "{}", row.place);
+        }
+        other => panic!("{}: {other:?}", row.place),
+    }
+}
+
+/// The reply is sent as the row says, in RESP3 and in RESP2.
+fn check_encoded(row: &Row, view: View) {
+    check_sent(view);
+    let sent = [Protocol::Resp3, Protocol::Resp2].map(|protocol| view.encode(protocol));
+    if row.answer.starts_with("refused: client error") {
+        assert!(sent.contains(&Err(Error::NoEncoding)), "{}", row.place);
+        return;
+    }
+    let wanted = words_of(row.answer.as_bytes());
+    let sent = sent.map(|bytes| bytes.expect("an encoding"));
+    assert_eq!(sent.as_slice(), wanted, "{}", row.place);
+}
+
 /// Whether a word is a cursor argument.
 fn is_cursor(word: &[u8]) -> bool {
     word.first() == Some(&b'@')
@@ -336,6 +416,7 @@ fn check(row: &Row) -> bool {
     match row.task.as_str() {
         "read" | "cut" => check_reading(row, Limits::default(), &row.words[0]),
         "limits" => check_limits(row),
+        "encode" => check_encode(row),
         "pack" | "pipeline" if row.words.iter().any(|word| is_cursor(word)) => return false,
         "pack" => check_pack(row),
         "pipeline" => check_pipeline(row),
@@ -358,10 +439,10 @@ fn rows_hold() {
     }
     println!("rows checked: {checked:?}");
     println!("rows skipped, with cursors or of other tasks: {skipped:?}");
-    for task in ["read", "cut", "limits", "pack", "pipeline"] {
+    for task in ["read", "cut", "limits", "encode", "pack", "pipeline"] {
         assert!(checked.contains_key(task), "no row of {task}");
     }
-    for task in ["read", "cut", "limits"] {
+    for task in ["read", "cut", "limits", "encode"] {
         assert!(!skipped.contains_key(task), "a row of {task} is skipped");
     }
 }
