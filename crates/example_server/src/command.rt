@@ -1,7 +1,7 @@
 //! Commands.
 
 use crate::refusal::Refusal;
-use resp_core::{Items, ProtocolVersion};
+use resp_core::{Bytes, ProtocolVersion};
 
 /// What a client asks for.
 #[derive(Drop)]
@@ -39,7 +39,7 @@ pub enum KeyCommand {
     /// `GET key`
     Get(Vec<u8>),
     /// `SET key value` with its options.
-    Set(Vec<u8>, Items<u8>, SetOptions),
+    Set(Vec<u8>, Bytes, SetOptions),
     /// `DEL key..`
     Del(Vec<Vec<u8>>),
     /// `EXISTS key..`
@@ -49,7 +49,7 @@ pub enum KeyCommand {
     /// `EXPIRE key seconds`
     Expire(Vec<u8>),
     /// `HSET key`, with fields and their values.
-    HSet(Vec<u8>, Vec<(Vec<u8>, Items<u8>)>),
+    HSet(Vec<u8>, Vec<(Vec<u8>, Bytes)>),
     /// `HGETALL key`
     HGetAll(Vec<u8>),
 }
@@ -58,9 +58,9 @@ pub enum KeyCommand {
 #[derive(Drop)]
 pub enum ConnectionCommand {
     /// `PING [message]`
-    Ping(Option<Items<u8>>),
+    Ping(Option<Bytes>),
     /// `ECHO message`
-    Echo(Items<u8>),
+    Echo(Bytes),
     /// `HELLO [version]`: replies in this version from here on.
     Hello(Option<ProtocolVersion>),
     /// `SELECT 0`
@@ -70,7 +70,7 @@ pub enum ConnectionCommand {
     /// `CLIENT GETNAME`
     GetName,
     /// `CLIENT SETNAME name`; the empty name is none.
-    SetName(Items<u8>),
+    SetName(Bytes),
     /// `CLIENT SETINFO`, which is forgotten.
     SetInfo,
     /// `COMMAND`

@@ -5,14 +5,14 @@ ghost use Rattle.example_server.specs.Connections.{connection_after, connection_
 
 use crate::command::ConnectionCommand;
 use crate::reply::Reply;
-use resp_core::{Items, ProtocolVersion};
+use resp_core::{Bytes, ProtocolVersion};
 use std::alloc::{AllocError, Global};
 
 /// What the server knows of its client.
 #[derive(Drop)]
 pub struct Connection {
     /// The name of the client; empty where it has none.
-    pub name: Items<u8>,
+    pub name: Bytes,
     /// The version in which it is answered.
     pub protocol: ProtocolVersion,
 }
@@ -57,11 +57,11 @@ fn hello(connection: &mut Connection, version: Option<ProtocolVersion>) -> Reply
 }
 
 /// The name of the client, if it has one.
-fn name_of(alloc: Global, connection: &Connection) -> Result<Option<Items<u8>>, AllocError>
+fn name_of(alloc: Global, connection: &Connection) -> Result<Option<Bytes>, AllocError>
     ensures { IfOk result (λ name. name ≡ shown_name connection.now.name) }
 {
     if connection.name.is_empty() {
         return Ok(None);
     }
-    Ok(Some(Items::from_slice(alloc, connection.name.as_slice())?))
+    Ok(Some(Bytes::from_slice(alloc, connection.name.as_slice())?))
 }

@@ -8,7 +8,7 @@ ghost use Rattle.example_server.specs.KeyCommands.{held, fields_in, with_fields,
 use crate::refusal::Refusal;
 use crate::reply::Reply;
 use crate::store::{Entry, Fields, Store};
-use resp_core::Items;
+use resp_core::{Bytes, Items};
 use std::alloc::{AllocError, Global};
 use std::collections::BTreeMap;
 
@@ -17,7 +17,7 @@ pub fn hset(
     alloc: Global,
     store: &mut Store,
     key: Vec<u8>,
-    pairs: Vec<(Vec<u8>, Items<u8>)>,
+    pairs: Vec<(Vec<u8>, Bytes)>,
 ) -> Result<Reply, AllocError>
     ensures { IfOk result (SetsFields store.old store.new key pairs.items) }
 {
@@ -51,7 +51,7 @@ fn put_fields(
     store: &mut Store,
     key: Vec<u8>,
     fields: Fields,
-    pairs: Vec<(Vec<u8>, Items<u8>)>,
+    pairs: Vec<(Vec<u8>, Bytes)>,
 ) -> Result<Reply, AllocError>
     ensures { IfOk result (PutsFields store.old store.new key fields.entries pairs.items) }
 {
@@ -62,7 +62,7 @@ fn put_fields(
 }
 
 /// Sets fields, the last value of each, and says how many are new.
-fn set_fields(fields: &mut Fields, pairs: Vec<(Vec<u8>, Items<u8>)>) -> Result<usize, AllocError>
+fn set_fields(fields: &mut Fields, pairs: Vec<(Vec<u8>, Bytes)>) -> Result<usize, AllocError>
     ensures set { OnOk result (fields.new.entries ≡ with_fields fields.old.entries pairs.items) }
     ensures added { IfOk result (λ added. added
         ≡ length fields.new.entries - length fields.old.entries) }
@@ -86,13 +86,13 @@ pub fn hgetall(alloc: Global, store: &Store, key: &Vec<u8>) -> Result<Reply, All
 }
 
 /// The fields with their values, in the order of their bytes.
-fn copies(alloc: Global, fields: &Fields) -> Result<Items<(Items<u8>, Items<u8>)>, AllocError>
+fn copies(alloc: Global, fields: &Fields) -> Result<Items<(Bytes, Bytes)>, AllocError>
     ensures { IfOk result (λ pairs. pairs ≡ map shown fields.now.entries) }
 {
     let mut pairs = Items::new(alloc);
     for (field, value) in fields.iter() {
-        let field = Items::from_slice(alloc, field.as_slice())?;
-        pairs.push((field, Items::from_slice(alloc, value.as_slice())?))?;
+        let field = Bytes::from_slice(alloc, field.as_slice())?;
+        pairs.push((field, Bytes::from_slice(alloc, value.as_slice())?))?;
     }
     Ok(pairs)
 }

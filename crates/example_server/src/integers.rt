@@ -5,7 +5,7 @@ ghost use Rattle.std.specs.Fmt.{signed_decimal};
 ghost use Rattle.example_server.specs.Integers.{ReadsInteger};
 
 use itoa::Buffer;
-use resp_core::Items;
+use resp_core::Bytes;
 use std::alloc::{AllocError, Global};
 
 /// The integer that a server writes as these bytes: no plus sign, no leading zero, no space.
@@ -26,8 +26,8 @@ pub fn integer_of(bytes: &[u8]) -> Option<i64>
 }
 
 /// An integer as bytes.
-pub fn digits(alloc: Global, number: i64) -> Result<Items<u8>, AllocError>
+pub fn digits(alloc: Global, number: i64) -> Result<Bytes, AllocError>
     ensures { IfOk result (λ bytes. bytes ≡ signed_decimal number) }
 {
-    Items::from_slice(alloc, Buffer::new().format(number).as_bytes())
+    Bytes::from_slice(alloc, Buffer::new().format(number).as_bytes())
 }

@@ -7,7 +7,7 @@ use crate::integers::integer_of;
 use crate::names::CommandName;
 use crate::refusal::Refusal;
 use crate::set_options::set_options;
-use resp_core::{Items, ProtocolVersion};
+use resp_core::{Bytes, ProtocolVersion};
 use std::alloc::{AllocError, Global};
 
 /// The request of these words.
@@ -65,7 +65,7 @@ fn command_named(name: CommandName, arguments: Vec<Vec<u8>>) -> Option<Command> 
 fn connection_command(name: CommandName, arguments: Vec<Vec<u8>>) -> Option<Command> {
     let command = match name {
         CommandName::Ping => ConnectionCommand::Ping(at_most_one(arguments)?),
-        CommandName::Echo => ConnectionCommand::Echo(Items::from(only(arguments)?)),
+        CommandName::Echo => ConnectionCommand::Echo(Bytes::from(only(arguments)?)),
         CommandName::Hello => return Some(hello(arguments)),
         CommandName::Select => return select(arguments),
         CommandName::ClientId => none(&arguments, ConnectionCommand::Id)?,
@@ -107,10 +107,10 @@ fn only(arguments: Vec<Vec<u8>>) -> Option<Vec<u8>> {
 }
 
 /// One argument or none.
-fn at_most_one(arguments: Vec<Vec<u8>>) -> Option<Option<Items<u8>>> {
+fn at_most_one(arguments: Vec<Vec<u8>>) -> Option<Option<Bytes>> {
     let mut arguments = arguments;
     if arguments.len() <= 1 {
-        Some(arguments.pop().map(Items::from))
+        Some(arguments.pop().map(Bytes::from))
     } else {
         None
     }
@@ -128,7 +128,7 @@ fn some(arguments: Vec<Vec<u8>>) -> Option<Vec<Vec<u8>>> {
 fn set(arguments: Vec<Vec<u8>>) -> Option<Command> {
     let mut arguments = arguments.into_iter();
     let key = arguments.next()?;
-    let value = Items::from(arguments.next()?);
+    let value = Bytes::from(arguments.next()?);
     match set_options(arguments) {
         Ok(options) => Some(Command::Keys(KeyCommand::Set(key, value, options))),
         Err(refusal) => Some(Command::Refused(refusal)),
@@ -162,7 +162,7 @@ fn hset(alloc: Global, arguments: Vec<Vec<u8>>) -> Result<Option<Command>, Alloc
     for word in arguments {
         match field {
             Some(name) => {
-                fields.push((name, Items::from(word)))?;
+                fields.push((name, Bytes::from(word)))?;
                 field = None;
             }
             None => field = Some(word),
@@ -206,7 +206,7 @@ fn select(arguments: Vec<Vec<u8>>) -> Option<Command> {
 
 fn set_name(name: Vec<u8>) -> Command {
     if name.as_slice().iter().all(|byte| byte.is_ascii_graphic()) {
-        Command::Connection(ConnectionCommand::SetName(Items::from(name)))
+        Command::Connection(ConnectionCommand::SetName(Bytes::from(name)))
     } else {
         Command::Refused(Refusal::ClientName)
     }

@@ -1,7 +1,7 @@
 //! Replies.
 
 use crate::refusal::Refusal;
-use resp_core::{Items, ProtocolVersion, RedisResult, Text, Value};
+use resp_core::{Bytes, Items, ProtocolVersion, RedisResult, Text, Value};
 use std::alloc::Global;
 
 /// What a request is answered.
@@ -23,13 +23,13 @@ pub enum Reply {
     /// What was asked for is done.
     Okay,
     /// The bytes that were asked for, if there are any.
-    Found(Option<Items<u8>>),
+    Found(Option<Bytes>),
     /// How many there are.
     Count(usize),
     /// A number that was counted up.
     Integer(i64),
     /// Fields and their values.
-    Fields(Items<(Items<u8>, Items<u8>)>),
+    Fields(Items<(Bytes, Bytes)>),
     /// To `HELLO`: what the server is, in the version that was chosen.
     Greeting(ProtocolVersion),
     /// To `COMMAND`: no commands.
@@ -76,7 +76,7 @@ impl Reply {
     }
 }
 
-fn field_map(alloc: Global, fields: Items<(Items<u8>, Items<u8>)>) -> RedisResult<Value> {
+fn field_map(alloc: Global, fields: Items<(Bytes, Bytes)>) -> RedisResult<Value> {
     let mut pairs = Items::new(alloc);
     for (field, value) in fields.into_vec() {
         pairs.push((Value::BulkString(field), Value::BulkString(value)))?;
@@ -103,5 +103,5 @@ fn simple(alloc: Global, text: &str) -> RedisResult<Value> {
 }
 
 fn bulk(alloc: Global, text: &str) -> RedisResult<Value> {
-    Ok(Value::BulkString(Items::from_slice(alloc, text.as_bytes())?))
+    Ok(Value::BulkString(Bytes::from_slice(alloc, text.as_bytes())?))
 }

@@ -91,7 +91,7 @@ impl Server {
 fn words_of(alloc: Global, request: resp_core::Request) -> RedisResult<Vec<Vec<u8>>> {
     let mut words = Vec::with_capacity(alloc, request.len())?;
     for word in request.into_args() {
-        words.push(word)?;
+        words.push(word.into_vec()?)?;
     }
     Ok(words)
 }

@@ -9,7 +9,7 @@ use crate::connection::Connection;
 use crate::refusal::Refusal;
 use crate::reply::{Answer, Reply};
 use crate::state::{State, perform};
-use resp_core::{Items, ProtocolVersion};
+use resp_core::{Bytes, Items, ProtocolVersion};
 use std::alloc::{AllocError, Global};
 use std::collections::BTreeMap;
 use std::mem;
@@ -41,7 +41,7 @@ impl Session {
             state: State {
                 store: BTreeMap::new(alloc),
                 connection: Connection {
-                    name: Items::new(alloc),
+                    name: Bytes::new(alloc),
                     protocol: ProtocolVersion::RESP2,
                 },
             },

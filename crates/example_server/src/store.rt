@@ -9,7 +9,7 @@ use crate::hashes::{hgetall, hset};
 use crate::keys::{del, exists, expire};
 use crate::reply::Reply;
 use crate::strings::{get, set};
-use resp_core::Items;
+use resp_core::Bytes;
 use std::alloc::{AllocError, Global};
 use std::collections::BTreeMap;
 
@@ -20,13 +20,13 @@ pub type Store = BTreeMap<Vec<u8>, Entry>;
 #[derive(Drop)]
 pub enum Entry {
     /// A string.
-    Text(Items<u8>),
+    Text(Bytes),
     /// A hash.
     Hash(Fields),
 }
 
 /// Fields and their values.
-pub type Fields = BTreeMap<Vec<u8>, Items<u8>>;
+pub type Fields = BTreeMap<Vec<u8>, Bytes>;
 
 /// Answers a command about keys. Fails only with out of memory; the store is then as it was, but
 /// that `HSET` may have taken the hash away.

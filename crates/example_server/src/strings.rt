@@ -9,7 +9,7 @@ use crate::command::{Condition, SetOptions};
 use crate::refusal::Refusal;
 use crate::reply::Reply;
 use crate::store::{Entry, Store};
-use resp_core::Items;
+use resp_core::Bytes;
 use std::alloc::{AllocError, Global};
 
 /// `GET`
@@ -27,7 +27,7 @@ pub fn set(
     alloc: Global,
     store: &mut Store,
     key: Vec<u8>,
-    value: Items<u8>,
+    value: Bytes,
     options: SetOptions,
 ) -> Result<Reply, AllocError>
     ensures answers { IfOk result (Sets store.old store.new key value options) }
@@ -55,7 +55,7 @@ fn set_where(
     store: &mut Store,
     condition: Condition,
     key: Vec<u8>,
-    value: Items<u8>,
+    value: Bytes,
 ) -> Result<bool, AllocError>
     ensures met { IfOk result (λ is_set. is_set ≡ is_met condition (value_at cmp store.old key)) }
     ensures set { IfOk result (λ is_set. MatchBool is_set
@@ -85,11 +85,11 @@ fn meets(condition: Condition, held: Option<&Entry>) -> bool
 fn text_of(
     alloc: Global,
     held: Option<&Entry>,
-) -> Result<Result<Option<Items<u8>>, Refusal>, AllocError>
+) -> Result<Result<Option<Bytes>, Refusal>, AllocError>
     ensures { IfOk result (λ text. text ≡ text_in (option_copied held.entry)) }
 {
     match held {
-        Some(Entry::Text(text)) => Ok(Ok(Some(Items::from_slice(alloc, text.as_slice())?))),
+        Some(Entry::Text(text)) => Ok(Ok(Some(Bytes::from_slice(alloc, text.as_slice())?))),
         Some(Entry::Hash(_)) => Ok(Err(Refusal::WrongType)),
         None => Ok(Ok(None)),
     }

@@ -26,9 +26,11 @@ use Rattle.std.proofs.Crossing.{frees, send as heap_send}
 use Rattle.std.proofs.option.Option.TheSendSync as option_sent
 use Rattle.std.proofs.vec.Vec.TheSendSync as vec_sent
 use Rattle.resp_containers.specs.contracts.boxed.Boxed as boxed
+use Rattle.resp_containers.specs.contracts.bytes.Bytes as bytes
 use Rattle.resp_containers.specs.contracts.items.Items as items
 use Rattle.resp_containers.specs.contracts.text.Text as text
 use Rattle.resp_containers.proofs.boxed.Boxed.TheSendSync as boxed_sent
+use Rattle.resp_containers.proofs.bytes.Bytes.TheSendSync as bytes_sent
 use Rattle.resp_containers.proofs.items.Items.TheSendSync as items_sent
 use Rattle.resp_containers.proofs.text.Text.TheSendSync as text_sent
 use Rattle.resp_errors.specs.contracts.server_error.ServerError as error
@@ -103,8 +105,8 @@ items_send R s = items_sent.the_send R s
 boxed_send : (R : RattleType) → IsSend R → IsSend (boxed.the_row R)
 boxed_send R s = boxed_sent.the_send R s
 
-bytes_send : IsSend (as_row (items.the_field u8))
-bytes_send = as_row_send (items.the_field u8) (items_send u8 byte_send)
+bytes_send : IsSend (as_row bytes.the_field)
+bytes_send = as_row_send bytes.the_field bytes_sent.the_send
 
 text_send : IsSend (as_row text.the_field)
 text_send = as_row_send text.the_field text_sent.the_send
@@ -183,11 +185,11 @@ machine_send =
 
 parser_send : IsSend parser.the_row
 parser_send =
-    let bytes = vec_send u8 byte_send in
+    let buffer = vec_send u8 byte_send in
     let offset = option_send usize (search sendable depth 12) in
     let since = as_row_send seen_bytes.the_field seen_bytes_sent.the_send in
     let counts = as_row_send counter.the_field counter_sent.the_send in
-    view_send _ _ _ _ _ (declared_send parser_inside.the_type (search (leaves, machine_send, bytes, offset, since, counts) depth 60))
+    view_send _ _ _ _ _ (declared_send parser_inside.the_type (search (leaves, machine_send, buffer, offset, since, counts) depth 60))
 
 -- A session, and what a slot owns of it.
 

@@ -4,6 +4,7 @@ ghost use Rattle.std.specs.Prelude.{◌≡◌, ◌↔◌, IsTrue};
 ghost use Rattle.resp_containers.specs.Equality.{IsStructural};
 
 use crate::boxed::Boxed;
+use crate::bytes::Bytes;
 use crate::items::Items;
 use crate::text::Text;
 
@@ -22,6 +23,12 @@ impl StructuralEq for u8 {
     ghost use Rattle.resp_containers.specs.lemmas.Equality.{same_numbers};
 
     ghost structural = { same_numbers };
+}
+
+impl StructuralEq for Bytes {
+    ghost use Rattle.resp_containers.specs.lemmas.Equality.{same_bytes};
+
+    ghost structural = { same_bytes };
 }
 
 impl StructuralEq for Text {

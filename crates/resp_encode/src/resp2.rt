@@ -6,7 +6,7 @@ ghost use Rattle.resp_value.specs.Names.{name_of_push_kind};
 ghost use Rattle.resp_errors.specs.Memory.{OnlyMemory};
 ghost use Rattle.resp_encode.specs.Resp2.{flat, resp2_of};
 
-use resp_containers::Items;
+use resp_containers::{Bytes, Items};
 use resp_errors::RedisResult;
 use resp_value::{PushKind, Value};
 use std::alloc::{AllocError, Global};
@@ -53,7 +53,7 @@ fn form_of(alloc: Global, value: &Value) -> Result<Value, AllocError>
 fn bulk_string(alloc: Global, bytes: &[u8]) -> Result<Value, AllocError>
     ensures { IfOk result (λ v. v ≡ BulkString bytes.now) }
 {
-    Ok(Value::BulkString(Items::from_slice(alloc, bytes)?))
+    Ok(Value::BulkString(Bytes::from_slice(alloc, bytes)?))
 }
 
 #[cycle(resp2)]

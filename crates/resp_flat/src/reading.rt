@@ -12,7 +12,7 @@ ghost use Rattle.resp_errors.specs.ServerErrors.{server_error};
 use crate::flat_error::FlatError;
 use crate::token::{Token, TokenKind};
 use resp_value::{
-    Boxed, Items, PushKind, ServerError, Text, Value, get_push_kind, verbatim_format,
+    Boxed, Bytes, Items, PushKind, ServerError, Text, Value, get_push_kind, verbatim_format,
 };
 use std::alloc::Global;
 
@@ -90,10 +90,10 @@ impl<'a> Source<'a> {
     {
         match kind {
             TokenKind::SimpleString => Ok(Value::SimpleString(self.text(bytes)?)),
-            TokenKind::BulkString => Ok(Value::BulkString(Items::from_slice(self.alloc, bytes)?)),
+            TokenKind::BulkString => Ok(Value::BulkString(Bytes::from_slice(self.alloc, bytes)?)),
             TokenKind::ServerError => self.error(bytes),
             TokenKind::Double => Ok(Value::Double(self.text(bytes)?)),
-            TokenKind::BigNumber => Ok(Value::BigNumber(Items::from_slice(self.alloc, bytes)?)),
+            TokenKind::BigNumber => Ok(Value::BigNumber(Bytes::from_slice(self.alloc, bytes)?)),
             TokenKind::VerbatimString => self.verbatim(bytes),
             _ => Err(FlatError::NotReply),
         }

@@ -9,7 +9,7 @@ ghost use Rattle.resp_from.specs.Conversion.{ConvertsMaybe};
 ghost use Rattle.resp_from.specs.Rules.{OfList, OfEach, OfBytes};
 
 use crate::rules::{answer_each, convert_bytes, convert_list, convert_one, copies_of, pieces_of};
-use resp_value::{Items, ParsingError, Value};
+use resp_value::{Bytes, ParsingError, Value};
 use std::alloc::Global;
 
 /// A type that replies convert to.
@@ -104,7 +104,7 @@ pub trait FromRedisValue: Sized + Drop {
         if Self::BYTES {
             return convert_bytes(alloc, bytes);
         }
-        convert_one(alloc, Value::BulkString(Items::from(bytes)))
+        convert_one(alloc, Value::BulkString(Bytes::from(bytes)))
     }
 
     /// The same of borrowed bytes, or `None` where `from_byte_vec` refuses.

@@ -30,7 +30,7 @@ pub fn list_of<T: FromRedisValue>(alloc: Global, value: Value) -> Result<Vec<T>,
         Value::Array(items) => T::from_redis_values(alloc, items.into_vec()),
         Value::Set(items) => T::from_redis_values(alloc, items.into_vec()),
         Value::Map(pairs) => convert_each(alloc, maps_of_one(alloc, pairs)?),
-        Value::BulkString(bytes) => T::from_byte_vec(alloc, bytes.into_vec()),
+        Value::BulkString(bytes) => T::from_byte_vec(alloc, bytes.into_vec()?),
         Value::Nil => Ok(Vec::new(alloc)),
         other => refuse(other, "Response type not vector compatible."),
     }

@@ -2,21 +2,21 @@
 
 ghost use Rattle.resp_value.specs.declared.value.Value.{out-Value};
 ghost use Rattle.resp_value.specs.declared.value.Value.TheOpen.{Value-F};
-ghost use Rattle.resp_from.specs.Conversion.{Converts, Decides};
+ghost use Rattle.resp_from.specs.Conversion.{Converts};
 ghost use Rattle.resp_from.specs.Texts.{IsText};
 
 use crate::attributes::strip_attribute;
 use crate::conversion::FromRedisValue;
 use crate::refusals::refuse;
 use itoa::Buffer;
-use resp_value::{Items, ParsingError, Text, Value};
+use resp_value::{Bytes, ParsingError, Text, Value};
 use std::alloc::Global;
 
 /// The text that the bytes of a bulk string are.
-fn utf8_text(bytes: Items<u8>) -> Result<Text, ParsingError>
-    ensures decides { Decides (IsText (Value-F.BulkString bytes)) result }
+fn utf8_text(bytes: Bytes) -> Result<Text, ParsingError>
+    ensures converts { Converts (IsText (Value-F.BulkString bytes)) result }
 {
-    match String::from_utf8(bytes.into_vec()) {
+    match String::from_utf8(bytes.into_vec()?) {
         Ok(text) => Ok(Text::from(text)),
         Err(_) => Err(ParsingError::from("Invalid UTF-8")),
     }

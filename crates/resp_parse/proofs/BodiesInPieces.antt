@@ -43,7 +43,7 @@ runs K (suc n) bytes (b ∷ piece) l more =
     ∙ ap (λ s. in_body K s (n - length piece) more) (append_assoc bytes (b ∷ []) piece) ∙ ap (λ k. in_body K (bytes ++ (b ∷ piece)) k more) (sym e)
 
 -- a body that took n bytes
-module _ (old new : Body) (bytes : List ℕ) (n : ℕ) (n_is : n ≡ min (length bytes) old.missing) (new_is : new ≡ record old { missing = old.missing - n; bytes = new.bytes; seen = old.seen ++ take n bytes }) where
+module _ (old new : Body) (bytes : List ℕ) (n : ℕ) (n_is : n ≡ min (length bytes) old.missing) (new_is : new ≡ record old { missing = old.missing - n; seen = old.seen ++ take n bytes }) where
   fills : (d : ℕ) (more : List ℕ) → value_of d (Some old) (bytes ++ more) ≡ value_of d (Some new) (drop n bytes ++ more)
   fills d more =
       let K : List ℕ → List ℕ → ReadOutcome Value = λ x rest. made (body_value old.kind x) rest in

@@ -55,7 +55,7 @@ pub record Builds (b : Builder) (fs : List OpenAggregate) : Type 0 where
 
 -- or a body is
 pub record BuildsBody (b : Builder) (fs : List OpenAggregate) (body : Body) : Type 0 where
-  pub tree : b.flat ≡ false → HoldsTree fs × (body.bytes ≡ body.seen)
+  pub tree : b.flat ≡ false → HoldsTree fs × (b.bytes ≡ body.seen)
   pub flat : b.flat ≡ true → HoldsFlat b.reply fs [] body.seen × (body.start ≡ length (text_in fs))
 
 -- or a value is whole

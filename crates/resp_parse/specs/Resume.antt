@@ -103,7 +103,7 @@ EndsBody bs (Err n) = (n ≤ length bs)
 -- a body took n bytes: all, or as many as it lacked
 abbrev pub FillsBody : {E : Type 0} → Body → List ℕ → Body → Result ℕ E → Type 0
 FillsBody old bytes new (Ok n) = (n ≡ min (length bytes) old.missing)
-    × (new ≡ record old { missing = old.missing - n; bytes = new.bytes; seen = old.seen ++ take n bytes })
+    × (new ≡ record old { missing = old.missing - n; seen = old.seen ++ take n bytes })
 FillsBody old bytes new (Err e) = new ≡ old
 
 -- n bytes were taken, and no more can be before more bytes come

@@ -2,7 +2,6 @@
 
 use crate::seen_bytes::SeenBytes;
 use crate::shape::BodyKind;
-use resp_value::Items;
 
 /// A body whose bytes and CR LF aren't all there.
 #[derive(Drop)]
@@ -12,8 +11,6 @@ pub(crate) struct Body {
     pub(crate) missing: usize,
     /// Where its bytes begin in the text of a flat reply.
     pub(crate) start: usize,
-    /// Its bytes; none where a flat reply has them.
-    pub(crate) bytes: Items<u8>,
     /// Which bytes it has.
     pub(crate) seen: SeenBytes,
 }

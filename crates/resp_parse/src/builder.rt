@@ -23,7 +23,7 @@ use crate::shape::{BodyKind, ElementsKind};
 use crate::value_of::simple_of;
 use crate::whole::Whole;
 use resp_flat::{FlatReply, Token, TokenKind};
-use resp_value::{FrameFault, Items, Value};
+use resp_value::{Bytes, FrameFault, Items, Value};
 use std::alloc::{AllocError, Global};
 use std::mem;
 
@@ -36,10 +36,10 @@ fn room_for(alloc: Global, count: usize, at_hand: usize) -> Result<Items<Value>,
 }
 
 /// Room for the bytes of a body: for no more than are announced, and 64.
-fn room_for_bytes(alloc: Global, missing: usize) -> Result<Items<u8>, AllocError>
+fn room_for_bytes(alloc: Global, missing: usize) -> Result<Bytes, AllocError>
     ensures { IfOk result (λ room. room ≡ []) }
 {
-    Ok(Items::from(Vec::with_capacity(alloc, missing.min(64))?))
+    Bytes::with_capacity(alloc, missing.min(64))
 }
 
 /// What is built of a value that is read. Which values those are, contracts see in either form.
@@ -49,6 +49,8 @@ pub(crate) struct Builder {
     pub(crate) flat: bool,
     /// The flat reply.
     pub(crate) reply: FlatReply,
+    /// What a tree has of the body that is open.
+    pub(crate) bytes: Bytes,
     /// The value in a tree that is whole and not yet where it belongs.
     pub(crate) value: Held,
 }
@@ -61,6 +63,7 @@ impl Builder {
         Builder {
             flat: false,
             reply: FlatReply::new(alloc),
+            bytes: Bytes::new(alloc),
             value: Held::new(alloc),
         }
     }
@@ -138,21 +141,23 @@ impl Builder {
 
     /// A body begins.
     pub(crate) fn body(
-        &self,
+        &mut self,
         alloc: Global,
         kind: BodyKind,
         missing: usize,
     ) -> Result<Body, AllocError>
+        ensures flat { self.new.flat ≡ self.old.flat }
         ensures begins { IfOk result (BeginsBody kind missing) }
-        ensures builds { (fs : List OpenAggregate) → Builds self.now fs →
-            IfOk result (BuildsBody self.now fs) }
+        ensures builds { (fs : List OpenAggregate) → Builds self.old fs →
+            IfOk result (BuildsBody self.new fs) }
     {
-        let room = if self.flat { 0 } else { missing };
+        if !self.flat {
+            self.bytes = room_for_bytes(alloc, missing)?;
+        }
         Ok(Body {
             kind,
             missing,
             start: self.reply.text.len(),
-            bytes: room_for_bytes(alloc, room)?,
             seen: SeenBytes::new(),
         })
     }
@@ -170,7 +175,7 @@ impl Builder {
         if self.flat {
             self.reply.text.extend_from_slice(part)?;
         } else {
-            body.bytes.extend_from_slice(part)?;
+            self.bytes.extend_from_slice(part)?;
         }
         body.seen.append(part);
         body.missing -= taken;
@@ -178,16 +183,15 @@ impl Builder {
     }
 
     /// A body is whole.
-    pub(crate) fn end(&mut self, alloc: Global, body: &mut Body) -> Result<Whole, ReadError>
+    pub(crate) fn end(&mut self, alloc: Global, body: &Body) -> Result<Whole, ReadError>
         ensures flat { self.new.flat ≡ self.old.flat }
-        ensures value { (fs : List OpenAggregate) → BuildsBody self.old fs body.old →
-            ComputesSeen result (body_value body.old.kind body.old.seen) }
-        ensures builds { (fs : List OpenAggregate) → BuildsBody self.old fs body.old →
+        ensures value { (fs : List OpenAggregate) → BuildsBody self.old fs body.now →
+            ComputesSeen result (body_value body.now.kind body.now.seen) }
+        ensures builds { (fs : List OpenAggregate) → BuildsBody self.old fs body.now →
             IfOk result (BuildsWhole self.new fs) }
     {
         if !self.flat {
-            let bytes = mem::replace(&mut body.bytes, Items::new(alloc));
-            return self.tree_body(alloc, body.kind, bytes);
+            return self.tree_body(alloc, body.kind);
         }
         match body.kind {
             BodyKind::Bulk => Ok(self.bulk(body.start, &body.seen)?),
@@ -196,18 +200,14 @@ impl Builder {
     }
 
     /// The value of a body in a tree.
-    fn tree_body(
-        &mut self,
-        alloc: Global,
-        kind: BodyKind,
-        bytes: Items<u8>,
-    ) -> Result<Whole, ReadError>
+    fn tree_body(&mut self, alloc: Global, kind: BodyKind) -> Result<Whole, ReadError>
         requires tree { self.old.flat ≡ false }
         ensures flat { self.new.flat ≡ self.old.flat }
-        ensures value { ComputesSeen result (body_value kind bytes) }
+        ensures value { ComputesSeen result (body_value kind self.old.bytes) }
         ensures builds { (fs : List OpenAggregate) → Builds self.old fs →
             IfOk result (BuildsWhole self.new fs) }
     {
+        let bytes = mem::replace(&mut self.bytes, Bytes::new(alloc));
         if let BodyKind::Bulk = kind {
             let value = Value::BulkString(bytes);
             let whole = Whole::new(SeenValue::of(&value));
@@ -223,7 +223,7 @@ impl Builder {
         &mut self,
         alloc: Global,
         kind: BodyKind,
-        bytes: Items<u8>,
+        bytes: Bytes,
     ) -> Result<Whole, ReadError>
         ensures flat { self.new.flat ≡ self.old.flat }
         ensures value { ComputesSeen result (body_value kind bytes) }
@@ -265,7 +265,7 @@ impl Builder {
             IfOk result (BuildsWhole self.new fs) }
     {
         let start = start.min(self.reply.text.len());
-        let bytes = Items::from_slice(alloc, &self.reply.text[start..])?;
+        let bytes = Bytes::from_slice(alloc, &self.reply.text[start..])?;
         let value = kind.value(alloc, bytes)?;
         self.reply.text.truncate(start);
         Ok(self.leaf(value)?)

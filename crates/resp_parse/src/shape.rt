@@ -19,7 +19,7 @@ use crate::value_of::{
     attribute_of, bulk_error_of, double_of, error_of, no_push, pairs_from, push_of, verbatim_of,
 };
 use resp_flat::TokenKind;
-use resp_value::{FrameFault, Items, Value};
+use resp_value::{Bytes, FrameFault, Items, Value};
 use std::alloc::Global;
 
 /// What a body spells.
@@ -32,7 +32,7 @@ pub(crate) enum BodyKind {
 
 impl BodyKind {
     /// The value of a body.
-    pub(crate) fn value(self, alloc: Global, body: Items<u8>) -> Result<Value, ReadError>
+    pub(crate) fn value(self, alloc: Global, body: Bytes) -> Result<Value, ReadError>
         ensures value { Computes result (body_value self body) }
     {
         match self {
@@ -94,7 +94,7 @@ impl ElementsKind {
             ElementsKind::Set => Ok(Value::Set(elements)),
             ElementsKind::Map => Ok(Value::Map(pairs_from(alloc, elements.into_vec(), counts)?)),
             ElementsKind::Attribute => Ok(attribute_of(alloc, elements.into_vec(), counts)?),
-            ElementsKind::Push => Ok(push_of(elements.into_vec())?),
+            ElementsKind::Push => push_of(elements.into_vec()),
         }
     }
 }
@@ -119,7 +119,7 @@ impl LineKind {
             LineKind::Boolean => boolean_of(text),
             LineKind::Double => double_of(alloc, text),
             LineKind::BigNumber => {
-                Ok(Value::BigNumber(Items::from_slice(alloc, text.as_bytes())?))
+                Ok(Value::BigNumber(Bytes::from_slice(alloc, text.as_bytes())?))
             }
             LineKind::EmptyPush => Ok(no_push(alloc)),
         }

@@ -112,32 +112,32 @@ pub(crate) fn attribute_of(
 }
 
 /// The kind that the first value of a push names, if it names one.
-fn kind_from(first: Value) -> Option<PushKind>
-    ensures kind { result ≡ push_kind first }
+fn kind_from(first: Value) -> Result<Option<PushKind>, AllocError>
+    ensures kind { IfOk result (λ kind. kind ≡ push_kind first) }
 {
     match first {
-        Value::SimpleString(name) => Some(get_push_kind(name.into_string())),
-        Value::BulkString(name) => match String::from_utf8(name.into_vec()) {
-            Ok(name) => Some(get_push_kind(name)),
-            Err(_) => None,
+        Value::SimpleString(name) => Ok(Some(get_push_kind(name.into_string()))),
+        Value::BulkString(name) => match String::from_utf8(name.into_vec()?) {
+            Ok(name) => Ok(Some(get_push_kind(name))),
+            Err(_) => Ok(None),
         },
-        _ => None,
+        _ => Ok(None),
     }
 }
 
 /// The push of these elements: its kind, and then its data (RESP3, "Pushes").
-pub(crate) fn push_of(mut elements: Vec<Value>) -> Result<Value, FrameFault>
-    ensures value { result ≡ push elements.items }
+pub(crate) fn push_of(mut elements: Vec<Value>) -> Result<Value, ReadError>
+    ensures value { Computes result (push elements.items) }
 {
     if elements.is_empty() {
-        return Err(FrameFault::BadPushKind);
+        return Err(ReadError::Fault(FrameFault::BadPushKind));
     }
-    match kind_from(elements.remove(0)) {
+    match kind_from(elements.remove(0))? {
         Some(kind) => Ok(Value::Push {
             kind,
             payload: elements.into(),
         }),
-        None => Err(FrameFault::BadPushKind),
+        None => Err(ReadError::Fault(FrameFault::BadPushKind)),
     }
 }
 

@@ -1,7 +1,6 @@
 -- What the iterators over the words of a request have left.
-use Rattle.std.specs.Prelude.{ℕ, List, Vec}
+use Rattle.std.specs.Prelude.{ℕ, List}
 use Rattle.std.specs.Borrow.{Bor}
-use Rattle.std.specs.Global.{Global}
 use Rattle.std.specs.Vec.Iter.{into_iter_items}
 use Rattle.resp_args.specs.Args.{Args}
 use Rattle.resp_server.specs.Requests.{words_of}
@@ -19,6 +18,3 @@ referent arg = arg.now
 -- the words that are left
 abbrev pub owned_args_left : OwnedArgs → Args
 owned_args_left it = words_of (into_iter_items it.rest)
-
-abbrev pub owned_bytes : Vec ℕ Global → List ℕ
-owned_bytes arg = arg.items

@@ -3,7 +3,7 @@
 ghost use Rattle.std.specs.Prelude.{◌≡◌};
 ghost use Rattle.resp_server.specs.Requests.{bytes_of};
 
-use resp_value::Value;
+use resp_value::{Bytes, Value};
 use std::alloc::Global;
 use std::{slice, vec};
 
@@ -79,17 +79,17 @@ impl OwnedArgs {
 
 impl Iterator for OwnedArgs {
     ghost use Rattle.std.specs.Prelude.{length, IfSome, Some};
-    ghost use Rattle.std.specs.Iterator.{YieldsFirstBy, item_count, UpTo, at_most};
+    ghost use Rattle.std.specs.Iterator.{YieldsFirst, item_count, UpTo, at_most};
     ghost use Rattle.std.specs.Iterator.SizeHint.{IsWithinCount};
-    ghost use Rattle.resp_server.specs.ArgIters.{owned_args_left, owned_bytes};
+    ghost use Rattle.resp_server.specs.ArgIters.{owned_args_left};
 
-    type Item = Vec<u8>;
+    type Item = Bytes;
 
-    ghost next_gives = { YieldsFirstBy owned_bytes owned_args_left };
+    ghost next_gives = { YieldsFirst owned_args_left };
 
     ghost remaining = { item_count owned_args_left };
 
-    fn next(&mut self) -> Option<Vec<u8>> {
+    fn next(&mut self) -> Option<Bytes> {
         let word = self.rest.next()?;
         Some(into_bytes(self.alloc, word))
     }
@@ -117,11 +117,11 @@ pub(crate) fn bytes(word: &Value) -> &[u8]
 }
 
 /// The bytes of a bulk string, by move; of any other value, none.
-fn into_bytes(alloc: Global, word: Value) -> Vec<u8>
-    ensures { result.items ≡ bytes_of word }
+fn into_bytes(alloc: Global, word: Value) -> Bytes
+    ensures { result ≡ bytes_of word }
 {
     match word {
-        Value::BulkString(bytes) => bytes.into_vec(),
-        _ => Vec::new(alloc),
+        Value::BulkString(bytes) => bytes,
+        _ => Bytes::new(alloc),
     }
 }

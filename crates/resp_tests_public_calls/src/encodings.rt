@@ -3,7 +3,7 @@
 
 use crate::checks::{Test, assert_equal, assert_text, reply, string};
 use resp_core::{
-    FlatReply, Items, ProtocolVersion, PushKind, ServerError, Text, Token, TokenKind, Value,
+    Bytes, FlatReply, Items, ProtocolVersion, PushKind, ServerError, Text, Token, TokenKind, Value,
     VerbatimFormat, as_resp2, encode, encode_within, is_double_text,
 };
 use resp_testing::{answer_text, bytes_text};
@@ -28,8 +28,8 @@ fn text(rt: &impl Test, from: &str) -> Text {
     Text::from(string(rt, from))
 }
 
-fn bytes(rt: &impl Test, from: &[u8]) -> Items<u8> {
-    Items::from_slice(rt.alloc(), from).expect(rt, "memory")
+fn bytes(rt: &impl Test, from: &[u8]) -> Bytes {
+    Bytes::from_slice(rt.alloc(), from).expect(rt, "memory")
 }
 
 fn push(rt: &impl Test, kind: PushKind) -> Value {

@@ -1,7 +1,7 @@
 //! Values by hand: copies, attributes, pairs and pushes; lists, texts and boxes.
 
 use crate::checks::{Test, assert_debug, assert_display, assert_equal, assert_text, reply, string};
-use resp_core::{Boxed, Description, Items, PushInfo, PushKind, Text, Value};
+use resp_core::{Boxed, Bytes, Description, Items, PushInfo, PushKind, Text, Value};
 use resp_testing::{answer_text, debug_text};
 
 /// A value of each type.
@@ -124,6 +124,28 @@ fn items_as_a_list_and_a_slice(rt: HostRuntime) {
         sum = sum.saturating_add(*item);
     }
     assert!(rt; sum == 12 && items.into_vec().len() == 4);
+}
+
+/// Bytes behave alike whether they stand in the value, or, from the 41st on, on the heap.
+#[test]
+fn bytes_inline_and_on_the_heap(rt: HostRuntime) {
+    let mut bytes = Bytes::with_capacity(rt.alloc(), 0).expect(&rt, "memory");
+    let mut wanted = Vec::new(rt.alloc());
+    assert!(rt; bytes.is_empty());
+    for byte in 0..99 {
+        bytes.extend_from_slice(&[byte]).expect(&rt, "memory");
+        wanted.push(byte).expect(&rt, "memory");
+        assert!(rt; bytes.as_slice() == wanted.as_slice() && bytes.len() == wanted.len());
+        let copy = Bytes::from_slice(rt.alloc(), bytes.as_slice());
+        assert_equal(&rt, copy, &bytes);
+        let given_back = Bytes::from_slice(rt.alloc(), bytes.as_slice())
+            .expect(&rt, "memory")
+            .into_vec();
+        assert!(rt; given_back.expect(&rt, "memory").as_slice() == wanted.as_slice());
+    }
+    let short = vec![in rt.alloc(); 1u8, 255].expect(&rt, "memory");
+    assert_debug(&rt, &Bytes::from(short), "[1, 255]");
+    assert!(rt; bytes[98] == 98 && bytes.get(99).is_none() && Bytes::from(wanted) == bytes);
 }
 
 #[test]

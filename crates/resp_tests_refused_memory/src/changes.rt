@@ -4,7 +4,7 @@ use crate::heap::{Test, equal, has_to_repeat, ran_out, refuse};
 use crate::made::{LONG, get};
 use crate::subjects::{REST, Subject};
 use resp_core::{
-    ArgList, ArgPart, ArgWriter, Cmd, Items, Joined, Parser, Pipeline, RedisResult, RedisWrite,
+    ArgList, ArgPart, ArgWriter, Bytes, Cmd, Items, Joined, Parser, Pipeline, RedisResult, RedisWrite,
     ToRedisArgs, cmd, write_each_arg,
 };
 use std::alloc::Global;
@@ -225,6 +225,18 @@ impl Change for OfItems {
     }
 }
 
+/// More bytes at the end.
+#[derive(Clone, Copy)]
+struct MoreBytes;
+
+impl Change for MoreBytes {
+    type Object = Bytes;
+
+    fn apply(self, _alloc: Global, to: &mut Bytes) -> RedisResult<()> {
+        Ok(to.extend_from_slice(&[2; 9])?)
+    }
+}
+
 /// A command, packed behind other bytes.
 #[derive(Clone, Copy)]
 struct Packed<'a>(&'a Cmd);
@@ -242,6 +254,7 @@ fn lists_and_buffers(rt: HostRuntime) {
     let lists = [OfList::WriteArg, OfList::OpenArg, OfList::ExtendArg];
     changes(&rt, lists.as_slice());
     changes(&rt, [OfItems::Push, OfItems::ExtendFromSlice].as_slice());
+    changes(&rt, [MoreBytes].as_slice());
     let command = get(&rt);
     changes(&rt, [Packed(&command)].as_slice());
 }

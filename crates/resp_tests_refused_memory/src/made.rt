@@ -4,7 +4,7 @@
 use crate::heap::{Test, made, refuse, shows};
 use crate::links::link;
 use resp_core::{
-    ArgList, Boxed, Cmd, IncrexResult, InfoDict, Items, ParsingError, Pipeline, RedisError,
+    ArgList, Boxed, Bytes, Cmd, IncrexResult, InfoDict, Items, ParsingError, Pipeline, RedisError,
     RedisResult, ServerError, Text, ToRedisArgs, Value, ValueComparison, ValueType, cmd,
     from_redis_value, from_redis_value_ref, pack_command, parse_redis_value, pipe,
 };
@@ -111,6 +111,17 @@ fn containers(rt: HostRuntime) {
         Text::from_utf8_lossy(alloc, b"abc") => "abc",
         Items::from_slice(alloc, &[1u8, 2, 3]) => [1, 2, 3],
         Boxed::new(alloc, 5i64) => 5,
+    }
+}
+
+#[test]
+fn bytes(rt: HostRuntime) {
+    let alloc = rt.alloc();
+    let long = LONG.as_bytes();
+    makes! { rt;
+        Bytes::with_capacity(alloc, long.len()).map(|bytes| bytes.len()) => 0,
+        Bytes::from_slice(alloc, long) => long,
+        Bytes::from_slice(alloc, b"abc").map(Bytes::into_vec) => Ok::<&[u8], i32>(b"abc"),
     }
 }
 

@@ -8,7 +8,7 @@ use crate::links::{Link, link};
 use crate::made::get;
 use crate::subjects::Subject;
 use resp_core::{
-    ArgList, ArgWriter, Boxed, ByteLink, Cmd, CommandSink, ConnectionLike, Fields, FlatReply,
+    ArgList, ArgWriter, Boxed, ByteLink, Bytes, Cmd, CommandSink, ConnectionLike, Fields, FlatReply,
     FlatValue, FromRedisValue, InfoDict, IntegerReplyOrNoOp, Items, Limits, NumericBehavior,
     Parser, Pipeline, ProtocolVersion, PushKind, Reading, RedisWrite, ReplySource, Text,
     ToRedisArgs, TokenKind, Value, ValueType, VerbatimFormat, Writing, from_redis_value,
@@ -122,6 +122,22 @@ fn items(rt: HostRuntime) {
     assert!(rt; items.len() == 2 && items.as_slice().len() == 2 && !items.is_empty());
     assert!(rt; items.pop() == Some(b'x') && Items::<u8>::new(items.allocator()).is_empty());
     equal(&rt, Items::from(items.into_vec()).len(), 1);
+    took_none(&rt);
+}
+
+/// Up to 40 bytes take no memory, and more are given back as they are.
+#[test]
+fn short_bytes(rt: HostRuntime) {
+    let forty = Vec::<u8>::of_size(&rt, 40);
+    let long = Bytes::from(Vec::<u8>::of_size(&rt, 41));
+    refuse_all(rt.alloc());
+    let mut bytes = Bytes::new(rt.alloc());
+    bytes
+        .extend_from_slice(forty.as_slice())
+        .expect(&rt, "no request");
+    assert!(rt; bytes.len() == 40 && bytes.as_slice() == forty.as_slice() && !bytes.is_empty());
+    equal(&rt, Bytes::from(forty).len(), 40);
+    equal(&rt, long.into_vec().map(|bytes| bytes.len()), Ok(41));
     took_none(&rt);
 }
 

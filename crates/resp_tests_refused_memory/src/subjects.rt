@@ -2,7 +2,7 @@
 
 use crate::heap::{Test, debug_text};
 use crate::links::link;
-use resp_core::{ArgList, Cmd, Items, Parser, Pipeline, RedisWrite, cmd, pipe};
+use resp_core::{ArgList, Bytes, Cmd, Items, Parser, Pipeline, RedisWrite, cmd, pipe};
 
 pub trait Subject: Sized + Drop {
     /// How many there are, with more or less room that is left.
@@ -103,6 +103,19 @@ impl Subject for Items<u8> {
 
     fn of_size<R: Test>(rt: &R, size: usize) -> Items<u8> {
         Items::from(Vec::<u8>::of_size(rt, size))
+    }
+
+    fn shows<R: Test>(&mut self, rt: &R) -> String {
+        format!(in rt.alloc(); "{self:?}").expect(rt, "no refusal")
+    }
+}
+
+/// So many bytes.
+impl Subject for Bytes {
+    const SIZES: usize = 70;
+
+    fn of_size<R: Test>(rt: &R, size: usize) -> Bytes {
+        Bytes::from(Vec::<u8>::of_size(rt, size))
     }
 
     fn shows<R: Test>(&mut self, rt: &R) -> String {

@@ -10,7 +10,7 @@ mod views;
 pub use map_iter::{MapIter, OwnedMapIter};
 pub use names::{PushKind, VerbatimFormat, get_push_kind, verbatim_format};
 pub use resp_containers::{
-    Boxed, ExactClone, Items, StructuralEq, Text, law_of_clones, law_of_equal_values,
+    Boxed, Bytes, ExactClone, Items, StructuralEq, Text, law_of_clones, law_of_equal_values,
 };
 pub use resp_errors::{
     Description, ErrorKind, FrameFault, IoKind, ParsingError, RedisError, RedisResult, RetryMethod,

@@ -6,7 +6,7 @@ ghost use Rattle.resp_errors.specs.declared.redis_error.RedisError.TheVariants a
 ghost use Rattle.resp_value.specs.declared.value.Value.TheVariants as value;
 
 use crate::names::{PushKind, VerbatimFormat};
-use resp_containers::{Boxed, Items, Text};
+use resp_containers::{Boxed, Bytes, Items, Text};
 use resp_errors::{RedisError, RedisResult, ServerError};
 use std::alloc::{AllocError, Global};
 use std::fmt;
@@ -26,7 +26,7 @@ pub enum Value {
     /// A line of text.
     SimpleString(Text),
     /// Any bytes.
-    BulkString(Items<u8>),
+    BulkString(Bytes),
     /// A list of values.
     Array(Items<Value>),
     /// A list of pairs (RESP3).
@@ -46,7 +46,7 @@ pub enum Value {
     /// (RESP3).
     Double(Text),
     /// An integer of any size, as the bytes that the server sent (RESP3).
-    BigNumber(Items<u8>),
+    BigNumber(Bytes),
     /// A list of values without an order (RESP3).
     Set(Items<Value>),
     /// A text for display, with its format (RESP3).
@@ -107,7 +107,7 @@ impl Value {
             Value::Int(n) => Ok(Value::Int(*n)),
             Value::SimpleString(text) => Ok(Value::SimpleString(text.try_clone(alloc)?)),
             Value::BulkString(bytes) => {
-                Ok(Value::BulkString(Items::from_slice(alloc, bytes.as_slice())?))
+                Ok(Value::BulkString(Bytes::from_slice(alloc, bytes.as_slice())?))
             }
             Value::Array(elements) => Ok(Value::Array(clone_elements(alloc, elements)?)),
             Value::Map(pairs) => Ok(Value::Map(clone_pairs(alloc, pairs)?)),
@@ -122,7 +122,7 @@ impl Value {
             Value::Boolean(truth) => Ok(Value::Boolean(*truth)),
             Value::Double(text) => Ok(Value::Double(text.try_clone(alloc)?)),
             Value::BigNumber(bytes) => {
-                Ok(Value::BigNumber(Items::from_slice(alloc, bytes.as_slice())?))
+                Ok(Value::BigNumber(Bytes::from_slice(alloc, bytes.as_slice())?))
             }
             Value::Set(elements) => Ok(Value::Set(clone_elements(alloc, elements)?)),
             Value::VerbatimString { format, text } => Ok(Value::VerbatimString {
