@@ -379,6 +379,9 @@ impl Machine {
         ensures built_within { ReadBuiltWithin self.old self.new result }
         ensures cost { RunCost self.old self.new bytes.now counts.old counts.new result }
     {
+        if bytes.is_empty() {
+            return Ok((0, false));
+        }
         let (taken, whole) = self.run(alloc, bytes, counts)?;
         let Some(whole) = whole else {
             return Ok((taken, false));
