@@ -67,6 +67,20 @@ fn read_bytes<T: IntegerFromRedisValue>(bytes: &[u8]) -> Result<T, ParsingError>
     }
 }
 
+/// The integer of a number, or of a bulk string of a few digits; None of any other reply, and where
+/// it isn't one of the type.
+fn plain_integer<T: IntegerFromRedisValue>(value: &Value) -> Option<T>
+    ensures { IfSome result (OfInteger T.of_number T.of_text value.now) }
+{
+    match value {
+        Value::Int(number) => T::from_number(*number).ok(),
+        Value::BulkString(bytes) => read_few_digits(bytes.as_slice()),
+        _ => None,
+    }
+}
+
+/// The integer of a reply, of whatever type and however it is written.
+#[inline(never)]
 fn read_integer<T: IntegerFromRedisValue>(value: &Value) -> Result<T, ParsingError>
     ensures decides { Decides (OfInteger T.of_number T.of_text value.now) result }
 {
@@ -75,6 +89,17 @@ fn read_integer<T: IntegerFromRedisValue>(value: &Value) -> Result<T, ParsingErr
         Value::SimpleString(text) => T::from_text(text.as_str()),
         Value::BulkString(bytes) => read_bytes(bytes.as_slice()),
         _ => Err(ParsingError::from("Response type not convertible to numeric")),
+    }
+}
+
+/// The integer of a reply; plain ones need no place for an error.
+#[inline(always)]
+fn integer_of<T: IntegerFromRedisValue>(value: &Value) -> Result<T, ParsingError>
+    ensures decides { Decides (OfInteger T.of_number T.of_text value.now) result }
+{
+    match plain_integer(value) {
+        Some(number) => Ok(number),
+        None => read_integer(value),
     }
 }
 
@@ -94,7 +119,7 @@ impl<T: IntegerFromRedisValue> FromRedisValue for T {
 
     #[tactic(auto, using(crate::proofs::Conversions::decided))]
     fn from_redis_value(_alloc: Global, value: Value) -> Result<T, ParsingError> {
-        read_integer(&value)
+        integer_of(&value)
     }
 
     #[tactic(auto, using(crate::proofs::Conversions::decided))]
@@ -102,7 +127,7 @@ impl<T: IntegerFromRedisValue> FromRedisValue for T {
         ensures converts { Converts (OfInteger T.of_number T.of_text value.now) result }
         ensures errors { IfErr result (AnyButMemory value.now) }
     {
-        read_integer(value)
+        integer_of(value)
     }
 }
 
