@@ -38,7 +38,8 @@ pub use resp_retry::{Attempt, retrying};
 pub use resp_server::{OwnedArgs, Request, RequestArgs, send_value};
 pub use resp_types::{IncrexResult, InfoDict, IntegerReplyOrNoOp, ReplicaInfo, Role, ValueType};
 pub use resp_value::{
-    Boxed, Bytes, Description, ErrorKind, FrameFault, IoKind, Items, MapIter, OwnedMapIter, ParsingError,
-    PushInfo, PushKind, RedisError, RedisResult, RetryMethod, ServerError, ServerErrorKind, Text,
-    Value, VerbatimFormat, get_push_kind, make_extension_error, verbatim_format,
+    Boxed, Bytes, Description, ErrorKind, FrameFault, IoKind, Items, MapIter, OwnedMapIter,
+    ParsingError, PushInfo, PushKind, RedisError, RedisResult, RetryMethod, ServerError,
+    ServerErrorKind, Text, Value, VerbatimFormat, get_push_kind, make_extension_error,
+    verbatim_format,
 };

@@ -4,8 +4,8 @@ use crate::heap::{Test, equal, has_to_repeat, ran_out, refuse};
 use crate::made::{LONG, get};
 use crate::subjects::{REST, Subject};
 use resp_core::{
-    ArgList, ArgPart, ArgWriter, Bytes, Cmd, Items, Joined, Parser, Pipeline, RedisResult, RedisWrite,
-    ToRedisArgs, cmd, write_each_arg,
+    ArgList, ArgPart, ArgWriter, Bytes, Cmd, Items, Joined, Parser, Pipeline, RedisResult,
+    RedisWrite, ToRedisArgs, cmd, write_each_arg,
 };
 use std::alloc::Global;
 

@@ -8,10 +8,10 @@ use crate::links::{Link, link};
 use crate::made::get;
 use crate::subjects::Subject;
 use resp_core::{
-    ArgList, ArgWriter, Boxed, ByteLink, Bytes, Cmd, CommandSink, ConnectionLike, Fields, FlatReply,
-    FlatValue, FromRedisValue, InfoDict, IntegerReplyOrNoOp, Items, Limits, NumericBehavior,
-    Parser, Pipeline, ProtocolVersion, PushKind, Reading, RedisWrite, ReplySource, Text,
-    ToRedisArgs, TokenKind, Value, ValueType, VerbatimFormat, Writing, from_redis_value,
+    ArgList, ArgWriter, Boxed, ByteLink, Bytes, Cmd, CommandSink, ConnectionLike, Fields,
+    FlatReply, FlatValue, FromRedisValue, InfoDict, IntegerReplyOrNoOp, Items, Limits,
+    NumericBehavior, Parser, Pipeline, ProtocolVersion, PushKind, Reading, RedisWrite, ReplySource,
+    Text, ToRedisArgs, TokenKind, Value, ValueType, VerbatimFormat, Writing, from_redis_value,
     from_redis_value_ref, get_push_kind, is_double_text, is_valid_16_bytes_hex_digest,
     parse_redis_value, pipe, verbatim_format,
 };
