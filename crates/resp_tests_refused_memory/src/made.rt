@@ -121,7 +121,7 @@ fn bytes(rt: HostRuntime) {
     makes! { rt;
         Bytes::with_capacity(alloc, long.len()).map(|bytes| bytes.len()) => 0,
         Bytes::from_slice(alloc, long) => long,
-        Bytes::from_slice(alloc, b"abc").map(Bytes::into_vec) => Ok::<&[u8], i32>(b"abc"),
+        Bytes::from_slice(alloc, b"abc").and_then(|bytes| bytes.into_vec()) => b"abc",
     }
 }
 
