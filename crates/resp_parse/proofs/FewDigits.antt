@@ -7,17 +7,20 @@ use Rattle.std.proofs.lemmas.Str.{IsUtf8-from_ascii, chars-IsAscii, encodes-IsAs
 use Rattle.std.proofs.lemmas.Str.Ascii.{IsAscii-from_all}
 use Rattle.std.specs.Char.{is_ascii_digit, is_whitespace, digit_value}
 use Rattle.std.specs.List.{list_all}
-use Rattle.std.specs.Str.{IsAscii, IsUtf8, encode_utf8_all, skip_leading_whitespace, drop_trailing_whitespace, trim_start, trim_end, trim}
+use Rattle.std.specs.Str.{IsAscii, encode_utf8_all, skip_leading_whitespace, drop_trailing_whitespace, trim_start, trim_end, trim}
 use Rattle.std.specs.Str.Parse.{without_leading_plus, without_leading_sign, signed_digits_value, digits_value, starts_with_minus}
-use Rattle.resp_parse.specs.Number.{is_digits, is_decimal, fits_i64, plain_number, number}
+use Rattle.resp_parse.specs.Lines.{NoneBefore}
+use Rattle.resp_parse.specs.Number.{is_digits, is_decimal, fits_i64, plain_number, number, IsNumeral}
 use Rattle.resp_parse.proofs.ByteTests.{eq_false}
 
 abbrev pub Digits : List ℕ → Type 0
 Digits text = list_all is_ascii_digit text ≡ true
 
-pub all-digits : (text : List ℕ) → ((k : ℕ) → k < length text → is_ascii_digit (get_or text k 0) ≡ true) → Digits text
-all-digits [] h = refl
-all-digits (c ∷ text) h = and_from (is_ascii_digit c) (list_all is_ascii_digit text) (h 0 (omega arith)) (all-digits text (λ k l. h (suc k) (omega arith)))
+pub digits-before : (text : List ℕ) (at : ℕ) → at ≤ length text → ((k : ℕ) → k < at → is_ascii_digit (get_or text k 0) ≡ true) → Digits (take at text)
+digits-before [] zero l h = refl
+digits-before [] (suc at) l h = absurd (omega arith)
+digits-before (c ∷ text) zero l h = refl
+digits-before (c ∷ text) (suc at) l h = and_from (is_ascii_digit c) (list_all is_ascii_digit (take at text)) (h 0 (omega arith)) (digits-before text at (omega arith) (λ k m. h (suc k) (omega arith)))
 
 pub digit-range : (c : ℕ) → is_ascii_digit c ≡ true → (48 ≤ c) × (c ≤ 57)
 digit-range c e = (grind (arith, nat_tests), grind (arith, nat_tests))
@@ -76,19 +79,22 @@ digit-next text at d h k l = by_place (nat_lt k at) refl
     by_place true e = h k (ltb-true k at e)
     by_place false e = let same : k ≡ at = grind (arith, nat_tests) in ap (λ j. is_ascii_digit (get_or text j 0)) same ∙ d
 
-take-all : (xs : List ℕ) (n : ℕ) → length xs ≤ n → take n xs ≡ xs
-take-all xs n l = grind (arith, common_steps)
+-- no CR stands among digits
+pub none_in-digits : (text : List ℕ) (at : ℕ) → ((k : ℕ) → k < at → is_ascii_digit (get_or text k 0) ≡ true) → NoneBefore text (at + 1)
+none_in-digits text at digits k l cr lf = let r = digit-range (get_or text k 0) (digits k (omega arith)) in absurd (omega (arith, r.0, cr))
 
--- all bytes of the line are digits
-module _ (line : List ℕ) (at : ℕ) (all : length line ≤ at)
-    (digits : (k : ℕ) → k < at → is_ascii_digit (get_or line k 0) ≡ true) where
-  of-digits : Digits line
-  of-digits = all-digits line (λ k m. digits k (omega (arith, m, all)))
+-- so many first bytes are digits
+module _ (text : List ℕ) (at : ℕ) (some : 1 ≤ at) (within : at ≤ length text)
+    (digits : (k : ℕ) → k < at → is_ascii_digit (get_or text k 0) ≡ true) where
+  before : Digits (take at text)
+  before = digits-before text at within digits
 
-  pub utf8-of : IsUtf8 line
-  utf8-of = IsUtf8-from_ascii line (IsAscii-from_all line (ascii-digits line of-digits))
+  taken : length (take at text) ≡ at
+  taken = grind (arith, common_steps)
 
-  pub number-of : (value : ℕ) → 0 < length line → value ≡ digits_value 10 (take at line) → value < 2 ^ 63 → number line ≡ Some (pos value)
-  number-of value some v b =
-      let w : value ≡ digits_value 10 line = v ∙ ap (digits_value 10) (take-all line at all) in
-      number-digits line some of-digits (omega (arith, w, b)) ∙ ap (λ x. Some (pos x)) (sym w)
+  pub numeral-of : (value : ℕ) → value ≡ digits_value 10 (take at text) → value < 2 ^ 63 → IsNumeral (take at text) value
+  numeral-of value v b = record {
+    value = number-digits (take at text) (omega (arith, taken, some)) before (omega (arith, v, b)) ∙ ap (λ x. Some (pos x)) (sym v);
+    small = b;
+    text_is = IsUtf8-from_ascii (take at text) (IsAscii-from_all (take at text) (ascii-digits (take at text) before));
+  }

@@ -6,6 +6,7 @@ use Rattle.resp_value.specs.declared.value.Value.{Value}
 use Rattle.resp_parse.specs.declared.read_error.ReadError.{ReadError}
 use Rattle.resp_parse.specs.declared.open_aggregates.OpenAggregate.{OpenAggregate}
 use Rattle.resp_parse.specs.declared.body.Body.{Body}
+use Rattle.resp_parse.specs.declared.line.Line.{Line}
 use Rattle.resp_parse.specs.declared.machine.Machine.{Machine}
 use Rattle.resp_parse.specs.declared.whole.Whole.{Whole}
 use Rattle.resp_parse.specs.declared.machine.Step.{Step}
@@ -91,6 +92,11 @@ LooksAt scanned bytes c d (Some n) =
     LooksAlone c d × (d.iterations + (scanned - 1) ≤ c.iterations + n + 1) × (scanned ≤ n + 1)
 LooksAt scanned bytes c d None =
     LooksAlone c d × (d.iterations + (scanned - 1) ≤ c.iterations + (length bytes - 1))
+
+-- the same of the first line, or of its first n bytes
+abbrev pub LooksForNumeral : List ℕ → Counts → Counts → Result Line ℕ → Type 0
+LooksForNumeral bytes c d (Ok l) = LooksAt 0 bytes c d (Some l.len)
+LooksForNumeral bytes c d (Err n) = LooksAlone c d × (d.iterations ≤ c.iterations + (n - 1))
 
 -- a value is begun: one that is whole makes no iteration, another prepays two
 abbrev pub Begins : Machine → Machine → Counts → Counts → Result (Option Whole) ReadError → Type 0

@@ -1,8 +1,8 @@
 -- Integer lines (RESP, "Integers").
-use Rattle.std.specs.Prelude.{ℕ, ◌^◌, Bool, ◌&&◌, cond, nat_lt, nat_le, List, length, ℤ, pos, negsuc, Option, None, Some, Result, Ok, Err}
+use Rattle.std.specs.Prelude.{◌≡◌, ℕ, ◌<◌, ◌^◌, Bool, ◌&&◌, cond, nat_lt, nat_le, List, length, ℤ, pos, negsuc, Option, None, Some, Result, Ok, Err}
 use Rattle.std.specs.Char.{is_ascii_digit}
 use Rattle.std.specs.List.{list_all}
-use Rattle.std.specs.Str.{trim}
+use Rattle.std.specs.Str.{IsUtf8, trim}
 use Rattle.std.specs.Str.Parse.{without_leading_sign, signed_digits_value, digits_value, starts_with_minus}
 use Rattle.resp_errors.specs.declared.kinds.FrameFault.{FrameFault}
 use Rattle.resp_errors.specs.declared.kinds.FrameFault.TheVariants.{NotInteger, NegativeLength}
@@ -42,3 +42,9 @@ as_length (negsuc n) = Err NegativeLength
 -- the length of a line that must be one
 abbrev pub length_in : List ℕ → Result ℕ FrameFault
 length_in text = elim (integer_in text) [ Ok n ↦ as_length n | Err f ↦ Err f ]
+
+-- a text that writes a number of 63 bits, as digits alone do
+pub record IsNumeral (text : List ℕ) (n : ℕ) : Type 0 where
+  pub value : number text ≡ Some (pos n)
+  pub small : n < 2 ^ 63
+  pub text_is : IsUtf8 text

@@ -1,12 +1,13 @@
 -- What reading gives from where a machine stands, if these bytes come next; and how a machine gets
 -- from one place to another.
-use Rattle.std.specs.Prelude.{◌≡◌, ℕ, suc, ◌+◌, ◌-◌, ◌<◌, ◌≤◌, Bool, true, false, List, [], ◌∷◌, ◌++◌, length, take, drop, min, Option, None, Some, Result, Ok, Err}
+use Rattle.std.specs.Prelude.{◌≡◌, ℕ, suc, ◌+◌, ◌-◌, ◌<◌, ◌≤◌, Bool, true, false, List, [], ◌∷◌, ◌++◌, length, take, drop, min, Option, None, Some, IfSome, Result, Ok, Err}
 use Rattle.resp_value.specs.declared.value.Value.{Value}
 use Rattle.resp_errors.specs.declared.kinds.FrameFault.TheVariants.{BodyEnd}
 use Rattle.resp_parse.specs.declared.read_error.ReadError.{ReadError}
 use Rattle.resp_parse.specs.declared.read_error.ReadError.TheVariants.{Memory, Fault}
 use Rattle.resp_parse.specs.declared.open_aggregates.OpenAggregate.{OpenAggregate}
 use Rattle.resp_parse.specs.declared.body.Body.{Body}
+use Rattle.resp_parse.specs.declared.line.Line.{Line}
 use Rattle.resp_parse.specs.declared.machine.Machine.{Machine}
 use Rattle.resp_parse.specs.declared.whole.Whole.{Whole}
 use Rattle.resp_parse.specs.declared.machine.Step.{Step}
@@ -14,6 +15,7 @@ use Rattle.resp_parse.specs.declared.machine.Step.TheVariants as step
 use Rattle.resp_flat.specs.Readable.{IsReadable}
 use Rattle.resp_parse.specs.Building.{BuildsIn, BuildsWhole}
 use Rattle.resp_parse.specs.Lines.{NoneBefore, Scanned}
+use Rattle.resp_parse.specs.Number.{IsNumeral}
 use Rattle.resp_parse.specs.Shapes.{body_value, elements_value}
 use Rattle.resp_parse.specs.PlainReading.{ReadOutcome, got, fault, incomplete, then, line, end_of_body, read_body, read_elements, made, read}
 
@@ -91,6 +93,16 @@ abbrev pub FindsLine : List ℕ → Option ℕ → Type 0
 FindsLine bs (Some n) =
     (n + 2 ≤ length bs) × (line bs ≡ got (take n bs) (drop (n + 2) bs))
 FindsLine bs None = NoneBefore bs (length bs)
+
+-- how long its text is
+abbrev pub len_of : Option Line → Option ℕ
+len_of None = None
+len_of (Some l) = Some l.len
+
+-- the first line, which writes its number, or the first n bytes hold no CR LF
+abbrev pub FindsNumeral : List ℕ → Result Line ℕ → Type 0
+FindsNumeral bs (Ok l) = FindsLine bs (Some l.len) × IfSome l.number (IsNumeral (take l.len bs))
+FindsNumeral bs (Err n) = Scanned bs n
 
 -- whether the CR LF of a body stands at the start, or the first n bytes show that it doesn't
 abbrev pub EndsBody : List ℕ → Result Bool ℕ → Type 0

@@ -1,13 +1,80 @@
 //! The ends of lines and bodies.
 
+ghost use Rattle.std.specs.Prelude.{IfSome, take};
 ghost use Rattle.resp_parse.specs.Lines.{Scanned};
-ghost use Rattle.resp_parse.specs.Resume.{FindsLine, EndsBody};
-ghost use Rattle.resp_parse.specs.Costs.{LooksAt};
+ghost use Rattle.resp_parse.specs.Number.{IsNumeral};
+ghost use Rattle.resp_parse.specs.Resume.{FindsLine, FindsNumeral, EndsBody, len_of};
+ghost use Rattle.resp_parse.specs.Costs.{LooksAt, LooksForNumeral};
 
 use crate::counter::Counter;
 
+/// The least number that has one digit too many to be read with its line.
+const LARGE: u64 = 100_000_000_000_000_000;
+
+/// The first line of bytes.
+#[derive(Clone, Copy, Debug)]
+pub(crate) struct Line {
+    /// The length of its text.
+    pub(crate) len: usize,
+    /// The number that it writes, where it is few digits alone.
+    pub(crate) number: Option<u64>,
+}
+
+/// The first line, where the first `scanned` bytes hold no CR LF.
+pub(crate) fn first_line(bytes: &[u8], scanned: usize, counts: &mut Counter) -> Option<Line>
+    requires scanned { Scanned bytes.now scanned }
+    ensures line { FindsLine bytes.now (len_of result) }
+    ensures number { IfSome result (λ line.
+        IfSome line.number (IsNumeral (take line.len bytes.now))) }
+    ensures looks { LooksAt scanned bytes.now counts.old counts.new (len_of result) }
+{
+    if scanned > 0 {
+        let len = line_end(bytes, scanned, counts)?;
+        return match numeral(bytes, &mut Counter::new()) {
+            Ok(line) => Some(line),
+            Err(_) => Some(Line { len, number: None }),
+        };
+    }
+    match numeral(bytes, counts) {
+        Ok(line) => Some(line),
+        Err(scanned) => {
+            let len = line_end(bytes, scanned, counts)?;
+            Some(Line { len, number: None })
+        }
+    }
+}
+
+/// The first line, where it is few digits alone. Err: so many bytes hold no CR LF.
+fn numeral(bytes: &[u8], counts: &mut Counter) -> Result<Line, usize>
+    ensures line { FindsNumeral bytes.now result }
+    ensures looks { LooksForNumeral bytes.now counts.old counts.new result }
+{
+    let Some(first) = bytes.first() else {
+        return Err(0);
+    };
+    if !first.is_ascii_digit() {
+        return Err(1);
+    }
+    let mut value = (*first - b'0') as u64;
+    for at in 1..bytes.len() {
+        counts.look();
+        let byte = bytes[at];
+        if !byte.is_ascii_digit() || value >= LARGE {
+            if byte == b'\r' && at + 1 < bytes.len() && bytes[at + 1] == b'\n' {
+                return Ok(Line {
+                    len: at,
+                    number: Some(value),
+                });
+            }
+            return Err(at + 1);
+        }
+        value = value * 10 + (byte - b'0') as u64;
+    }
+    Err(bytes.len())
+}
+
 /// The length of the text up to the first CR LF, where the first `scanned` bytes hold none.
-pub(crate) fn line_end(bytes: &[u8], scanned: usize, counts: &mut Counter) -> Option<usize>
+fn line_end(bytes: &[u8], scanned: usize, counts: &mut Counter) -> Option<usize>
     requires scanned { Scanned bytes.now scanned }
     ensures line { FindsLine bytes.now result }
     ensures looks { LooksAt scanned bytes.now counts.old counts.new result }

@@ -1,10 +1,11 @@
 //! The reading of a value, which stops where the bytes end and goes on from there.
 
-ghost use Rattle.std.specs.Prelude.{◌≡◌, ◌<◌, ◌≤◌, ◌+◌, ◌*◌, ◌^◌, length, true, None, IfOk, OnOk};
+ghost use Rattle.std.specs.Prelude.{◌≡◌, ◌<◌, ◌≤◌, ◌+◌, ◌*◌, ◌^◌, length, true, None, IfOk, IfSome, OnOk};
 ghost use Rattle.resp_parse.specs.Building.{Builds, BuildsIn, BuildsWhole};
 ghost use Rattle.resp_parse.specs.Resume.{BuildsThen, StepBuilds, RunBuilds};
 ghost use Rattle.resp_parse.specs.Computes.{ComputesSeen};
 ghost use Rattle.resp_parse.specs.Grammar.{elements};
+ghost use Rattle.resp_parse.specs.Number.{IsNumeral};
 ghost use Rattle.resp_parse.specs.PlainReading.{then, read_announced, read};
 ghost use Rattle.resp_parse.specs.Shapes.{announced_in_line, line_value, elements_value, count_of};
 ghost use Rattle.resp_parse.specs.Resume.{place, resume, fresh_of, IsScanned, Goes, Ends, Steps};
@@ -18,7 +19,7 @@ use crate::body::Body;
 use crate::builder::Builder;
 use crate::counter::Counter;
 use crate::form::Form;
-use crate::line::{body_ends, line_end};
+use crate::line::{Line, body_ends, first_line};
 use crate::open_aggregates::{Added, OpenAggregates};
 use crate::read_error::ReadError;
 use crate::shape::{ElementsKind, LineKind, Shape, shape_of};
@@ -87,19 +88,21 @@ impl Machine {
         why
     }
 
-    /// Begins what a header announces; Some is a value that is whole with it. After it `at_hand`
-    /// bytes are there.
+    /// Begins what a header announces, whose line may be a number; Some is a value that is whole with
+    /// it. After it `at_hand` bytes are there.
     fn begin(
         &mut self,
         alloc: Global,
         kind: TypeByte,
         line: &[u8],
+        number: Option<u64>,
         at_hand: usize,
         counts: &mut Counter,
     ) -> Result<Option<Whole>, ReadError>
         requires no_body { self.old.body ≡ None }
         requires level { length self.old.open_aggregates < self.old.depth }
         requires builds { Builds self.old.builder self.old.open_aggregates }
+        requires number { IfSome number (IsNumeral line.now) }
         ensures goes { Goes (λ more. then (read_announced
             (read (depth_below self.old.depth self.old.open_aggregates))
             (announced_in_line kind line.now) more)
@@ -112,7 +115,7 @@ impl Machine {
         ensures begins { Begins self.old self.new counts.old counts.new result }
         ensures iterations { counts.new ≡ record counts.old { iterations = counts.new.iterations } }
     {
-        match shape_of(kind, line)? {
+        match shape_of(kind, line, number)? {
             Shape::Nil => Ok(Some(self.builder.leaf(Value::Nil)?)),
             Shape::Int(n) => Ok(Some(self.builder.int(n)?)),
             Shape::Line(kind, text) => Ok(Some(self.begin_line(alloc, kind, text)?)),
@@ -200,15 +203,16 @@ impl Machine {
         let Some(kind) = TypeByte::from_byte(*first) else {
             return Err(self.record_fault(ReadError::Fault(FrameFault::UnknownType), 1));
         };
-        let Some(len) = line_end(after, self.scanned.saturating_sub(1), counts) else {
+        let Some(line) = first_line(after, self.scanned.saturating_sub(1), counts) else {
             counts.examine(bytes.len() - self.scanned);
             self.scanned = bytes.len();
             return Ok(Step::Waits(0));
         };
+        let Line { len, number } = line;
         counts.examine(len + 3 - self.scanned);
         self.scanned = 0;
         let at_hand = after.len() - (len + 2);
-        match self.begin(alloc, kind, &after[..len], at_hand, counts) {
+        match self.begin(alloc, kind, &after[..len], number, at_hand, counts) {
             Ok(Some(whole)) => Ok(Step::Whole(len + 3, whole)),
             Ok(None) => Ok(Step::Goes(len + 3)),
             Err(why) => Err(self.record_fault(why, len + 3)),

@@ -1,18 +1,17 @@
 //! What the line of a header announces.
 
-ghost use Rattle.std.specs.Prelude.{◌≡◌, ◌<◌, ◌^◌, length, IfSome, IfOk, Ok};
-ghost use Rattle.std.specs.Str.{IsUtf8};
+ghost use Rattle.std.specs.Prelude.{◌≡◌, ◌<◌, ◌^◌, ℕ, List, length, IfSome, IfOk, Ok};
 ghost use Rattle.resp_parse.specs.Costs.{Iterations};
 ghost use Rattle.resp_parse.specs.Grammar.{announced, boolean_in, with_valid};
 ghost use Rattle.resp_parse.specs.Grammar.{or_nil, or_empty_push, body as a_body};
 ghost use Rattle.resp_parse.specs.Grammar.{elements as some_elements, push};
-ghost use Rattle.resp_parse.specs.Number.{integer_in};
+ghost use Rattle.resp_parse.specs.Number.{IsNumeral, integer_in};
 ghost use Rattle.resp_parse.specs.Shapes.{Announces, announced_in_line, body_value};
 ghost use Rattle.resp_parse.specs.Shapes.{elements_value, line_value, count_of, token_kind, is_small};
 ghost use Rattle.resp_parse.specs.Computes.{Computes};
 
 use crate::counter::Counter;
-use crate::number::{few_digits, integer_of, length_of};
+use crate::number::{integer_of, length_of};
 use crate::read_error::ReadError;
 use crate::type_byte::TypeByte;
 use crate::value_of::{
@@ -143,13 +142,21 @@ pub(crate) enum Shape<'a> {
     Elements(ElementsKind, usize),
 }
 
-/// What a line announces, for a value of this type.
-pub(crate) fn shape_of(kind: TypeByte, line: &[u8]) -> Result<Shape<'_>, ReadError>
+/// What a line announces, for a value of this type. `number` is what it writes, where that was read
+/// with it.
+pub(crate) fn shape_of(
+    kind: TypeByte,
+    line: &[u8],
+    number: Option<u64>,
+) -> Result<Shape<'_>, ReadError>
+    requires number { IfSome number (IsNumeral line.now) }
     ensures announced { Announces result (announced_in_line kind line.now) }
     ensures small { IfOk result is_small }
 {
-    if let Some(shape) = shape_of_digits(kind, line) {
-        return Ok(shape);
+    if let Some(n) = number {
+        if let Some(shape) = shape_of_number(kind, n) {
+            return Ok(shape);
+        }
     }
     let Ok(text) = std::str::from_utf8(line) else {
         return Err(ReadError::Fault(FrameFault::LineNotUtf8));
@@ -157,19 +164,19 @@ pub(crate) fn shape_of(kind: TypeByte, line: &[u8]) -> Result<Shape<'_>, ReadErr
     shape_of_text(kind, text)
 }
 
-/// What a line of few digits alone announces, for an integer, a bulk string, an array or a map.
-/// None for other types, and of any other line.
-fn shape_of_digits(kind: TypeByte, line: &[u8]) -> Option<Shape<'static>>
-    ensures text { IfSome result (λ shape. IsUtf8 line.now) }
-    ensures announced { IfSome result (λ shape.
-        Announces (Ok shape) (announced kind line.now)) }
+/// What a line of digits alone announces, for an integer, a bulk string, an array or a map. None for
+/// other types.
+fn shape_of_number(kind: TypeByte, n: u64) -> Option<Shape<'static>>
+    requires small { n < 2 ^ 63 }
+    ensures announced { (line : List ℕ) → IsNumeral line n →
+        IfSome result (λ shape. Announces (Ok shape) (announced kind line)) }
     ensures small { IfSome result is_small }
 {
     match kind {
-        TypeByte::Integer => Some(Shape::Int(few_digits(line)? as i64)),
-        TypeByte::BulkString => Some(Shape::Body(BodyKind::Bulk, few_digits(line)? as usize)),
-        TypeByte::Array => Some(Shape::Elements(ElementsKind::Array, few_digits(line)? as usize)),
-        TypeByte::Map => Some(Shape::Elements(ElementsKind::Map, few_digits(line)? as usize)),
+        TypeByte::Integer => Some(Shape::Int(n as i64)),
+        TypeByte::BulkString => Some(Shape::Body(BodyKind::Bulk, n as usize)),
+        TypeByte::Array => Some(Shape::Elements(ElementsKind::Array, n as usize)),
+        TypeByte::Map => Some(Shape::Elements(ElementsKind::Map, n as usize)),
         _ => None,
     }
 }
