@@ -62,7 +62,7 @@ pub enum NumericBehavior {
 /// }
 /// ```
 ///
-/// In `crates/example_arguments/src/member.rt`.
+/// In `crates/example_snippets/src/arguments/member.rt`.
 ///
 /// Fields may also be written one after another, or as a slice; a tuple of them takes references. A
 /// type that is written as another one says so by that one's members, and where that one can be
@@ -74,7 +74,7 @@ pub enum NumericBehavior {
 /// ghost refuses = { λ f. ⟦<BTreeMap<String, Vec<i64>> as ToRedisArgs>⟧.refuses f.values };
 /// ```
 ///
-/// In `crates/example_arguments/src/fields.rt`.
+/// In `crates/example_snippets/src/arguments/fields.rt`.
 pub trait ToRedisArgs: Sized {
     /// Which arguments a value gives.
     ghost gives: { Self → Args → Type 0 };

@@ -37,7 +37,7 @@ pub trait ArgPart {
 /// command.push_arg(Joined(("user:", id, ":name")))?;
 /// ```
 ///
-/// In `crates/example_arguments/src/limit_key.rt`.
+/// In `crates/example_snippets/src/arguments/limit_key.rt`.
 ///
 /// In an own type's impl of [`ToRedisArgs`] it takes the fields by reference, and the type gives
 /// `GivesOne` of the joined bytes:
@@ -50,7 +50,7 @@ pub trait ArgPart {
 /// }
 /// ```
 ///
-/// In `crates/example_arguments/src/limit_key.rt`.
+/// In `crates/example_snippets/src/arguments/limit_key.rt`.
 #[derive(Clone, Copy, Debug, Drop)]
 pub struct Joined<T>(pub T);
 

@@ -158,7 +158,7 @@ impl RedisError {
     /// }
     /// ```
     ///
-    /// In `crates/example_replies/src/counters.rt`.
+    /// In `crates/example_snippets/src/replies/counters.rt`.
     pub fn first_server_error(&self) -> Option<(usize, &ServerError)>
         ensures { option_map (λ found. (found.0, found.1.now)) result
             ≡ first_server_error_of self.now }

@@ -168,7 +168,7 @@ pub fn from_redis_value_ref<T: FromRedisValue>(
 /// }
 /// ```
 ///
-/// In `crates/example_replies/src/own_types.rt`.
+/// In `crates/example_snippets/src/replies/own_types.rt`.
 pub fn from_redis_value_by<T: FromRedisValue, X: From<T>>(
     alloc: Global,
     value: Value,

@@ -9,6 +9,7 @@ use Rattle.std.specs.Char.{is_ascii_digit, is_whitespace, digit_value}
 use Rattle.std.specs.List.{list_all}
 use Rattle.std.specs.Str.{IsAscii, encode_utf8_all, skip_leading_whitespace, drop_trailing_whitespace, trim_start, trim_end, trim}
 use Rattle.std.specs.Str.Parse.{without_leading_plus, without_leading_sign, signed_digits_value, digits_value, starts_with_minus}
+use Rattle.resp_errors.proofs.Digits.{digit_range}
 use Rattle.resp_parse.specs.Lines.{NoneBefore}
 use Rattle.resp_parse.specs.Number.{is_digits, is_decimal, fits_i64, plain_number, number, IsNumeral}
 use Rattle.resp_parse.proofs.ByteTests.{eq_false}
@@ -22,19 +23,16 @@ digits-before [] (suc at) l h = absurd (omega arith)
 digits-before (c ∷ text) zero l h = refl
 digits-before (c ∷ text) (suc at) l h = and_from (is_ascii_digit c) (list_all is_ascii_digit (take at text)) (h 0 (omega arith)) (digits-before text at (omega arith) (λ k m. h (suc k) (omega arith)))
 
-pub digit-range : (c : ℕ) → is_ascii_digit c ≡ true → (48 ≤ c) × (c ≤ 57)
-digit-range c e = (grind (arith, nat_tests), grind (arith, nat_tests))
-
 pub digit-value : (c : ℕ) → is_ascii_digit c ≡ true → digit_value c ≡ c - 48
-digit-value c e = let r = digit-range c e in grind (arith, nat_tests)
+digit-value c e = let r = digit_range c e in grind (arith, nat_tests)
 
 ascii-digits : (text : List ℕ) → Digits text → All (λ b. b < 128) text
 ascii-digits [] h k d l = absurd (omega arith)
-ascii-digits (c ∷ text) h zero d l = let p = and_parts (is_ascii_digit c) (list_all is_ascii_digit text) h in let r = digit-range c p.0 in omega (arith, r.1)
+ascii-digits (c ∷ text) h zero d l = let p = and_parts (is_ascii_digit c) (list_all is_ascii_digit text) h in let r = digit_range c p.0 in omega (arith, r.1)
 ascii-digits (c ∷ text) h (suc k) d l = let p = and_parts (is_ascii_digit c) (list_all is_ascii_digit text) h in ascii-digits text p.1 k d (omega arith)
 
 not_white : (c : ℕ) → is_ascii_digit c ≡ true → is_whitespace c ≡ false
-not_white c e = let r = digit-range c e in grind (arith, nat_tests)
+not_white c e = let r = digit_range c e in grind (arith, nat_tests)
 
 skipped : (text : List ℕ) → Digits text → skip_leading_whitespace text ≡ text
 skipped [] h = refl
@@ -53,10 +51,10 @@ trim-digits text h =
     ap trim_end s ∙ e
 
 no_minus : (c : ℕ) (text : List ℕ) → is_ascii_digit c ≡ true → starts_with_minus (c ∷ text) ≡ false
-no_minus c text e = let r = digit-range c e in eq_false c 45 (λ k. absurd (omega (arith, k, r.0)))
+no_minus c text e = let r = digit_range c e in eq_false c 45 (λ k. absurd (omega (arith, k, r.0)))
 
 no_plus : (c : ℕ) (text : List ℕ) → is_ascii_digit c ≡ true → without_leading_plus (c ∷ text) ≡ c ∷ text
-no_plus c text e = let r = digit-range c e in let n : (c == 43) ≡ false = eq_false c 43 (λ k. absurd (omega (arith, k, r.0))) in rw n refl
+no_plus c text e = let r = digit_range c e in let n : (c == 43) ≡ false = eq_false c 43 (λ k. absurd (omega (arith, k, r.0))) in rw n refl
 
 no_sign : (c : ℕ) (text : List ℕ) → is_ascii_digit c ≡ true → without_leading_sign (c ∷ text) ≡ c ∷ text
 no_sign c text e = rw (no_minus c text e) (no_plus c text e)
@@ -81,7 +79,7 @@ digit-next text at d h k l = by_place (nat_lt k at) refl
 
 -- no CR stands among digits
 pub none_in-digits : (text : List ℕ) (at : ℕ) → ((k : ℕ) → k < at → is_ascii_digit (get_or text k 0) ≡ true) → NoneBefore text (at + 1)
-none_in-digits text at digits k l cr lf = let r = digit-range (get_or text k 0) (digits k (omega arith)) in absurd (omega (arith, r.0, cr))
+none_in-digits text at digits k l cr lf = let r = digit_range (get_or text k 0) (digits k (omega arith)) in absurd (omega (arith, r.0, cr))
 
 -- so many first bytes are digits
 module _ (text : List ℕ) (at : ℕ) (some : 1 ≤ at) (within : at ≤ length text)

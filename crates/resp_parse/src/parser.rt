@@ -117,7 +117,7 @@ impl Parser {
     /// let mut parser = Parser::with_limits(alloc, limits)?;
     /// ```
     ///
-    /// In `crates/resp_tests_public_calls/src/parsers.rt`.
+    /// In `crates/resp_tests/src/parsers.rt`.
     pub fn with_limits(alloc: Global, limits: Limits) -> RedisResult<Parser>
         ensures accepts { IsOk result ↔ AreLimits limits }
         ensures limits { IfOk result (λ parser. parser.limits ≡ limits) }
@@ -259,7 +259,7 @@ impl Parser {
     /// let taken = parser.take_flat(&mut reply)?; // true: three tokens, and the text `hello`
     /// ```
     ///
-    /// In `crates/resp_tests_public_calls/src/flat_replies.rt`.
+    /// In `crates/resp_tests/src/flat_replies.rt`.
     pub fn take_flat(&mut self, reply: &mut FlatReply) -> RedisResult<bool>
         ensures failed { self.old.failed ≡ true → (result ≡ Err has_failed)
             × ((self.new ≡ self.old) × (reply.new ≡ reply.old)) }
@@ -415,7 +415,7 @@ impl Parser {
     /// let offset = parser.fault_offset(); // Some(7)
     /// ```
     ///
-    /// In `crates/resp_tests_public_calls/src/parsers.rt`.
+    /// In `crates/resp_tests/src/parsers.rt`.
     pub fn fault_offset(&self) -> Option<usize>
         ensures offset { result ≡ self.now.fault_offset }
         ensures works { self.now.failed ≡ false → result ≡ None }

@@ -40,7 +40,7 @@ const SPARE: usize = 32;
 ///     .query(con)
 /// ```
 ///
-/// In `crates/example_arguments/src/commands.rt`.
+/// In `crates/example_snippets/src/arguments/commands.rt`.
 ///
 /// As a transaction ([`Pipeline::atomic`]) the commands are sent between `MULTI` and `EXEC`. The
 /// no-response flag of a command changes nothing here.

@@ -3,7 +3,8 @@ use Rattle.std.proofs.lemmas.Int.Digits.{digits_more, digits_value_more}
 use Rattle.std.proofs.lemmas.Str.{digit_value_digit}
 use Rattle.std.specs.Char.{is_ascii_digit}
 use Rattle.std.specs.Str.Parse.{digits_value}
-use Rattle.resp_from.proofs.DigitBytes.{digit_range, digits_small, digits_utf8}
+use Rattle.resp_errors.proofs.Digits.{digit_range}
+use Rattle.resp_from.proofs.DigitBytes.{digits_small, digits_utf8}
 use Rattle.resp_from.proofs.digits.few_digits.Goals as goal
 
 pub loop-at-preserved : goal.loop-at-preserved

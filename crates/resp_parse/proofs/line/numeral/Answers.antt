@@ -3,7 +3,8 @@ use Rattle.std.proofs.lemmas.Int.Digits.{digits_value_more}
 use Rattle.std.specs.Char.{is_ascii_digit, digit_value}
 use Rattle.resp_parse.specs.Counts.{Counts}
 use Rattle.resp_parse.specs.Resume.{FindsLine}
-use Rattle.resp_parse.proofs.FewDigits.{digit-range, digit-value, digit-next, none_in-digits, numeral-of}
+use Rattle.resp_errors.proofs.Digits.{digit_range}
+use Rattle.resp_parse.proofs.FewDigits.{digit-value, digit-next, none_in-digits, numeral-of}
 use Rattle.resp_parse.proofs.LineAt.{line-at}
 use Rattle.resp_parse.proofs.line.numeral.Goals as goal
 
@@ -31,7 +32,7 @@ loop-at-preserved c =
       within = omega (arith, c.loop-at-test.true);
       digits = λ k l. digit-next bytes at d i.digits k l;
       value = omega (arith, more, v, i.value);
-      small = omega (arith, digit-range byte d, c.if-value-ge-LARGE.false);
+      small = omega (arith, digit_range byte d, c.if-value-ge-LARGE.false);
       looks = search rules;
       iterations = omega (arith, i.iterations, ap (λ (t : Counts). t.iterations) c.look.ensures);
     }
