@@ -33,8 +33,7 @@ pub use resp_from::{FromRedisValue, from_redis_value, from_redis_value_by, from_
 pub use resp_from_flat::{FromFlatValue, from_flat_reply};
 pub use resp_link::{ByteLink, CommandSink, Writing, send_all};
 pub use resp_parse::{Limits, Parser, Reading, ReplySource, is_double_text, parse_redis_value};
-pub use resp_pipeline::{Pipeline, pipe};
-pub use resp_retry::{Attempt, retrying};
+pub use resp_pipeline::{Attempt, Pipeline, pipe, retrying};
 pub use resp_server::{OwnedArgs, Request, RequestArgs, send_value};
 pub use resp_types::{IncrexResult, InfoDict, IntegerReplyOrNoOp, ReplicaInfo, Role, ValueType};
 pub use resp_value::{

@@ -1,9 +1,9 @@
 //! Pipelines as what may be tried again.
 
 use crate::pipeline::Pipeline;
+use crate::retries::Attempt;
 use resp_command::ConnectionLike;
 use resp_from::FromRedisValue;
-use resp_retry::Attempt;
 use resp_value::RedisResult;
 
 impl<T: FromRedisValue> Attempt<T> for Pipeline {

@@ -2,7 +2,7 @@
 use Rattle.std.proofs.Common.{◌≡◌, ℕ, ◌+◌, ◌-◌, ◌<◌, Bool, true, false, List, [], ◌∷◌, ◌++◌, length, refl, inl, inr, Result, Ok, Err, length-append, zero-add, arith}
 use Rattle.std.specs.List.{FoldsTo}
 use Rattle.std.proofs.lemmas.Fn.{FoldsTo-push}
-use Rattle.resp_retry.specs.Retried.{TriedAgain, Retried}
+use Rattle.resp_pipeline.specs.Retried.{TriedAgain, Retried}
 
 module _ {C T E G : Type 0} (attempts : C → C → Result T E → Type 0)
     (decides : G → E → Bool → G → Type 0) (budget : ℕ) (first : G) (old : C) where

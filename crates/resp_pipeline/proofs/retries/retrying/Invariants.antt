@@ -1,7 +1,7 @@
 use denote.Param.Always.{always_mut}
 use Rattle.std.specs.Fn.{CalledAt}
-use Rattle.resp_retry.proofs.SoFar.{SoFar}
-use Rattle.resp_retry.proofs.retries.retrying.Given as goal
+use Rattle.resp_pipeline.proofs.SoFar.{SoFar}
+use Rattle.resp_pipeline.proofs.retries.retrying.Given as goal
 
 abbrev pub invariant-loop-answer : goal.invariant-loop-answer
 invariant-loop-answer g l = record {

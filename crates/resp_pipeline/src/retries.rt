@@ -2,7 +2,7 @@
 
 ghost use Rattle.std.specs.Prelude.{◌≡◌};
 ghost use Rattle.std.specs.Fn.{CalledAt};
-ghost use Rattle.resp_retry.specs.Retried.{Retried};
+ghost use Rattle.resp_pipeline.specs.Retried.{Retried};
 
 use resp_command::{Cmd, ConnectionLike};
 use resp_from::FromRedisValue;
