@@ -19,8 +19,3 @@ pub use Rattle.resp_link.specs.Linking.{connection_of}
 pub use Rattle.resp_link.specs.Receiving.{Inflow, inflow_of, unread}
 pub use Rattle.resp_link.specs.Sink.{SendsAll, Sink, sink_of}
 pub use Rattle.resp_pipeline.specs.Retried.{Retried, TriedAgain}
-pub use Rattle.resp_server.specs.ArgIters.{owned_args_left, request_args_left}
-pub use Rattle.resp_server.specs.RequestLaw.{LawOfReading}
-pub use Rattle.resp_server.specs.Requests.{after_name, is_request, name_of}
-pub use Rattle.resp_server.specs.Sending.{SendsValue}
-pub use Rattle.resp_server.specs.Taking.{TakesRequest, no_request}

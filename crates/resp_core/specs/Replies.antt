@@ -1,30 +1,20 @@
 -- What the contracts of replies and errors cite, given out for the crates of users.
-pub use Rattle.resp_encode.specs.Encoding.{IsShort, LawOfEncoding, encoding}
-pub use Rattle.resp_encode.specs.Encodings.{RefusesValue, encoding_in}
-pub use Rattle.resp_encode.specs.Resp2.{IsResp2, resp2_of}
-pub use Rattle.resp_encode.specs.Resp2Encoding.{LawOfResp2Encoding, resp2_encoding}
 pub use Rattle.resp_errors.specs.Errors.{kind_of, detail_of, code_of, fault_of, io_kind_of}
 pub use Rattle.resp_errors.specs.Errors.{first_server_error_of, server_errors_of}
 pub use Rattle.resp_errors.specs.Memory.{OnlyMemory}
 pub use Rattle.resp_errors.specs.Redirects.{RedirectsTo}
 pub use Rattle.resp_errors.specs.Retries.{is_dropped, is_of_cluster, replaces_connection, retry_of}
 pub use Rattle.resp_errors.specs.ServerErrors.{server_code_of, server_details_of}
-pub use Rattle.resp_fields.specs.Fields.{NamedValues, OfField, OfFieldOr, OfFields, value_of}
-pub use Rattle.resp_fields.specs.Fields.{without}
-pub use Rattle.resp_fields.specs.Rows.{OfRow, row_of}
-pub use Rattle.resp_fields.specs.Structs.{AnyOthers, Field, FieldOr, NoOthers}
+pub use Rattle.resp_types.specs.Fields.{NamedValues, OfField, OfFieldOr, OfFields, value_of}
+pub use Rattle.resp_types.specs.Fields.{without}
+pub use Rattle.resp_types.specs.Rows.{OfRow, row_of}
+pub use Rattle.resp_types.specs.Structs.{AnyOthers, Field, FieldOr, NoOthers}
 pub use Rattle.resp_flat.specs.FlatReplies.{IsFlatOf}
 pub use Rattle.resp_flat.specs.FlatValues.{IsShownIn, Shows, ShowsIf}
 pub use Rattle.resp_flat.specs.Readable.{IsReadable}
 pub use Rattle.resp_from.specs.Conversion.{Converts, ConvertsCall, OfVia}
-pub use Rattle.resp_from_flat.specs.EmptyReply.{reply_is_empty}
 pub use Rattle.resp_from.specs.Lists.{OfArray, OfVec}
 pub use Rattle.resp_from.specs.Maps.{HoldsMap, HoldsSet, OfMap, OfSet}
-pub use Rattle.resp_conversion_laws.specs.Laws.{Agree, FitsUnsigned, GoesBySeen, IsSingleValued, ReadsBack}
-pub use Rattle.resp_conversion_laws.specs.Laws.{pair_seen, result_seen}
-pub use Rattle.resp_conversion_laws.specs.lemmas.Via.{one_via}
-pub use Rattle.resp_conversion_laws.specs.lemmas.Scalars.{one_signed, one_string, one_truth, one_unsigned}
-pub use Rattle.resp_conversion_laws.specs.lemmas.Tuples.{last_one, one_and, one_tuple}
 pub use Rattle.resp_containers.specs.Keyed.{Keying, IsDeduplicated, IsMerged, hashed, sorted}
 pub use Rattle.resp_parse.specs.Grammar.{WellFormed, Malformed}
 pub use Rattle.resp_parse.specs.Prefixes.{HasWellFormedPrefix, HasMalformedPrefix, FaultShownBy}

@@ -3,16 +3,9 @@
 pub use resp_command::laws::{
     law_of_equal_arguments, law_of_packing, law_of_requests, law_of_scans, law_of_taking,
 };
-pub use resp_conversion_laws::{
-    SingleKey, SingleValued, law_of_one_value, law_of_owned_and_borrowed, law_of_written_scalars,
-};
-pub use resp_encode::laws::{
-    law_of_encoding, law_of_flat_replies, law_of_resp2, law_of_resp2_encoding,
-};
 pub use resp_errors::laws::{law_of_equal_errors, law_of_error_texts};
 pub use resp_parse::laws::{
     law_of_completion, law_of_levels, law_of_limits, law_of_prefixes, law_of_sizes,
 };
 pub use resp_pipeline::laws::law_of_pipelines;
-pub use resp_server::laws::law_of_reading;
 pub use resp_value::{ExactClone, StructuralEq, law_of_clones, law_of_equal_values};

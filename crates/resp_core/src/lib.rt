@@ -26,16 +26,15 @@ pub use resp_args::{
 pub use resp_command::{
     Arg, ArgsIter, Cmd, ConnectionLike, Iter, Scan, ScanProgress, cmd, pack_command,
 };
-pub use resp_encode::{as_resp2, encode, encode_within};
-pub use resp_fields::{Fields, FromFields, from_redis_fields, from_redis_fields_by};
 pub use resp_flat::{FlatElements, FlatPairs, FlatReply, FlatValue, Token, TokenKind};
 pub use resp_from::{FromRedisValue, from_redis_value, from_redis_value_by, from_redis_value_ref};
-pub use resp_from_flat::{FromFlatValue, from_flat_reply};
 pub use resp_link::{ByteLink, CommandSink, Writing, send_all};
 pub use resp_parse::{Limits, Parser, Reading, ReplySource, is_double_text, parse_redis_value};
 pub use resp_pipeline::{Attempt, Pipeline, pipe, retrying};
-pub use resp_server::{OwnedArgs, Request, RequestArgs, send_value};
-pub use resp_types::{IncrexResult, InfoDict, IntegerReplyOrNoOp, ReplicaInfo, Role, ValueType};
+pub use resp_types::{
+    Fields, FromFields, IncrexResult, InfoDict, IntegerReplyOrNoOp, ReplicaInfo, Role, ValueType,
+    from_redis_fields, from_redis_fields_by,
+};
 pub use resp_value::{
     Boxed, Bytes, Description, ErrorKind, FrameFault, IoKind, Items, MapIter, OwnedMapIter,
     ParsingError, PushInfo, PushKind, RedisError, RedisResult, RetryMethod, ServerError,

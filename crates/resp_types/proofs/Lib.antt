@@ -1,3 +1,5 @@
 pub mod Copies
 pub mod Entries
+pub mod Naming
 pub mod Roles
+pub mod TakingRows

@@ -1,5 +1,10 @@
+pub mod Fields
 pub mod Increx
 pub mod Info
 pub mod IntegerReplies
+pub mod OneValue
+pub mod lemmas
 pub mod Roles
+pub mod Rows
+pub mod Structs
 pub mod ValueTypes

@@ -1,16 +1,23 @@
-//! Replies of single commands as types of their own: INFO, ROLE, TYPE, INCREX, and integers with
-//! two answers that are no number.
+//! Replies of a shape: the fields of a reply by name and structs that are made of them; and replies
+//! of single commands as types of their own: INFO, ROLE, TYPE, INCREX, and integers with two answers
+//! that are no number.
 #![tactic(auto)]
 
 mod equality;
+mod fields;
 mod increx;
 mod info;
 mod integer_reply;
 mod role;
+mod rows;
+mod structs;
 mod value_type;
 
+pub use fields::Fields;
 pub use increx::IncrexResult;
 pub use info::InfoDict;
 pub use integer_reply::IntegerReplyOrNoOp;
 pub use role::{ReplicaInfo, Role};
+pub use rows::from_redis_fields_by;
+pub use structs::{FromFields, from_redis_fields};
 pub use value_type::ValueType;

@@ -1,4 +1,0 @@
-pub mod Fields
-pub mod OneReply
-pub mod Rows
-pub mod Structs

@@ -1,0 +1,4 @@
+pub mod Commands
+pub mod Via
+pub mod Tuples
+pub mod Wrappers
