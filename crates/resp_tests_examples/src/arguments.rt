@@ -1,6 +1,6 @@
 //! What own types write, and the bytes of the commands that own functions make.
 
-use example_arguments::{
+use example_snippets::arguments::{
     Key, LimitKey, Member, Path, Point, Range, add_all, add_tagged, add_twelve, get, get_name,
 };
 use resp_core::{Cmd, Joined, RedisResult, ToRedisArgs, cmd};

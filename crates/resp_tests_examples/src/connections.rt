@@ -1,6 +1,6 @@
 //! Code over stored replies, and over a link that is counted.
 
-use example_replies::{Counted, Stored, count_call, visit_between, visit_over, visits};
+use example_snippets::replies::{Counted, Stored, count_call, visit_between, visit_over, visits};
 use resp_core::{ConnectionLike, RedisResult, parse_redis_value};
 use resp_testing::{answer_text, bytes_text, pipeline};
 use std::collections::VecDeque;

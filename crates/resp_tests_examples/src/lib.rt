@@ -1,12 +1,13 @@
-//! Tests of the callers `example_arguments`, `example_proxy`, `example_redirect` and
-//! `example_replies`, and of what the program `resp` does where its streams fail, over links in
-//! memory; and of calls that are tried again.
+//! Tests of the callers of `example_snippets`, and of what the program `resp` does where its
+//! streams fail, over links in memory; and of calls that are tried again.
 #![tactic(auto)]
 
 #[cfg(test)]
 mod arguments;
 #[cfg(test)]
 mod connections;
+#[cfg(test)]
+mod fields;
 #[cfg(test)]
 mod program;
 #[cfg(test)]

@@ -1,9 +1,9 @@
 //! What functions over a connection answer and send: fields and names, a proxy, and two nodes of a
 //! cluster. The errors are those of the Redis cluster specification.
 
-use example_arguments::{fields_of, rename, set_fields};
-use example_proxy::{forward, hand_on_pushes, relay};
-use example_redirect::query_redirected;
+use example_snippets::arguments::{fields_of, rename, set_fields};
+use example_snippets::proxy::{forward, hand_on_pushes, relay};
+use example_snippets::redirect::query_redirected;
 use resp_core::{ByteLink, ConnectionLike, ErrorKind, ProtocolVersion, Reading, Value, Writing};
 use resp_testing::{MemoryLink, answer_text, command, debug_text, link_over, sent_text};
 use std::io::Cursor;

@@ -1,6 +1,6 @@
 //! Own types out of replies.
 
-use example_replies::{Point, Scored};
+use example_snippets::replies::{Point, Scored};
 use resp_core::{FromRedisValue, from_redis_value, parse_redis_value};
 use std::process::Abort;
 

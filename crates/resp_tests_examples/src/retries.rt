@@ -1,7 +1,7 @@
 //! Calls that are tried again. The errors are those of a server that is loading its data, which
 //! asks a client to wait, and of a refused command, which doesn't.
 
-use example_replies::{Stored, visits_when_ready};
+use example_snippets::replies::{Stored, visits_when_ready};
 use resp_core::{Cmd, Pipeline, RedisError, RetryMethod, parse_redis_value, retrying};
 use resp_testing::{answer_text, command, link_over, pipeline};
 use std::collections::VecDeque;
