@@ -1,5 +1,5 @@
-//! What the tests share: commands of words, links over memory, a device that fails at a
-//! chosen call, and what answers show.
+//! What the tests share: commands of words, links over memory, a device that fails at a chosen call,
+//! and what answers show.
 //!
 //! A text is empty where memory runs out for it, so that a test that wants one fails.
 
