@@ -1,0 +1,2 @@
+pub mod Redirected
+pub mod Relayed
