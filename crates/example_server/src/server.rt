@@ -3,7 +3,8 @@
 use crate::command::Request;
 use crate::reading::request_of;
 use crate::session::{Session, answer};
-use resp_core::{ErrorKind, IoKind, Parser, RedisError, RedisResult, Value, encode};
+use resp_core::{ErrorKind, IoKind, Parser, RedisError, RedisResult, Value};
+use resp_encode::encode;
 use std::alloc::Global;
 use std::io::{Read, Write};
 
@@ -71,7 +72,7 @@ impl Server {
 
     /// Appends the reply to what a client sent.
     fn reply(&mut self, value: Value, replies: &mut Vec<u8>) -> RedisResult<()> {
-        match resp_core::Request::from_value(value) {
+        match resp_server::Request::from_value(value) {
             Ok(request) => self.reply_to(words_of(self.alloc, request)?, replies),
             Err(other) => other_value(&other),
         }
@@ -88,7 +89,7 @@ impl Server {
 }
 
 /// The words of a request, the name of a command first.
-fn words_of(alloc: Global, request: resp_core::Request) -> RedisResult<Vec<Vec<u8>>> {
+fn words_of(alloc: Global, request: resp_server::Request) -> RedisResult<Vec<Vec<u8>>> {
     let mut words = Vec::with_capacity(alloc, request.len())?;
     for word in request.into_args() {
         words.push(word.into_vec()?)?;

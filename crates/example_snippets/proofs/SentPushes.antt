@@ -1,7 +1,7 @@
 -- Pushes that are sent one after another.
 use Rattle.std.proofs.Common.{◌≡◌, ℕ, List, [], ◌∷◌, ◌++◌, Option, Some, None, refl, sym, ap, ◌∙◌, append_assoc, append-nil, inl, inr}
 use Rattle.std.specs.Fmt.{◌++?◌}
-use Rattle.resp_core.specs.Replies.{RefusesValue}
+use Rattle.resp_encode.specs.Encodings.{RefusesValue}
 use Rattle.resp_core.specs.declared.RedisError.{RedisError}
 use Rattle.resp_core.specs.declared.ProtocolVersion.TheVariants.{RESP3}
 use Rattle.resp_value.specs.declared.value.Value.{Push}

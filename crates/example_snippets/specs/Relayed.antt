@@ -2,7 +2,8 @@
 use Rattle.std.specs.Prelude.{◌≡◌, List, [], ◌∷◌, ℕ, Option, Some, Result, Ok, Err, IfErr, OnOk, OnErr}
 use Rattle.std.specs.Fmt.{◌++?◌}
 use Rattle.resp_core.specs.Connections.{Connection, PackedCall}
-use Rattle.resp_core.specs.Replies.{RefusesValue, encoding_in, usual}
+use Rattle.resp_core.specs.Replies.{usual}
+use Rattle.resp_encode.specs.Encodings.{RefusesValue, encoding_in}
 use Rattle.resp_core.specs.declared.ProtocolVersion.{ProtocolVersion}
 use Rattle.resp_core.specs.declared.ProtocolVersion.TheVariants.{RESP2, RESP3}
 use Rattle.resp_core.specs.declared.RedisError.{RedisError}

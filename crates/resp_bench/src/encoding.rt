@@ -2,7 +2,8 @@
 
 use crate::Round;
 use crate::packing::set_command;
-use resp_core::{Cmd, ProtocolVersion, RedisResult, Value, cmd, encode, parse_redis_value};
+use resp_core::{Cmd, ProtocolVersion, RedisResult, Value, cmd, parse_redis_value};
+use resp_encode::encode;
 use std::alloc::Global;
 
 /// How many bulk strings the reply has.

@@ -46,7 +46,7 @@ impl<T: FromRedisValue> Attempt<T> for Cmd {
 /// })
 /// ```
 ///
-/// In `crates/example_replies/src/counters.rt`.
+/// In `crates/example_snippets/src/replies/counters.rt`.
 ///
 /// A link that met a fault stays broken, so an attempt over it after `Reconnect` or
 /// `RetryImmediately` is refused: stop there, and make a new one.

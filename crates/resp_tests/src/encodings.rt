@@ -5,8 +5,9 @@ use crate::checks::{Test, assert_equal, assert_text, reply, text, token};
 use crate::testing::{answer_text, bytes_text};
 use resp_core::{
     Bytes, FlatReply, Items, ProtocolVersion, PushKind, ServerError, TokenKind, Value,
-    VerbatimFormat, as_resp2, encode, encode_within, is_double_text,
+    VerbatimFormat, is_double_text,
 };
+use resp_encode::{as_resp2, encode, encode_within};
 
 const REFUSED: &str = "the value has no encoding - Client :1";
 

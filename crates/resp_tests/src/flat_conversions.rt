@@ -2,9 +2,8 @@
 
 use crate::checks::{Test, assert_text, reply};
 use crate::testing::debug_text;
-use resp_core::{
-    FlatReply, FromFlatValue, Items, RedisResult, Text, Value, from_flat_reply, from_redis_value,
-};
+use resp_core::{FlatReply, Items, RedisResult, Text, Value, from_redis_value};
+use resp_from_flat::{FromFlatValue, from_flat_reply};
 use std::collections::{BTreeMap, BTreeSet};
 use std::fmt::Debug;
 

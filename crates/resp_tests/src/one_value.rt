@@ -3,8 +3,8 @@
 ghost use Rattle.std.specs.Prelude.{◌≡◌, IfOk};
 
 use crate::checks::assert_answer;
-use resp_core::laws::{SingleValued, law_of_one_value};
 use resp_core::{FromRedisValue, RedisResult, parse_redis_value};
+use resp_laws::{SingleValued, law_of_one_value};
 use std::alloc::Global;
 
 /// What a reply converts to when it is borrowed, and when it is moved: they look the same.

@@ -2,7 +2,8 @@
 
 use crate::checks::{Test, assert_text, reply, string};
 use crate::testing::{answer_text, bytes_text, debug_text, refusal_text};
-use resp_core::{Parser, ProtocolVersion, Request, Text, Value, Writing, cmd, send_value};
+use resp_core::{Parser, ProtocolVersion, Text, Value, Writing, cmd};
+use resp_server::{Request, send_value};
 
 const REFUSED: &str = "request is not an array of bulk strings - Client";
 

@@ -2,10 +2,11 @@
 
 use crate::heap::{Test, made, refuse, shows};
 use resp_core::{
-    FlatReply, FromFlatValue, FromRedisValue, IncrexResult, Items, ParsingError, RedisError,
-    RedisResult, Role, Text, Value, ValueType, from_flat_reply, from_redis_value,
-    from_redis_value_by, from_redis_value_ref, parse_redis_value,
+    FlatReply, FromRedisValue, IncrexResult, Items, ParsingError, RedisError, RedisResult, Role,
+    Text, Value, ValueType, from_redis_value, from_redis_value_by, from_redis_value_ref,
+    parse_redis_value,
 };
+use resp_from_flat::{FromFlatValue, from_flat_reply};
 use std::boxed::BoxedSlice;
 use std::collections::{BTreeMap, BTreeSet, HashMap, HashSet};
 use std::fmt::Debug;

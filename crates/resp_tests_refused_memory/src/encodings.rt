@@ -1,10 +1,8 @@
 //! Values that are written: all bytes of one, or none and memory runs out; and as flat replies.
 
 use crate::heap::{Test, made, ran_out, refuse};
-use resp_core::{
-    FlatReply, FlatValue, ProtocolVersion, RedisResult, Value, as_resp2, encode, encode_within,
-    parse_redis_value,
-};
+use resp_core::{FlatReply, FlatValue, ProtocolVersion, RedisResult, Value, parse_redis_value};
+use resp_encode::{as_resp2, encode, encode_within};
 
 /// Of types that take memory while they are written, and of others.
 const REPLY: &[u8] =

@@ -2,7 +2,8 @@
 
 use crate::heap::{equal, refuse_all};
 use crate::no_memory::took_none;
-use resp_core::{Request, Writing, parse_redis_value, send_all};
+use resp_core::{Writing, parse_redis_value, send_all};
+use resp_server::Request;
 
 #[test]
 fn requests(rt: HostRuntime) {

@@ -1,7 +1,8 @@
 //! Requests that are taken from a parser, and values that are sent over a sink.
 
 use crate::heap::{equal, ran_out, refuse};
-use resp_core::{Parser, ProtocolVersion, Request, Writing, parse_redis_value, send_value};
+use resp_core::{Parser, ProtocolVersion, Writing, parse_redis_value};
+use resp_server::{Request, send_value};
 
 #[test]
 fn requests_of_a_parser(rt: HostRuntime) {

@@ -105,7 +105,7 @@ fn from_row<T: FromRedisValue, X: From<T>>(
 /// }
 /// ```
 ///
-/// In `crates/example_fields/src/paths.rt`.
+/// In `crates/example_snippets/src/fields/paths.rt`.
 pub fn from_redis_fields_by<T: FromRedisValue, X: From<T>>(
     alloc: Global,
     value: Value,

@@ -44,7 +44,7 @@ use std::alloc::Global;
 /// }
 /// ```
 ///
-/// In `crates/example_fields/src/paths.rt`.
+/// In `crates/example_snippets/src/fields/paths.rt`.
 pub trait FromFields: Sized + Drop {
     // Holds of fields and each value that is made of them.
     ghost of_fields: { NamedValues → Self → Type 0 };

@@ -2,9 +2,8 @@
 
 use crate::rows::{Row, malformed};
 use crate::texts::{add_part, debug_text, quoted};
-use resp_core::{
-    ErrorKind, Parser, ProtocolVersion, RedisResult, Value, as_resp2, encode, parse_redis_value,
-};
+use resp_core::{ErrorKind, Parser, ProtocolVersion, RedisResult, Value, parse_redis_value};
+use resp_encode::{as_resp2, encode};
 use std::alloc::Global;
 
 /// `encode BYTES`

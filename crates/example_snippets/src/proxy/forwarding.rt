@@ -5,7 +5,8 @@ ghost use Rattle.resp_core.specs.Connections.{PackedCall};
 ghost use Rattle.example_snippets.specs.Relayed.{Relays};
 
 use crate::proxy::reply::Reply;
-use resp_core::{ConnectionLike, ProtocolVersion, RedisResult, encode};
+use resp_core::{ConnectionLike, ProtocolVersion, RedisResult};
+use resp_encode::encode;
 
 /// Sends the bytes of a command on as they are, and hands the reply to it back.
 ///

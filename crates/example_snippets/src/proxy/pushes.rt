@@ -3,15 +3,16 @@
 ghost use Rattle.std.specs.Prelude.{◌≡◌, [], IfErr, MatchResult, OnErr, OnOk, Some};
 ghost use Rattle.std.specs.Fmt.{◌++?◌};
 ghost use Rattle.resp_core.specs.declared.ProtocolVersion.TheVariants.{RESP3};
-ghost use Rattle.resp_core.specs.Replies.{RefusesValue};
+ghost use Rattle.resp_encode.specs.Encodings.{RefusesValue};
 ghost use Rattle.resp_value.specs.declared.value.Value.{Push};
 ghost use Rattle.example_snippets.specs.Relayed.{RefusesPushes, sent_for, sent_for_each};
 ghost use Rattle.example_snippets.specs.Relayed.{sent_for_pushes};
 
 use resp_core::{
     ByteLink, CommandSink, ConnectionLike, ProtocolVersion, PushInfo, RedisResult, ReplySource,
-    Value, encode,
+    Value,
 };
+use resp_encode::encode;
 use std::alloc::Global;
 
 /// Appends what the client is sent for the pushes that a link has set aside, the oldest first: in

@@ -7,8 +7,8 @@
 ghost use Rattle.std.specs.Prelude.{◌≡◌};
 ghost use Rattle.resp_core.specs.Replies.{OfVia};
 
-use resp_core::laws::SingleValued;
 use resp_core::{FromRedisValue, ParsingError, Value, from_redis_value_by};
+use resp_laws::SingleValued;
 use std::alloc::Global;
 
 /// A point of a plane.
@@ -44,7 +44,7 @@ impl FromRedisValue for Point {
 impl SingleValued for Point {
     ghost use Rattle.std.specs.Prelude.{ℤ};
     ghost use Rattle.std.specs.Int.{w64};
-    ghost use Rattle.resp_core.specs.Replies.{last_one, one_and, one_via, one_signed, one_tuple};
+    ghost use Rattle.resp_laws.specs.OneValue.{last_one, one_and, one_via, one_signed, one_tuple};
 
     ghost Seen = { ℤ × ℤ };
 
@@ -88,8 +88,8 @@ impl FromRedisValue for Scored {
 impl SingleValued for Scored {
     ghost use Rattle.std.specs.Prelude.{ℕ, ℤ, List, string_bytes};
     ghost use Rattle.std.specs.Int.{w64};
-    ghost use Rattle.resp_core.specs.Replies.{last_one, one_and, one_via, one_signed, one_string};
-    ghost use Rattle.resp_core.specs.Replies.{one_tuple};
+    ghost use Rattle.resp_laws.specs.OneValue.{last_one, one_and, one_via, one_signed, one_string};
+    ghost use Rattle.resp_laws.specs.OneValue.{one_tuple};
 
     ghost Seen = { List ℕ × ℤ };
 
