@@ -157,8 +157,42 @@ fn listed(rt: &impl Test, error: RedisError) -> Vec<(usize, ServerError)> {
     errors.expect(rt, "server errors")
 }
 
+/// A general error of this kind, with an address as its detail.
+fn addressed(rt: &impl Test, kind: ErrorKind) -> RedisError {
+    RedisError::from((kind, "x", string(rt, "3999 h:1")))
+}
+
+/// The error has this code, and sends to this node.
+fn sends(rt: &impl Test, error: RedisError, code: Option<&str>, node: Option<(&str, u16)>) {
+    assert_eq!(rt; error.code(), code);
+    assert_eq!(rt; error.redirect_node(), node);
+}
+
+#[test]
+fn general_errors_of_a_servers_kind(rt: HostRuntime) {
+    let moved = ErrorKind::Server(ServerErrorKind::Moved);
+    let crossed = ErrorKind::Server(ServerErrorKind::CrossSlot);
+    let node = Some(("h:1", 3999));
+    made_prints(&rt, addressed(&rt, moved), "x - Server(Moved): 3999 h:1");
+    sends(&rt, RedisError::from((moved, "x")), Some("MOVED"), None);
+    sends(&rt, addressed(&rt, moved), Some("MOVED"), node);
+    sends(&rt, addressed(&rt, crossed), Some("CROSSSLOT"), None);
+    sends(&rt, addressed(&rt, ErrorKind::Client), None, None);
+}
+
+/// A pipeline's error with one error in it.
+fn lone_failure(rt: &impl Test) -> RedisError {
+    let list = vec![in rt.alloc(); (1, server_error(rt, "CROSSSLOT"))].expect(rt, "memory");
+    RedisError::Pipeline(list.into())
+}
+
 #[test]
 fn lists_of_errors(rt: HostRuntime) {
+    made_prints(
+        &rt,
+        lone_failure(&rt),
+        "Pipeline failure: [(Index 1, error: CrossSlot)]",
+    );
     let mut list = vec![in rt.alloc(); (1, server_error(&rt, "CROSSSLOT"))].expect(&rt, "memory");
     list.push((3, server_error(&rt, "ERR x")))
         .expect(&rt, "memory");

@@ -1,6 +1,8 @@
 //! Values by hand: copies, attributes, pairs and pushes; lists, texts and boxes.
 
-use crate::checks::{Test, assert_debug, assert_display, assert_equal, assert_text, reply, string};
+use crate::checks::{
+    Test, assert_debug, assert_display, assert_equal, assert_text, reply, string, text,
+};
 use crate::testing::{answer_text, debug_text};
 use resp_core::{Boxed, Bytes, Description, Items, PushInfo, PushKind, Text, Value};
 
@@ -107,6 +109,16 @@ fn values_that_come_back(rt: HostRuntime) {
         payload: Items::from(payload),
     };
     assert_equal(&rt, push.try_clone(), &push);
+}
+
+/// No reply is read as this kind; a program may make it.
+#[test]
+fn the_kind_of_a_lost_connection(rt: HostRuntime) {
+    let lost = PushKind::Disconnection;
+    assert_display(&rt, &lost, "disconnection");
+    assert_debug(&rt, &lost, "Disconnection");
+    assert_equal(&rt, lost.try_clone(rt.alloc()), &lost);
+    assert!(rt; lost != PushKind::Other(text(&rt, "disconnection")));
 }
 
 #[test]

@@ -1,11 +1,13 @@
 //! What is asked of errors.
 
+use crate::replies::agreed;
 use crate::rows::{Row, malformed};
 use crate::texts::debug_text;
 use resp_core::{
     ErrorKind, IoKind, RedisError, RedisResult, ServerErrorKind, Value, parse_redis_value,
 };
 use std::alloc::Global;
+use std::io;
 
 /// `error BYTES`
 pub fn error(alloc: Global, row: &Row) -> RedisResult<String> {
@@ -101,6 +103,52 @@ const IO_KINDS: [IoKind; 14] = [
     IoKind::Other,
 ];
 
+/// The kinds of the standard library's errors; those of [`IO_KINDS`] have the same names.
+const STANDARD_KINDS: [io::ErrorKind; 42] = [
+    io::ErrorKind::NotFound,
+    io::ErrorKind::PermissionDenied,
+    io::ErrorKind::ConnectionRefused,
+    io::ErrorKind::ConnectionReset,
+    io::ErrorKind::HostUnreachable,
+    io::ErrorKind::NetworkUnreachable,
+    io::ErrorKind::ConnectionAborted,
+    io::ErrorKind::NotConnected,
+    io::ErrorKind::AddrInUse,
+    io::ErrorKind::AddrNotAvailable,
+    io::ErrorKind::NetworkDown,
+    io::ErrorKind::BrokenPipe,
+    io::ErrorKind::AlreadyExists,
+    io::ErrorKind::WouldBlock,
+    io::ErrorKind::NotADirectory,
+    io::ErrorKind::IsADirectory,
+    io::ErrorKind::DirectoryNotEmpty,
+    io::ErrorKind::ReadOnlyFilesystem,
+    io::ErrorKind::FilesystemLoop,
+    io::ErrorKind::StaleNetworkFileHandle,
+    io::ErrorKind::InvalidInput,
+    io::ErrorKind::InvalidData,
+    io::ErrorKind::TimedOut,
+    io::ErrorKind::WriteZero,
+    io::ErrorKind::StorageFull,
+    io::ErrorKind::NotSeekable,
+    io::ErrorKind::QuotaExceeded,
+    io::ErrorKind::FileTooLarge,
+    io::ErrorKind::ResourceBusy,
+    io::ErrorKind::ExecutableFileBusy,
+    io::ErrorKind::Deadlock,
+    io::ErrorKind::CrossesDevices,
+    io::ErrorKind::TooManyLinks,
+    io::ErrorKind::InvalidFilename,
+    io::ErrorKind::ArgumentListTooLong,
+    io::ErrorKind::Interrupted,
+    io::ErrorKind::Unsupported,
+    io::ErrorKind::UnexpectedEof,
+    io::ErrorKind::OutOfMemory,
+    io::ErrorKind::InProgress,
+    io::ErrorKind::Other,
+    io::ErrorKind::Uncategorized,
+];
+
 /// Whether the row's word is the name that a kind shows.
 fn is_named(row: &Row, shown: &str) -> bool {
     match row.words() {
@@ -130,9 +178,20 @@ fn other_kind(alloc: Global, row: &Row) -> RedisResult<String> {
 
 /// `io NAME`
 pub fn io(alloc: Global, row: &Row) -> RedisResult<String> {
+    let standard = standard_kind(alloc, row)?;
     for kind in IO_KINDS {
         if is_named(row, debug_text(alloc, &kind)?.as_str()) {
-            return meaning(alloc, RedisError::from(kind));
+            let text = meaning(alloc, RedisError::from(kind))?;
+            return agreed(alloc, text, standard, "by the standard library's");
+        }
+    }
+    Ok(standard)
+}
+
+fn standard_kind(alloc: Global, row: &Row) -> RedisResult<String> {
+    for kind in STANDARD_KINDS {
+        if is_named(row, debug_text(alloc, &kind)?.as_str()) {
+            return meaning(alloc, RedisError::from(io::Error::from(kind)));
         }
     }
     Err(malformed())

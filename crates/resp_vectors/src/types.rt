@@ -132,6 +132,30 @@ fn at_tuple<W: AtType + Drop>(name: &str, work: W) -> RedisResult<String> {
         "((i64,i64),(i64,i64))" => work.at::<((i64, i64), (i64, i64))>(),
         "(Vec<i64>,i64)" => work.at::<(Vec<i64>, i64)>(),
         "Option<(i64,)>" => work.at::<Option<(i64,)>>(),
+        _ => at_wide_tuple(name, work),
+    }
+}
+
+fn at_wide_tuple<W: AtType + Drop>(name: &str, work: W) -> RedisResult<String> {
+    match name {
+        "(i64,i64,i64,i64)" => work.at::<(i64, i64, i64, i64)>(),
+        "(i64,i64,i64,i64,i64,i64)" => work.at::<(i64, i64, i64, i64, i64, i64)>(),
+        "(i64,i64,i64,i64,i64,i64,i64)" => work.at::<(i64, i64, i64, i64, i64, i64, i64)>(),
+        "(i64,i64,i64,i64,i64,i64,i64,i64)" => work.at::<
+            (i64, i64, i64, i64, i64, i64, i64, i64),
+        >(),
+        "(i64,i64,i64,i64,i64,i64,i64,i64,i64)" => work.at::<
+            (i64, i64, i64, i64, i64, i64, i64, i64, i64),
+        >(),
+        "(i64,i64,i64,i64,i64,i64,i64,i64,i64,i64)" => work.at::<
+            (i64, i64, i64, i64, i64, i64, i64, i64, i64, i64),
+        >(),
+        "(i64,i64,i64,i64,i64,i64,i64,i64,i64,i64,i64)" => work.at::<
+            (i64, i64, i64, i64, i64, i64, i64, i64, i64, i64, i64),
+        >(),
+        "(i64,i64,i64,i64,i64,i64,i64,i64,i64,i64,i64,i64)" => work.at::<
+            (i64, i64, i64, i64, i64, i64, i64, i64, i64, i64, i64, i64),
+        >(),
         _ => at_keyed(name, work),
     }
 }
