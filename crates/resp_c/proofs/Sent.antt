@@ -46,7 +46,7 @@ use Rattle.resp_flat.specs.contracts.flat_reply.FlatReply as reply
 use Rattle.resp_flat.proofs.flat_reply.FlatReply.TheSendSync as reply_sent
 use Rattle.resp_parse.specs.contracts.body.Body as body
 use Rattle.resp_parse.specs.contracts.builder.Builder as builder
-use Rattle.resp_parse.specs.contracts.counter.Counter as counter
+use Rattle.resp_parse.specs.contracts.parser.counter.Counter as counter
 use Rattle.resp_parse.specs.contracts.held.Held as held
 use Rattle.resp_parse.specs.contracts.held.Held.TheInside as held_inside
 use Rattle.resp_parse.specs.contracts.machine.Machine as machine

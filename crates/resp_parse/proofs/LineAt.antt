@@ -39,19 +39,6 @@ line-at bs at one none l cr lf =
     let z : suc (suc (at - 1)) ≡ (at - 1) + 2 = omega arith in
     (omega arith, found ∙ ap (λ k. got (take (at - 1) bs) (drop k bs)) z)
 
--- the first line has one length
-pub one-length : (bs : List ℕ) (n m : ℕ) → FindsLine bs (Some n) → FindsLine bs (Some m) → n ≡ m
-one-length bs n m f g =
-    let same : got (take n bs) (drop (n + 2) bs) ≡ got (take m bs) (drop (m + 2) bs) = sym f.1 ∙ g.1 in
-    let taken : take n bs ≡ take m bs = cc in
-    let lengths : length (take n bs) ≡ length (take m bs) = ap length taken in
-    let a : length (take n bs) ≡ n = length-taken bs n (omega (arith, f.0)) in
-    let b : length (take m bs) ≡ m = length-taken bs m (omega (arith, g.0)) in
-    omega (arith, lengths, a, b)
-  where
-    length-taken : (xs : List ℕ) (k : ℕ) → k ≤ length xs → length (take k xs) ≡ k
-    length-taken xs k l = grind (arith, common_steps)
-
 -- a line that was looked at goes on
 get_or-append : (bs more : List ℕ) (k : ℕ) → k < length bs → get_or (bs ++ more) k 0 ≡ get_or bs k 0
 get_or-append [] more k l = absurd (omega arith)

@@ -13,9 +13,9 @@ ghost use Rattle.resp_parse.specs.Resume.{FillsBody};
 ghost use Rattle.resp_parse.specs.Costs.{Iterations};
 
 use crate::body::Body;
-use crate::counter::Counter;
 use crate::held::Held;
 use crate::open_aggregates::OpenAggregate;
+use crate::parser::Counter;
 use crate::read_error::ReadError;
 use crate::seen::{SeenValue, SeenValues};
 use crate::seen_bytes::SeenBytes;

@@ -3,7 +3,6 @@
 
 mod body;
 mod builder;
-mod counter;
 mod double;
 mod form;
 mod held;
@@ -14,7 +13,6 @@ mod machine;
 mod number;
 mod open_aggregates;
 mod parser;
-mod prefix;
 mod read_error;
 mod reader_source;
 mod seen;
@@ -27,7 +25,6 @@ mod whole;
 
 pub use double::is_double_text;
 pub use limits::Limits;
-pub use parser::Parser;
-pub use prefix::parse_redis_value;
+pub use parser::{Parser, parse_redis_value};
 pub use reader_source::Reading;
 pub use source::ReplySource;

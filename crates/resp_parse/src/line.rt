@@ -6,7 +6,7 @@ ghost use Rattle.resp_parse.specs.Number.{IsNumeral};
 ghost use Rattle.resp_parse.specs.Resume.{FindsLine, FindsNumeral, EndsBody, len_of};
 ghost use Rattle.resp_parse.specs.Costs.{LooksAt, LooksForNumeral};
 
-use crate::counter::Counter;
+use crate::parser::Counter;
 
 /// The least number that has one digit too many to be read with its line.
 const LARGE: u64 = 100_000_000_000_000_000;
@@ -28,20 +28,15 @@ pub(crate) fn first_line(bytes: &[u8], scanned: usize, counts: &mut Counter) -> 
         IfSome line.number (IsNumeral (take line.len bytes.now))) }
     ensures looks { LooksAt scanned bytes.now counts.old counts.new (len_of result) }
 {
-    if scanned > 0 {
-        let len = line_end(bytes, scanned, counts)?;
-        return match numeral(bytes, &mut Counter::new()) {
-            Ok(line) => Some(line),
-            Err(_) => Some(Line { len, number: None }),
-        };
-    }
-    match numeral(bytes, counts) {
-        Ok(line) => Some(line),
-        Err(scanned) => {
-            let len = line_end(bytes, scanned, counts)?;
-            Some(Line { len, number: None })
+    let mut scanned = scanned;
+    if scanned == 0 {
+        match numeral(bytes, counts) {
+            Ok(line) => return Some(line),
+            Err(looked) => scanned = looked,
         }
     }
+    let len = line_end(bytes, scanned, counts)?;
+    Some(Line { len, number: None })
 }
 
 /// The first line, where it is few digits alone. Err: so many bytes hold no CR LF.

@@ -17,10 +17,10 @@ ghost use Rattle.resp_parse.specs.Costs.{HeaderCost, StepCost, RunCost, ReadBuil
 
 use crate::body::Body;
 use crate::builder::Builder;
-use crate::counter::Counter;
 use crate::form::Form;
 use crate::line::{Line, body_ends, first_line};
 use crate::open_aggregates::{Added, OpenAggregates};
+use crate::parser::Counter;
 use crate::read_error::ReadError;
 use crate::shape::{ElementsKind, LineKind, Shape, shape_of};
 use crate::type_byte::TypeByte;

@@ -13,7 +13,6 @@ ghost use Rattle.resp_parse.specs.Calls.{ParsesReader};
 ghost use Rattle.resp_parse.specs.Bounds.{Bounded, FedBy, OneCall, CallsWithin, AskedFor};
 ghost use Rattle.resp_parse.specs.Counts.{nothing_done};
 
-use crate::counter::Counter;
 use crate::form::Form;
 use crate::limits::{LONGEST, Limits};
 use crate::machine::Machine;
@@ -26,6 +25,12 @@ use resp_value::{FrameFault, IoKind, ParsingError, RedisError, RedisResult, Valu
 use std::alloc::Global;
 use std::io::Read;
 use std::marker::Model;
+
+mod counter;
+mod prefix;
+
+pub(crate) use counter::Counter;
+pub use prefix::parse_redis_value;
 
 /// How many bytes a source is asked for at most.
 const CHUNK: usize = 4096;
@@ -51,7 +56,6 @@ const CHUNK: usize = 4096;
 /// After bytes that can't begin a value, after an early end of a source, and after `OutOfMemory` in
 /// any call but `feed`, the parser has failed permanently: each later call that feeds or takes
 /// answers `parser has failed`, a [`ParsingError`].
-#[derive(Drop)]
 pub struct Parser {
     buffer: Vec<u8>,
     consumed: usize,
@@ -65,6 +69,24 @@ pub struct Parser {
     fault_offset: Option<usize>,
     since: SeenBytes,
     counts: Counter,
+}
+
+/// By hand, so that the proof of a function that owns one has a call where it is dropped, and not a
+/// case for each part.
+impl Drop for Parser {
+    fn drop(self) {
+        let Parser {
+            buffer: _,
+            consumed: _,
+            size_limit: _,
+            taken: _,
+            machine: _,
+            failed: _,
+            fault_offset: _,
+            since: _,
+            counts: _,
+        } = self;
+    }
 }
 
 impl Model for Parser {

@@ -54,8 +54,9 @@ fn add(tag: &mut Tag, n: usize)
 }
 
 impl Counter {
-    /// Nothing was done.
-    pub(crate) fn new() -> Counter
+    /// Nothing was done. The parser and `parse_redis_value` alone can make one, so that each loop
+    /// counts in theirs.
+    pub(super) fn new() -> Counter
         ensures { result ≡ nothing_done }
     {
         Counter {

@@ -7,7 +7,7 @@ use Rattle.resp_parse.specs.Resume.{ReadsInto, Completes}
 use Rattle.resp_parse.proofs.Holding.{Resumes-fresh, well_formed-from_reads, malformed-from_runs, incomplete-from_waits}
 use Rattle.resp_parse.proofs.ReadableValues.{Resumes-readable}
 use Rattle.resp_parse.proofs.LimitedReadings.{HasValue-all, HasFault-all}
-use Rattle.resp_parse.proofs.prefix.parse_redis_value.Goals as goal
+use Rattle.resp_parse.proofs.parser.prefix.parse_redis_value.Goals as goal
 
 pub returns-in-Ok-default-true : goal.returns-in-Ok-default-true
 returns-in-Ok-default-true c =

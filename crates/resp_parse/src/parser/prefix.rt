@@ -2,9 +2,9 @@
 
 ghost use Rattle.resp_parse.specs.FirstValue.{ParsesFirst};
 
-use crate::counter::Counter;
 use crate::limits::USUAL_DEPTH;
 use crate::machine::Machine;
+use crate::parser::Counter;
 use crate::read_error::ReadError;
 use resp_value::{IoKind, ParsingError, RedisError, RedisResult, Value};
 use std::alloc::Global;
