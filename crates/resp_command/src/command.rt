@@ -37,13 +37,26 @@ use std::mem;
 /// ```
 ///
 /// In `crates/example_counter/src/main.rt`.
-#[derive(Drop)]
 pub struct Cmd {
     alloc: Global,
     encoded_args: EncodedArgs,
     cursor: Option<u64>,
     cursors: Vec<usize>,
     no_response: bool,
+}
+
+/// By hand, so that the proof of a function that owns one has a call where it is dropped, and not a
+/// case for each part.
+impl Drop for Cmd {
+    fn drop(self) {
+        let Cmd {
+            alloc: _,
+            encoded_args: _,
+            cursor: _,
+            cursors: _,
+            no_response: _,
+        } = self;
+    }
 }
 
 impl Model for Cmd {

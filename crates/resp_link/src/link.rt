@@ -29,7 +29,6 @@ const KEPT: usize = 4096;
 /// A call writes its request whole and flushes, then takes the replies. The source is asked, for at
 /// most 4096 bytes a time, only while what was received is no reply yet; later bytes are kept for
 /// the next call.
-#[derive(Drop)]
 pub struct ByteLink<S, K> {
     alloc: Global,
     inbox: Inbox<S>,
@@ -38,6 +37,20 @@ pub struct ByteLink<S, K> {
     /// Room for the next request.
     room: Vec<u8>,
     ghost between: { BetweenUnless broken inbox.parser } by { Prim.hlevel IsBetweenValues-prop },
+}
+
+/// By hand, so that the proof of a function that owns one has a call where it is dropped, and not a
+/// case for each part.
+impl<S: Drop, K: Drop> Drop for ByteLink<S, K> {
+    fn drop(self) {
+        let ByteLink {
+            alloc: _,
+            inbox: _,
+            sink: _,
+            broken: _,
+            room: _,
+        } = self;
+    }
 }
 
 impl<R: Read, W: Write> ByteLink<Reading<R>, Writing<W>> {

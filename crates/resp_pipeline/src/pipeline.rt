@@ -44,13 +44,26 @@ const SPARE: usize = 32;
 ///
 /// As a transaction ([`Pipeline::atomic`]) the commands are sent between `MULTI` and `EXEC`. The
 /// no-response flag of a command changes nothing here.
-#[derive(Drop)]
 pub struct Pipeline {
     alloc: Global,
     commands: Vec<Cmd>,
     ignored: Vec<bool>,
     atomic: bool,
     ignores_errors: bool,
+}
+
+/// By hand, so that the proof of a function that owns one has a call where it is dropped, and not a
+/// case for each part.
+impl Drop for Pipeline {
+    fn drop(self) {
+        let Pipeline {
+            alloc: _,
+            commands: _,
+            ignored: _,
+            atomic: _,
+            ignores_errors: _,
+        } = self;
+    }
 }
 
 impl Model for Pipeline {
