@@ -21,7 +21,7 @@ const USAGE: &str =
     "usage: resp pack WORD.. | resp read | resp query [--atomic] WORD.. [, WORD..]..\n";
 
 /// What the words of a call ask for.
-#[derive(Clone, Copy, PartialEq, Eq, Debug)]
+#[derive(Debug, Drop)]
 pub enum Task<'a> {
     /// `pack WORD..`
     Pack(&'a [String]),

@@ -73,15 +73,29 @@ fn a_cleared_command_is_new(rt: HostRuntime) {
     }
     taken.clear();
     assert!(rt; taken.is_empty() && !taken.is_no_response());
-    let roomy = Cmd::with_capacity(rt.alloc(), 2, 7).expect(&rt, "memory");
-    assert!(rt; roomy.is_empty() && !roomy.in_scan_mode() && !roomy.is_no_response());
 }
 
-/// The command's arguments are these, each with a space after it; `@` is a cursor.
+#[test]
+fn room_for_arguments_is_no_bound(rt: HostRuntime) {
+    let mut roomy = Cmd::with_capacity(rt.alloc(), 1, 3).expect(&rt, "memory");
+    assert!(rt; roomy.is_empty() && !roomy.in_scan_mode() && !roomy.is_no_response());
+    let get = roomy.arg("GET").expect(&rt, "memory");
+    let _ = get.arg("my_key").expect(&rt, "memory");
+    assert_packed(&rt, &roomy, "*2\r\n$3\r\nGET\r\n$6\r\nmy_key\r\n");
+}
+
+/// The command's arguments are these, each with a space after it; `@` is a cursor. As many are left
+/// before each as are then given.
 fn lists(rt: &impl Test, command: &Cmd, wanted: &str) {
-    let count = wanted.matches(' ').count();
-    assert_eq!(rt; command.args_iter().size_hint(), (count, Some(count)));
     assert_text(rt, listed_text(rt.alloc(), command), wanted);
+    let mut shown = command.args_iter();
+    for left in (0..=wanted.matches(' ').count()).rev() {
+        assert_eq!(rt;
+            (shown.len(), shown.size_hint()),
+            (left, (left, Some(left)))
+        );
+        assert_eq!(rt; shown.next().is_some(), left > 0);
+    }
 }
 
 /// A command of these words, and then a cursor argument.

@@ -9,7 +9,7 @@ use resp_core::laws::{
 use resp_core::{
     FromRedisValue, IncrexResult, InfoDict, IntegerReplyOrNoOp, Role, Value, ValueType,
 };
-use std::collections::{HashMap, HashSet};
+use std::collections::{BTreeSet, HashMap, HashSet};
 
 #[test]
 fn integers_are_compared_exactly(rt: HostRuntime) {
@@ -89,6 +89,9 @@ fn lists_and_refusals_of_replies(rt: HostRuntime) {
         numbers.expect(&rt, "numbers").as_slice(),
         [1, 2].as_slice()
     );
+    let items = reply(&rt, b"*2\r\n:1\r\n:2\r\n");
+    let pairs = BTreeSet::<(i64, i64)>::from_redis_value(rt.alloc(), items);
+    assert!(rt; pairs.is_err());
     let refused = <()>::from_redis_value(rt.alloc(), reply(&rt, b"-ERR x\r\n")).err();
     assert_eq!(rt;
         refused.expect(&rt, "a refusal").description(),

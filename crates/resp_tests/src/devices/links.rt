@@ -1,9 +1,9 @@
 //! Links in memory: pushes that are taken, many pushes, and their limits.
 
-use crate::checks::{Test, assert_text, link};
+use crate::checks::{Test, assert_answer, assert_text, link};
 use crate::devices::checks::assert_ping;
-use crate::testing::{answer_text, debug_text};
-use resp_core::{ByteLink, Limits, PushInfo, PushKind, RedisResult};
+use crate::testing::{command, debug_text};
+use resp_core::{ByteLink, Limits, Parser, PushInfo, PushKind, Reading, RedisResult, Writing};
 use std::io::Cursor;
 
 /// These are the pushes.
@@ -43,19 +43,46 @@ fn a_thousand_pushes(rt: HostRuntime) {
     assert!(rt; link.pushes().len() == 1000 && link.pushes().iter().all(is_x));
 }
 
-/// A link of this limit on levels, as its limits.
-fn limits(rt: &impl Test, depth: usize) -> RedisResult<(usize, Limits)> {
-    let reader = Cursor::new(Vec::<u8>::new(rt.alloc()));
-    let link = ByteLink::with_depth_limit(rt.alloc(), reader, Vec::<u8>::new(rt.alloc()), depth)?;
+type Made = RedisResult<(usize, Limits)>;
+
+/// A parser of this limit on levels, as its limits.
+fn parser_limits(rt: &impl Test, depth: usize) -> Made {
+    let parser = Parser::with_depth_limit(rt.alloc(), depth)?;
+    Ok((parser.depth_limit(), parser.limits()))
+}
+
+/// The same of a link over a reader and a writer.
+fn link_limits(rt: &impl Test, depth: usize) -> Made {
+    let (reader, writer) = (Cursor::new(Vec::new(rt.alloc())), Vec::new(rt.alloc()));
+    let link = ByteLink::with_depth_limit(rt.alloc(), reader, writer, depth)?;
+    Ok((link.depth_limit(), link.limits()))
+}
+
+/// The same of a link over a source and a sink.
+fn limits_between(rt: &impl Test, depth: usize) -> Made {
+    let source = Reading::new(Cursor::new(Vec::new(rt.alloc())));
+    let sink = Writing::new(Vec::new(rt.alloc()));
+    let link = ByteLink::over_with_depth_limit(rt.alloc(), source, sink, depth)?;
     Ok((link.depth_limit(), link.limits()))
 }
 
 #[test]
-fn limits_on_levels_of_links(rt: HostRuntime) {
+fn limits_on_levels(rt: HostRuntime) {
     let refused = "depth limit must be 1 to 1000 - InvalidClientConfig";
     let one = "(1, Limits { depth: 1, bytes: 9223372036854775807 })";
     for (depth, wanted) in [(0, refused), (1, one), (1001, refused)] {
-        assert_text(&rt, answer_text(rt.alloc(), limits(&rt, depth)), wanted);
+        assert_answer(&rt, parser_limits(&rt, depth), wanted);
+        assert_answer(&rt, link_limits(&rt, depth), wanted);
+        assert_answer(&rt, limits_between(&rt, depth), wanted);
     }
     assert_eq!(rt; link(&rt, b"").limits(), Limits::default());
+}
+
+#[test]
+fn a_query_over_a_link_of_one_level(rt: HostRuntime) {
+    let reader = Cursor::new(Vec::from_slice(rt.alloc(), b":5\r\n").expect(&rt, "memory"));
+    let link = ByteLink::with_depth_limit(rt.alloc(), reader, Vec::new(rt.alloc()), 1);
+    let mut link = link.expect(&rt, "a limit");
+    let get = command(rt.alloc(), &["GET", "k"]).expect(&rt, "memory");
+    assert_answer(&rt, get.query::<i64>(&mut link), "5");
 }

@@ -1,9 +1,10 @@
 //! Parsers over readers and sources: what they answer, their state then, how often they read, and
 //! for how many bytes at most.
 
-use crate::checks::{Test, assert_text};
+use crate::checks::{Test, assert_answer, assert_text};
 use crate::devices::checks::{Spec, device};
-use crate::testing::parsing_text;
+use crate::testing::{next_text, parsing_text};
+use resp_core::Parser;
 use std::io::ErrorKind;
 
 /// A parser that was fed these bytes answers so over the reader, asked so often; over a source of
@@ -110,4 +111,30 @@ fn a_reader_that_ends_within_a_value(rt: HostRuntime) {
         let wanted = wanted.expect(&rt, "memory");
         assert_parsing(&rt, "", (text, 99, 0, None), 2, wanted.as_str());
     }
+}
+
+/// The parser reads from a reader of these bytes, and answers this.
+fn reads(rt: &impl Test, parser: &mut Parser, bytes: &[u8], wanted: &str) {
+    assert_answer(rt, parser.parse_value(bytes), wanted);
+}
+
+/// The parser answers these without a reader.
+fn takes(rt: &impl Test, parser: &mut Parser, wanted: &[&str]) {
+    for wanted in wanted {
+        assert_text(rt, next_text(rt.alloc(), parser), wanted);
+    }
+}
+
+#[test]
+fn a_parser_over_one_reader_after_another(rt: HostRuntime) {
+    let mut parser = Parser::new(rt.alloc());
+    reads(&rt, &mut parser, b":1\r\n:2\r\n+a", "int(1)");
+    takes(&rt, &mut parser, &["int(2)", "None"]);
+    reads(&rt, &mut parser, b"b\r\n:", "simple-string(\"ab\")");
+    let failing = device(&rt, (b"", 9, 1, Some(ErrorKind::TimedOut)));
+    assert_answer(&rt, parser.parse_value(failing), "TimedOut");
+    parser.feed(b"3\r\n$2\r\na").expect(&rt, "fed");
+    takes(&rt, &mut parser, &["int(3)", "None"]);
+    reads(&rt, &mut parser, b"b", "UnexpectedEof");
+    assert!(rt; parser.is_failed() && parser.fault_offset().is_none());
 }
