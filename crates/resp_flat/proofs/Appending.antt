@@ -1,6 +1,7 @@
 -- What is appended one after another is what is appended at once.
-use Rattle.std.proofs.Common.{◌≡◌, ℕ, suc, ◌+◌, List, ◌∷◌, ◌++◌, length, map, ap, sym, ◌∙◌, append_assoc, zero-add, ◌<◌, Bool, false, cond, refl, drop, get_or, OnOk, Result, Ok, Err}
+use Rattle.std.proofs.Common.{arith, take, ◌≡◌, ℕ, suc, ◌+◌, List, ◌∷◌, ◌++◌, length, map, ap, sym, ◌∙◌, append_assoc, zero-add, ◌<◌, Bool, false, cond, refl, drop, get_or, OnOk, Result, Ok, Err}
 use Rattle.std.proofs.lemmas.List.{length-map, length-append, drop_more}
+use Rattle.std.proofs.lemmas.Grind.{common_steps}
 use Rattle.resp_value.specs.declared.value.Value.{Value, Array, Map, Attribute, Set, Push, fold-roll-Value}
 use Rattle.resp_value.specs.declared.value.Value.TheVariants.{rolls-Array, rolls-Map, rolls-Attribute, rolls-Set, rolls-Push}
 use Rattle.resp_value.specs.declared.value.Value.TheOpen.{Value-F}
@@ -9,7 +10,7 @@ use Rattle.resp_value.specs.Names.{name_of_push_kind}
 use Rattle.resp_flat.specs.declared.token.Token.{Token}
 use Rattle.resp_flat.specs.declared.token.TokenKind.{TokenKind}
 use Rattle.resp_flat.specs.declared.token.TokenKind.TheVariants as kind
-use Rattle.resp_flat.specs.FlatReplies.{sized, placed, joined, joined_pairs, tokens_step, tokens_of, text_step, text_of, tokens_of_pair, text_of_pair, has_text, list_tokens, pairs_tokens, push_tokens}
+use Rattle.resp_flat.specs.FlatReplies.{Keeps, sized, placed, joined, joined_pairs, tokens_step, tokens_of, text_step, text_of, tokens_of_pair, text_of_pair, has_text, list_tokens, pairs_tokens, push_tokens}
 use Rattle.resp_flat.proofs.TokenSizes.{total, placed-append, sizes, pairs-total}
 
 abbrev pub Tokens : Type 0
@@ -18,6 +19,13 @@ Tokens = List Token
 pub on_ok : {A E P Q : Type 0} (r : Result A E) → (P → Q) → OnOk r P → OnOk r Q
 on_ok (Ok x) f p = f p
 on_ok (Err e) f p = tt
+
+-- what was there comes first
+pub keeps_more : {A : Type 0} (xs ys : List A) → Keeps xs (xs ++ ys)
+keeps_more xs ys = grind (arith, common_steps)
+
+pub keeps_then : {A : Type 0} (xs ys zs : List A) → Keeps xs ys → Keeps ys zs → Keeps xs zs
+keeps_then xs ys zs one two = grind (arith, common_steps, one, two)
 
 -- some tokens, and then others
 pub one_then : (old mid new xs ys : Tokens) (at next : ℕ) → mid ≡ old ++ placed at xs → next ≡ at + total xs → new ≡ mid ++ placed next ys → new ≡ old ++ placed at (xs ++ ys)

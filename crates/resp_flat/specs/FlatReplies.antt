@@ -1,5 +1,5 @@
 -- A reply without a tree: tokens in preorder, and the bytes of the leaves one after another.
-use Rattle.std.specs.Prelude.{◌≡◌, ℕ, suc, ◌+◌, ℤ, pos, Bool, true, false, cond, List, [], ◌∷◌, ◌++◌, length, map}
+use Rattle.std.specs.Prelude.{◌≡◌, ℕ, suc, ◌+◌, ℤ, pos, Bool, true, false, cond, List, [], ◌∷◌, ◌++◌, length, map, take}
 use Rattle.resp_value.specs.declared.value.Value.{Value, fold-Value}
 use Rattle.resp_value.specs.declared.value.Value.TheOpen.{Value-F}
 use Rattle.resp_value.specs.declared.names.VerbatimFormat.{VerbatimFormat}
@@ -35,6 +35,10 @@ bytes_of t = cond (has_text t.kind) t.size 0
 abbrev pub placed : ℕ → List Token → List Token
 placed at [] = []
 placed at (t ∷ ts) = record t { start = at } ∷ placed (at + bytes_of t) ts
+
+-- what was there comes first
+abbrev pub Keeps : {A : Type 0} → List A → List A → Type 0
+Keeps old new = take (length old) new ≡ old
 
 abbrev pub joined : {A : Type 0} → List (List A) → List A
 joined [] = []

@@ -1,11 +1,11 @@
 //! A reply as tokens and text.
 
 ghost use Rattle.std.specs.Prelude.{◌≡◌, ◌↔◌, ◌++◌, ◌∷◌, [], length, map, false, Some, IsNone};
-ghost use Rattle.std.specs.Prelude.{OnOk, IfOk, IfErr};
+ghost use Rattle.std.specs.Prelude.{OnOk, OnErr, IfOk, IfErr, vec_capacity};
 ghost use Rattle.resp_flat.specs.FlatValues.{ShowsIf};
 ghost use Rattle.resp_errors.specs.Memory.{OnlyMemory};
 ghost use Rattle.resp_value.specs.declared.value.Value.{Value};
-ghost use Rattle.resp_flat.specs.FlatReplies.{IsFlatOf};
+ghost use Rattle.resp_flat.specs.FlatReplies.{IsFlatOf, Keeps};
 ghost use Rattle.resp_flat.specs.Readable.{IsReadable};
 ghost use Rattle.resp_flat.specs.Refusals.{IsRefusal};
 ghost use Rattle.resp_flat.specs.FlatReplies.{tokens_of, text_of, placed, sized, numbered, has_text};
@@ -50,6 +50,8 @@ impl FlatReply {
     pub fn clear(&mut self)
         ensures tokens { self.new.tokens.items ≡ [] }
         ensures text { self.new.text.items ≡ [] }
+        ensures token_room { vec_capacity self.new.tokens ≡ vec_capacity self.old.tokens }
+        ensures text_room { vec_capacity self.new.text ≡ vec_capacity self.old.text }
     {
         self.tokens.clear();
         self.text.clear();
@@ -91,6 +93,8 @@ impl FlatReply {
         ensures tokens { OnOk result (self.new.tokens.items
             ≡ self.old.tokens.items ++ placed (length self.old.text.items) (sized kind size ∷ [])) }
         ensures text { OnOk result (self.new.text.items ≡ self.old.text.items) }
+        ensures kept_tokens { Keeps self.old.tokens.items self.new.tokens.items }
+        ensures kept_text { Keeps self.old.text.items self.new.text.items }
     {
         self.tokens.push(Token {
             kind,
@@ -106,6 +110,8 @@ impl FlatReply {
         ensures tokens { OnOk result (self.new.tokens.items
             ≡ self.old.tokens.items ++ placed (length self.old.text.items) (numbered kind number ∷ [])) }
         ensures text { OnOk result (self.new.text.items ≡ self.old.text.items) }
+        ensures kept_tokens { Keeps self.old.tokens.items self.new.tokens.items }
+        ensures kept_text { Keeps self.old.text.items self.new.text.items }
     {
         self.tokens.push(Token {
             kind,
@@ -117,23 +123,29 @@ impl FlatReply {
     }
 
     /// A leaf of these bytes.
+    #[tactic(auto, using(crate::proofs::Appending::keeps_then))]
     fn leaf(&mut self, kind: TokenKind, bytes: &[u8]) -> Result<(), AllocError>
         ensures tokens { OnOk result (self.new.tokens.items
             ≡ self.old.tokens.items
             ++ placed (length self.old.text.items) (sized kind (length bytes.now) ∷ [])) }
         ensures text { OnOk result (self.new.text.items ≡ self.old.text.items ++ bytes.now) }
+        ensures kept_tokens { Keeps self.old.tokens.items self.new.tokens.items }
+        ensures kept_text { Keeps self.old.text.items self.new.text.items }
     {
         self.size(kind, bytes.len())?;
         self.text.extend_from_slice(bytes)
     }
 
     /// An error, by its code and its detail.
+    #[tactic(auto, using(crate::proofs::Appending::keeps_then))]
     fn error(&mut self, error: &ServerError) -> Result<(), AllocError>
         ensures tokens { OnOk result (self.new.tokens.items
             ≡ self.old.tokens.items ++ placed (length self.old.text.items)
             (sized kind.ServerError (length (error_text error.now)) ∷ [])) }
         ensures text { OnOk result (self.new.text.items
             ≡ self.old.text.items ++ error_text error.now) }
+        ensures kept_tokens { Keeps self.old.tokens.items self.new.tokens.items }
+        ensures kept_text { Keeps self.old.text.items self.new.text.items }
     {
         let start = self.text.len();
         self.text.extend_from_slice(error.code().as_bytes())?;
@@ -151,12 +163,15 @@ impl FlatReply {
     }
 
     /// A text for display, by its format and the text.
+    #[tactic(auto, using(crate::proofs::Appending::keeps_then))]
     fn verbatim(&mut self, format: &VerbatimFormat, text: &str) -> Result<(), AllocError>
         ensures tokens { OnOk result (self.new.tokens.items
             ≡ self.old.tokens.items ++ placed (length self.old.text.items)
             (sized kind.VerbatimString (length (verbatim_text format.now text.now)) ∷ [])) }
         ensures text { OnOk result (self.new.text.items
             ≡ self.old.text.items ++ verbatim_text format.now text.now) }
+        ensures kept_tokens { Keeps self.old.tokens.items self.new.tokens.items }
+        ensures kept_text { Keeps self.old.text.items self.new.text.items }
     {
         let start = self.text.len();
         self.text.extend_from_slice(format.name().as_bytes())?;
@@ -171,12 +186,33 @@ impl FlatReply {
         Ok(())
     }
 
-    /// Appends the tokens and the text of a value.
-    #[cycle(append)]
+    /// Appends the tokens and the text of a value. Where memory runs out, what stood before stays.
     pub fn append(&mut self, value: &Value) -> Result<(), AllocError>
         ensures tokens { OnOk result (self.new.tokens.items
             ≡ self.old.tokens.items ++ placed (length self.old.text.items) (tokens_of value.now)) }
         ensures text { OnOk result (self.new.text.items ≡ self.old.text.items ++ text_of value.now) }
+        ensures tokens_stay { OnErr result (self.new.tokens.items ≡ self.old.tokens.items) }
+        ensures text_stays { OnErr result (self.new.text.items ≡ self.old.text.items) }
+    {
+        let tokens = self.tokens.len();
+        let text = self.text.len();
+        let added = self.add(value);
+        if added.is_err() {
+            self.tokens.truncate(tokens);
+            self.text.truncate(text);
+        }
+        added
+    }
+
+    /// Adds those of a value, or where memory runs out a part of them.
+    #[cycle(add)]
+    #[tactic(auto, using(crate::proofs::Appending::keeps_then))]
+    fn add(&mut self, value: &Value) -> Result<(), AllocError>
+        ensures tokens { OnOk result (self.new.tokens.items
+            ≡ self.old.tokens.items ++ placed (length self.old.text.items) (tokens_of value.now)) }
+        ensures text { OnOk result (self.new.text.items ≡ self.old.text.items ++ text_of value.now) }
+        ensures kept_tokens { Keeps self.old.tokens.items self.new.tokens.items }
+        ensures kept_text { Keeps self.old.text.items self.new.text.items }
     {
         match value {
             Value::Nil => self.size(TokenKind::Nil, 0),
@@ -194,7 +230,7 @@ impl FlatReply {
                 attributes,
             } => {
                 self.pairs(TokenKind::Attribute, attributes.as_slice())?;
-                self.append(payload.get())
+                self.add(payload.get())
             }
             Value::ServerError(error) => self.error(error),
             Value::Boolean(truth) => self.number(TokenKind::Boolean, if *truth { 1 } else { 0 }),
@@ -207,25 +243,31 @@ impl FlatReply {
     }
 
     /// A list, with its elements.
-    #[cycle(append)]
+    #[cycle(add)]
+    #[tactic(auto, using(crate::proofs::Appending::keeps_then))]
     fn list(&mut self, kind: TokenKind, elements: &[Value]) -> Result<(), AllocError>
         requires aggregate { has_text kind ≡ false }
         ensures tokens { OnOk result (self.new.tokens.items ≡ self.old.tokens.items
             ++ placed (length self.old.text.items) (list_tokens kind elements.now)) }
         ensures text { OnOk result (self.new.text.items
             ≡ self.old.text.items ++ joined (map text_of elements.now)) }
+        ensures kept_tokens { Keeps self.old.tokens.items self.new.tokens.items }
+        ensures kept_text { Keeps self.old.text.items self.new.text.items }
     {
         self.size(kind, elements.len())?;
         self.elements(elements)
     }
 
     /// A push, with the name of its kind and its data.
-    #[cycle(append)]
+    #[cycle(add)]
+    #[tactic(auto, using(crate::proofs::Appending::keeps_then))]
     fn push(&mut self, name: &str, payload: &[Value]) -> Result<(), AllocError>
         ensures tokens { OnOk result (self.new.tokens.items ≡ self.old.tokens.items
             ++ placed (length self.old.text.items) (push_tokens name.now payload.now)) }
         ensures text { OnOk result (self.new.text.items
             ≡ self.old.text.items ++ (name.now ++ joined (map text_of payload.now))) }
+        ensures kept_tokens { Keeps self.old.tokens.items self.new.tokens.items }
+        ensures kept_text { Keeps self.old.text.items self.new.text.items }
     {
         let Some(count) = payload.len().checked_add(1) else {
             return Err(AllocError);
@@ -236,44 +278,53 @@ impl FlatReply {
     }
 
     /// Values, one after another.
-    #[cycle(append)]
+    #[cycle(add)]
+    #[tactic(auto, using(crate::proofs::Appending::keeps_then))]
     fn elements(&mut self, elements: &[Value]) -> Result<(), AllocError>
         ensures tokens { OnOk result (self.new.tokens.items ≡ self.old.tokens.items
             ++ placed (length self.old.text.items) (joined (map tokens_of elements.now))) }
         ensures text { OnOk result (self.new.text.items
             ≡ self.old.text.items ++ joined (map text_of elements.now)) }
+        ensures kept_tokens { Keeps self.old.tokens.items self.new.tokens.items }
+        ensures kept_text { Keeps self.old.text.items self.new.text.items }
     {
         for element in elements {
-            self.append(element)?;
+            self.add(element)?;
         }
         Ok(())
     }
 
     /// A map, or the pairs of an attribute, with their keys and values.
-    #[cycle(append)]
+    #[cycle(add)]
+    #[tactic(auto, using(crate::proofs::Appending::keeps_then))]
     fn pairs(&mut self, kind: TokenKind, pairs: &[(Value, Value)]) -> Result<(), AllocError>
         requires aggregate { has_text kind ≡ false }
         ensures tokens { OnOk result (self.new.tokens.items ≡ self.old.tokens.items
             ++ placed (length self.old.text.items) (pairs_tokens kind pairs.now)) }
         ensures text { OnOk result (self.new.text.items
             ≡ self.old.text.items ++ joined_pairs (map text_of_pair pairs.now)) }
+        ensures kept_tokens { Keeps self.old.tokens.items self.new.tokens.items }
+        ensures kept_text { Keeps self.old.text.items self.new.text.items }
     {
         self.size(kind, pairs.len())?;
         self.entries(pairs)
     }
 
     /// Keys and values, one after another.
-    #[cycle(append)]
+    #[cycle(add)]
+    #[tactic(auto, using(crate::proofs::Appending::keeps_then))]
     fn entries(&mut self, pairs: &[(Value, Value)]) -> Result<(), AllocError>
         ensures tokens { OnOk result (self.new.tokens.items ≡ self.old.tokens.items
             ++ placed (length self.old.text.items)
             (joined_pairs (map tokens_of_pair pairs.now))) }
         ensures text { OnOk result (self.new.text.items
             ≡ self.old.text.items ++ joined_pairs (map text_of_pair pairs.now)) }
+        ensures kept_tokens { Keeps self.old.tokens.items self.new.tokens.items }
+        ensures kept_text { Keeps self.old.text.items self.new.text.items }
     {
         for (key, value) in pairs {
-            self.append(key)?;
-            self.append(value)?;
+            self.add(key)?;
+            self.add(value)?;
         }
         Ok(())
     }
