@@ -5,6 +5,7 @@ mod flat_error;
 mod flat_iter;
 mod flat_reply;
 mod flat_value;
+mod laws;
 mod reading;
 mod token;
 

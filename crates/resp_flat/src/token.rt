@@ -61,7 +61,7 @@ impl TokenKind {
 
 /// A value of a flat reply, before those inside it.
 #[repr(C)]
-#[derive(Clone, Copy, PartialEq, Eq, Debug)]
+#[derive(Debug, Clone, Copy, PartialEq, Eq)]
 pub struct Token {
     /// Which value it is.
     pub kind: TokenKind,
