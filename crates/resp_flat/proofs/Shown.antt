@@ -145,7 +145,7 @@ int_shown c v shows = ap (λ (t : Token). int_at t.kind t.number) (stands c v sh
 pub truth_shown : (c : FlatValue) (v : Value) → Shows c v → truth_at c.token.now.kind c.token.now.number ≡ truth_of v
 truth_shown c v shows = ap (λ (t : Token). truth_at t.kind t.number) (stands c v shows).token ∙ (says (out-Value v)).truth_is
 
-elements_counted : (c : FlatValue) (v : Value) → Shows c v → element_count c.token.now.kind c.token.now.size ≡ length (elements_of v)
+pub elements_counted : (c : FlatValue) (v : Value) → Shows c v → element_count c.token.now.kind c.token.now.size ≡ length (elements_of v)
 elements_counted c v shows = ap (λ (t : Token). element_count t.kind t.size) (stands c v shows).token ∙ (says (out-Value v)).elements_are
 
 pairs_counted : (c : FlatValue) (v : Value) → Shows c v → pair_count c.token.now.kind c.token.now.size ≡ length (pairs_of v)
@@ -336,7 +336,7 @@ pairs-of-layer (Value-F.Attribute v ps) before after rest =
     (pair-views-shown ps before (text_of v ++ after) behind _ (ap (λ (y : List ℕ). before ++ y) (append_assoc u (text_of v) after)))
 pairs-of-layer _ before after rest = tt
 
-pairs-short : (c : FlatValue) (v : Value) (most : ℕ) → Shows c v → length c.others.now ≤ most → min (pair_count c.token.now.kind c.token.now.size * 2) most ≡ length (pairs_of v) * 2
+pub pairs-short : (c : FlatValue) (v : Value) (most : ℕ) → Shows c v → length c.others.now ≤ most → min (pair_count c.token.now.kind c.token.now.size * 2) most ≡ length (pairs_of v) * 2
 pairs-short c v most shows short =
     let s = stands c v shows in
     let y = out-Value v in

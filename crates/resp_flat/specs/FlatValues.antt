@@ -176,6 +176,10 @@ views_from (suc n) (t ∷ ts) x = (t ∷ ts, x) ∷ views_from n (after_values (
 abbrev pub elements_left : FlatElements → List View
 elements_left it = views_from it.left it.tokens.now it.text.now
 
+-- no tokens are missing of the elements that are left
+pub record HasAllElements (it : FlatElements) : Type 0 where
+  pub all : length (elements_left it) ≡ it.left
+
 abbrev pub two_by_two : {A : Type 0} → List A → List (A × A)
 two_by_two [] = []
 two_by_two (key ∷ []) = []
@@ -184,6 +188,10 @@ two_by_two (key ∷ value ∷ rest) = (key, value) ∷ two_by_two rest
 -- the pairs that are left
 abbrev pub pairs_left : FlatPairs → List (View × View)
 pairs_left it = two_by_two (elements_left it.parts)
+
+-- no tokens are missing of the pairs that are left
+abbrev pub HasAllPairs : FlatPairs → Type 0
+HasAllPairs it = HasAllElements it.parts
 
 abbrev pub views_of : FlatValue × FlatValue → View × View
 views_of p = (view_of p.0, view_of p.1)

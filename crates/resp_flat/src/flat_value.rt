@@ -14,6 +14,7 @@ ghost use Rattle.resp_flat.specs.FlatValues.{Shows, ShowsIf, IsShownIn, BothAreS
 ghost use Rattle.resp_flat.specs.FlatValues.{kind_of, int_of, truth_of, leaf_bytes, count_of};
 ghost use Rattle.resp_flat.specs.FlatValues.{elements_of, pairs_of, described_by, elements_left};
 ghost use Rattle.resp_flat.specs.FlatValues.{pairs_left, after_values, part_count, bytes_at};
+ghost use Rattle.resp_flat.specs.FlatValues.{HasAllElements, HasAllPairs};
 
 use crate::flat_error::refusal;
 use crate::flat_iter::{FlatElements, FlatPairs};
@@ -124,6 +125,7 @@ impl<'a> FlatValue<'a> {
         ensures shown { (v : Value) → Shows self.now v
             → AllZip IsShownIn (elements_left result) (elements_of v) }
         ensures fits { length (elements_left result) < 2 ^ 64 }
+        ensures all { (v : Value) → Shows self.now v → HasAllElements result }
     {
         FlatElements::over(self.token.element_count(), self.others, self.text)
     }
@@ -135,6 +137,7 @@ impl<'a> FlatValue<'a> {
         ensures shown { (v : Value) → Shows self.now v
             → AllZip BothAreShownIn (pairs_left result) (pairs_of v) }
         ensures fits { length (pairs_left result) < 2 ^ 64 }
+        ensures all { (v : Value) → Shows self.now v → HasAllPairs result }
     {
         FlatPairs::over(self.token.pair_count(), self.others, self.text)
     }
