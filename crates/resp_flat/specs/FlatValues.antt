@@ -31,6 +31,10 @@ BothAreShownIn views p = IsShownIn views.0 p.0 × IsShownIn views.1 p.1
 abbrev pub view_of : FlatValue → View
 view_of c = (c.token.now ∷ c.others.now, c.text.now)
 
+-- the kind of the token that a cursor stands at
+abbrev pub kind_at : FlatValue → TokenKind
+kind_at c = c.token.now.kind
+
 -- the cursor stands at this value
 abbrev pub Shows : FlatValue → Value → Type 0
 Shows c v = IsShownIn (view_of c) v

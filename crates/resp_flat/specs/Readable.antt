@@ -11,6 +11,7 @@ use Rattle.resp_errors.specs.declared.server_error.ServerError.{ServerError as E
 use Rattle.resp_errors.specs.ServerErrors.{server_error, text_of as error_text}
 use Rattle.resp_flat.specs.FlatReplies.{verbatim_text}
 use Rattle.resp_flat.specs.Reading.{is_colon}
+use Rattle.resp_flat.specs.FlatValues.{View, IsShownIn}
 
 -- the error is the one of its text, which is UTF-8
 pub record HasOwnText (error : Error) : Type 0 where
@@ -49,3 +50,7 @@ IsReadableLayer P _ = Unit {0}
 unfoldable pub IsReadable : ℕ → Value → Type 0
 IsReadable zero v = ⊥
 IsReadable (suc d) v = IsReadableLayer (IsReadable d) (out-Value v)
+
+-- the tokens begin with those of no readable value
+abbrev pub IsNoValue : ℕ → View → Type 0
+IsNoValue d view = (v : Value) → IsShownIn view v → IsReadable d v → ⊥

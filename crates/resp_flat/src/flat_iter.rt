@@ -31,8 +31,8 @@ impl<'a> FlatElements<'a> {
 }
 
 impl<'a> Iterator for FlatElements<'a> {
-    ghost use Rattle.std.specs.Prelude.{IfSome, ⊤};
-    ghost use Rattle.std.specs.Iterator.{MakesProgress, YieldsFirstBy, item_count, UpTo, at_most};
+    ghost use Rattle.std.specs.Prelude.{IfSome};
+    ghost use Rattle.std.specs.Iterator.{YieldsFirstBy, item_count, UpTo, at_most};
     ghost use Rattle.std.specs.Iterator.SizeHint.{IsWithinCount};
     ghost use Rattle.resp_flat.specs.FlatValues.{elements_left, HasAllElements, view_of};
 
@@ -42,11 +42,7 @@ impl<'a> Iterator for FlatElements<'a> {
 
     ghost remaining = { item_count elements_left };
 
-    fn next(&mut self) -> Option<FlatValue<'a>>
-        ensures steps { YieldsFirstBy view_of elements_left self.old result self.new }
-        ensures goes { MakesProgress (λ _. ⊤) (item_count elements_left) self.old result self.new }
-        ensures all { HasAllElements self.old → HasAllElements self.new }
-    {
+    fn next(&mut self) -> Option<FlatValue<'a>> {
         if self.left == 0 {
             return None;
         }
@@ -96,8 +92,8 @@ impl<'a> FlatPairs<'a> {
 }
 
 impl<'a> Iterator for FlatPairs<'a> {
-    ghost use Rattle.std.specs.Prelude.{IfSome, ⊤};
-    ghost use Rattle.std.specs.Iterator.{MakesProgress, YieldsFirstBy, item_count, UpTo, at_most};
+    ghost use Rattle.std.specs.Prelude.{IfSome};
+    ghost use Rattle.std.specs.Iterator.{YieldsFirstBy, item_count, UpTo, at_most};
     ghost use Rattle.std.specs.Iterator.SizeHint.{IsWithinCount};
     ghost use Rattle.resp_flat.specs.FlatValues.{pairs_left, HasAllPairs, views_of};
 
@@ -107,11 +103,7 @@ impl<'a> Iterator for FlatPairs<'a> {
 
     ghost remaining = { item_count pairs_left };
 
-    fn next(&mut self) -> Option<(FlatValue<'a>, FlatValue<'a>)>
-        ensures steps { YieldsFirstBy views_of pairs_left self.old result self.new }
-        ensures goes { MakesProgress (λ _. ⊤) (item_count pairs_left) self.old result self.new }
-        ensures all { HasAllPairs self.old → HasAllPairs self.new }
-    {
+    fn next(&mut self) -> Option<(FlatValue<'a>, FlatValue<'a>)> {
         let key = self.parts.next()?;
         let value = self.parts.next()?;
         Some((key, value))

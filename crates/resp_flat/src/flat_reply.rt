@@ -1,8 +1,8 @@
 //! A reply as tokens and text.
 
 ghost use Rattle.std.specs.Prelude.{◌≡◌, ◌↔◌, ◌++◌, ◌∷◌, [], length, map, false, Some, IsNone};
-ghost use Rattle.std.specs.Prelude.{OnOk, OnErr, IfOk, IfErr, vec_capacity};
-ghost use Rattle.resp_flat.specs.FlatValues.{ShowsIf};
+ghost use Rattle.std.specs.Prelude.{OnOk, OnErr, IfOk, IfErr, IfSome, vec_capacity};
+ghost use Rattle.resp_flat.specs.FlatValues.{IsShownIn, ShowsIf, view_of};
 ghost use Rattle.resp_errors.specs.Memory.{OnlyMemory};
 ghost use Rattle.resp_value.specs.declared.value.Value.{Value};
 ghost use Rattle.resp_flat.specs.FlatReplies.{IsFlatOf, Keeps};
@@ -84,6 +84,10 @@ impl FlatReply {
     pub fn root(&self) -> Option<FlatValue<'_>>
         ensures empty { IsNone result ↔ (self.now.tokens.items ≡ []) }
         ensures shown { (v : Value) → IsFlatOf self.now v → ShowsIf result (Some v) }
+        ensures first { (v : Value) → IsShownIn (self.now.tokens.items, self.now.text.items) v
+            → ShowsIf result (Some v) }
+        ensures view { IfSome result (λ c.
+            view_of c ≡ (self.now.tokens.items, self.now.text.items)) }
     {
         FlatValue::first(self.tokens.as_slice(), self.text.as_slice())
     }

@@ -14,7 +14,7 @@ ghost use Rattle.resp_flat.specs.FlatValues.{Shows, ShowsIf, IsShownIn, BothAreS
 ghost use Rattle.resp_flat.specs.FlatValues.{kind_of, int_of, truth_of, leaf_bytes, count_of};
 ghost use Rattle.resp_flat.specs.FlatValues.{elements_of, pairs_of, described_by, elements_left};
 ghost use Rattle.resp_flat.specs.FlatValues.{pairs_left, after_values, part_count, bytes_at};
-ghost use Rattle.resp_flat.specs.FlatValues.{HasAllElements, HasAllPairs};
+ghost use Rattle.resp_flat.specs.FlatValues.{HasAllElements, HasAllPairs, kind_at};
 
 use crate::flat_error::refusal;
 use crate::flat_iter::{FlatElements, FlatPairs};
@@ -64,6 +64,7 @@ impl<'a> FlatValue<'a> {
     /// What it is.
     pub fn kind(&self) -> TokenKind
         ensures shown { (v : Value) → Shows self.now v → result ≡ kind_of v }
+        ensures token { result ≡ kind_at self.now }
     {
         self.token.kind
     }
