@@ -1,3 +1,3 @@
-pub mod EmptyReply
+pub mod Refusals
 pub mod lemmas
 pub mod Lines

@@ -24,6 +24,8 @@ fn read_truth_text(text: &[u8]) -> Result<bool, ParsingError>
 
 /// A truth value is read from the token or, without a copy, from its text.
 impl FromFlatValue for bool {
+    ghost reads_tree = { λ _. ⊥ };
+
     fn from_flat_value(alloc: Global, value: FlatValue<'_>) -> Result<bool, ParsingError> {
         if let Some(truth) = value.as_bool() {
             return Ok(truth);

@@ -46,6 +46,8 @@ fn numeral<T>(number: Result<T, ParseIntError>) -> Result<T, ParsingError>
 
 /// An integer is read from the value's number or, without a copy, from its text.
 impl<T: IntegerFromFlatValue> FromFlatValue for T {
+    ghost reads_tree = { λ _. ⊥ };
+
     fn from_flat_value(alloc: Global, value: FlatValue<'_>) -> Result<T, ParsingError> {
         if let Some(number) = value.as_int() {
             return T::from_redis_value(alloc, Value::Int(number));

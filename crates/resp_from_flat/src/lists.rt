@@ -59,6 +59,8 @@ pub(crate) fn list_of<T: FromFlatValue>(
 
 /// Each element of an array or a set is converted where it stands, unless they are tuples.
 impl<T: FromFlatValue> FromFlatValue for Vec<T> {
+    ghost reads_tree = { λ _. ⊥ };
+
     fn from_flat_value(alloc: Global, value: FlatValue<'_>) -> Result<Vec<T>, ParsingError> {
         list_of(alloc, value)
     }
@@ -66,6 +68,8 @@ impl<T: FromFlatValue> FromFlatValue for Vec<T> {
 
 /// The same list, of which contracts see only the elements.
 impl<T: FromFlatValue> FromFlatValue for Items<T> {
+    ghost reads_tree = { λ _. ⊥ };
+
     fn from_flat_value(alloc: Global, value: FlatValue<'_>) -> Result<Items<T>, ParsingError> {
         let items: Vec<T> = list_of(alloc, value)?;
         Ok(Items::from(items))
@@ -74,6 +78,8 @@ impl<T: FromFlatValue> FromFlatValue for Items<T> {
 
 /// A boxed slice is what a [`Vec`] is.
 impl<T: FromFlatValue> FromFlatValue for BoxedSlice<T> {
+    ghost reads_tree = { λ _. ⊥ };
+
     fn from_flat_value(alloc: Global, value: FlatValue<'_>) -> Result<BoxedSlice<T>, ParsingError> {
         let items: Vec<T> = list_of(alloc, value)?;
         Ok(items.into_boxed_slice())

@@ -5,7 +5,7 @@ ghost use Rattle.std.specs.List.{All, AllZip};
 ghost use Rattle.resp_value.specs.declared.value.Value.{Value, out-Value};
 ghost use Rattle.resp_flat.specs.declared.token.TokenKind.TheVariants as kind;
 ghost use Rattle.resp_flat.specs.FlatValues.{Shows, IsShownIn, BothAreShownIn, kind_of, view_of};
-ghost use Rattle.resp_flat.specs.FlatValues.{elements_left, pairs_left};
+ghost use Rattle.resp_flat.specs.FlatValues.{elements_left, kind_at, pairs_left};
 ghost use Rattle.resp_flat.specs.Readable.{BothAre, IsReadable};
 ghost use Rattle.resp_from.specs.Conversion.{Converts};
 ghost use Rattle.resp_from.specs.Maps.{OfMap, OfPair, OfSet, HoldsMap, HoldsSet};
@@ -92,6 +92,8 @@ fn set_of<T: FromFlatValue, S: FillSet<T>>(
 
 /// Each key and each value of a map is converted where it stands; any other value by way of a tree.
 impl<K: FromFlatValue + Ord, V: FromFlatValue> FromFlatValue for BTreeMap<K, V> {
+    ghost reads_tree = { λ c. kind_at c ≡ kind.Map → ⊥ };
+
     fn from_flat_value(
         alloc: Global,
         value: FlatValue<'_>,
@@ -105,6 +107,8 @@ impl<K: FromFlatValue + Ord, V: FromFlatValue> FromFlatValue for BTreeMap<K, V> 
 
 /// Each key and each value of a map is converted where it stands; any other value by way of a tree.
 impl<K: FromFlatValue + Eq + Hash, V: FromFlatValue> FromFlatValue for HashMap<K, V> {
+    ghost reads_tree = { λ c. kind_at c ≡ kind.Map → ⊥ };
+
     fn from_flat_value(alloc: Global, value: FlatValue<'_>) -> Result<HashMap<K, V>, ParsingError> {
         match value.kind() {
             TokenKind::Map => map_of(alloc, value),
@@ -115,6 +119,8 @@ impl<K: FromFlatValue + Eq + Hash, V: FromFlatValue> FromFlatValue for HashMap<K
 
 /// Each element of an array or a set is converted where it stands; any other value by way of a tree.
 impl<T: FromFlatValue + Ord> FromFlatValue for BTreeSet<T> {
+    ghost reads_tree = { λ _. ⊥ };
+
     fn from_flat_value(alloc: Global, value: FlatValue<'_>) -> Result<BTreeSet<T>, ParsingError> {
         if is_list(value) {
             return set_of(alloc, value);
@@ -125,6 +131,8 @@ impl<T: FromFlatValue + Ord> FromFlatValue for BTreeSet<T> {
 
 /// Each element of an array or a set is converted where it stands; any other value by way of a tree.
 impl<T: FromFlatValue + Eq + Hash> FromFlatValue for HashSet<T> {
+    ghost reads_tree = { λ _. ⊥ };
+
     fn from_flat_value(alloc: Global, value: FlatValue<'_>) -> Result<HashSet<T>, ParsingError> {
         if is_list(value) {
             return set_of(alloc, value);

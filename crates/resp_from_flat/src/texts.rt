@@ -8,6 +8,8 @@ use std::alloc::Global;
 
 /// A line is copied once, from the text of the reply.
 impl FromFlatValue for Text {
+    ghost reads_tree = { λ _. ⊥ };
+
     fn from_flat_value(alloc: Global, value: FlatValue<'_>) -> Result<Text, ParsingError> {
         match line_of(value) {
             Some(text) => Ok(Text::from_str(alloc, text)?),
@@ -18,6 +20,8 @@ impl FromFlatValue for Text {
 
 /// A line is copied once, from the text of the reply.
 impl FromFlatValue for String {
+    ghost reads_tree = { λ _. ⊥ };
+
     fn from_flat_value(alloc: Global, value: FlatValue<'_>) -> Result<String, ParsingError> {
         let text = Text::from_flat_value(alloc, value)?;
         Ok(text.into_string())

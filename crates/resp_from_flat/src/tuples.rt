@@ -70,6 +70,8 @@ fn parts_of<P: Parts>(alloc: Global, width: usize, value: FlatValue<'_>) -> Resu
 
 /// Each element of an array or a set is converted where it stands; any other value by way of a tree.
 impl<A: FromFlatValue> FromFlatValue for (A,) {
+    ghost reads_tree = { λ _. ⊥ };
+
     fn from_flat_value(alloc: Global, value: FlatValue<'_>) -> Result<(A,), ParsingError> {
         if !is_list(value) {
             return by_way_of_a_tree(alloc, value);
@@ -80,6 +82,8 @@ impl<A: FromFlatValue> FromFlatValue for (A,) {
 }
 
 impl<A: FromFlatValue, B: FromFlatValue> FromFlatValue for (A, B) {
+    ghost reads_tree = { λ _. ⊥ };
+
     fn from_flat_value(alloc: Global, value: FlatValue<'_>) -> Result<(A, B), ParsingError> {
         if !is_list(value) {
             return by_way_of_a_tree(alloc, value);
@@ -90,6 +94,8 @@ impl<A: FromFlatValue, B: FromFlatValue> FromFlatValue for (A, B) {
 }
 
 impl<A: FromFlatValue, B: FromFlatValue, C: FromFlatValue> FromFlatValue for (A, B, C) {
+    ghost reads_tree = { λ _. ⊥ };
+
     fn from_flat_value(alloc: Global, value: FlatValue<'_>) -> Result<(A, B, C), ParsingError> {
         if !is_list(value) {
             return by_way_of_a_tree(alloc, value);
@@ -101,6 +107,8 @@ impl<A: FromFlatValue, B: FromFlatValue, C: FromFlatValue> FromFlatValue for (A,
 
 impl<A: FromFlatValue, B: FromFlatValue, C: FromFlatValue, D: FromFlatValue> FromFlatValue
     for (A, B, C, D) {
+    ghost reads_tree = { λ _. ⊥ };
+
     fn from_flat_value(alloc: Global, value: FlatValue<'_>) -> Result<(A, B, C, D), ParsingError> {
         if !is_list(value) {
             return by_way_of_a_tree(alloc, value);
@@ -117,6 +125,8 @@ impl<
     D: FromFlatValue,
     E: FromFlatValue,
 > FromFlatValue for (A, B, C, D, E) {
+    ghost reads_tree = { λ _. ⊥ };
+
     fn from_flat_value(
         alloc: Global,
         value: FlatValue<'_>,
@@ -137,6 +147,8 @@ impl<
     E: FromFlatValue,
     F: FromFlatValue,
 > FromFlatValue for (A, B, C, D, E, F) {
+    ghost reads_tree = { λ _. ⊥ };
+
     fn from_flat_value(
         alloc: Global,
         value: FlatValue<'_>,
@@ -158,6 +170,8 @@ impl<
     F: FromFlatValue,
     G: FromFlatValue,
 > FromFlatValue for (A, B, C, D, E, F, G) {
+    ghost reads_tree = { λ _. ⊥ };
+
     fn from_flat_value(
         alloc: Global,
         value: FlatValue<'_>,
@@ -180,6 +194,8 @@ impl<
     G: FromFlatValue,
     H: FromFlatValue,
 > FromFlatValue for (A, B, C, D, E, F, G, H) {
+    ghost reads_tree = { λ _. ⊥ };
+
     fn from_flat_value(
         alloc: Global,
         value: FlatValue<'_>,
@@ -203,6 +219,8 @@ impl<
     H: FromFlatValue,
     I: FromFlatValue,
 > FromFlatValue for (A, B, C, D, E, F, G, H, I) {
+    ghost reads_tree = { λ _. ⊥ };
+
     fn from_flat_value(
         alloc: Global,
         value: FlatValue<'_>,
@@ -227,6 +245,8 @@ impl<
     I: FromFlatValue,
     J: FromFlatValue,
 > FromFlatValue for (A, B, C, D, E, F, G, H, I, J) {
+    ghost reads_tree = { λ _. ⊥ };
+
     fn from_flat_value(
         alloc: Global,
         value: FlatValue<'_>,
@@ -252,6 +272,8 @@ impl<
     J: FromFlatValue,
     K: FromFlatValue,
 > FromFlatValue for (A, B, C, D, E, F, G, H, I, J, K) {
+    ghost reads_tree = { λ _. ⊥ };
+
     fn from_flat_value(
         alloc: Global,
         value: FlatValue<'_>,
@@ -278,6 +300,8 @@ impl<
     K: FromFlatValue,
     L: FromFlatValue,
 > FromFlatValue for (A, B, C, D, E, F, G, H, I, J, K, L) {
+    ghost reads_tree = { λ _. ⊥ };
+
     fn from_flat_value(
         alloc: Global,
         value: FlatValue<'_>,

@@ -7,4 +7,5 @@ returns-in-Some-line_of g c = record {
       let line = c.in-Some-line_of.ensures v shows in
       converts_alike (g.T.FromRedisValue.of_value v) (g.T.IntegerFromFlatValue.of_line c.in-Some-line_of.text.now) c.from_line.result
       (g.met.T.IntegerFromFlatValue.lines v c.in-Some-line_of.text.now line) c.from_line.ensures.decides;
+  refused = λ never none. absurd never;
 }

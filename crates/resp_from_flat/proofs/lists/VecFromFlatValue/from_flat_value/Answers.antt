@@ -6,4 +6,5 @@ pub returns : goal.returns
 returns g c = record {
   converts = λ v shows readable.
       as_vector (OfVec g.T.FromRedisValue.WIDTH g.T.FromRedisValue.BYTES g.T.FromRedisValue.of_value v) c.list_of.result (c.list_of.ensures.converts v shows readable);
+  refused = λ never none. absurd never;
 }

@@ -10,4 +10,5 @@ returns-in_err-a g c = record {
       let listed : c.is_list.result ≡ true = search rules in
       let is : is_list (out-Value v) ≡ true = sym (c.is_list.ensures v shows) ∙ listed in
       Converts-shape _ _ _ _ c.from_residual.ensures (c.in_err-a.ensures.converts v shows readable is) (λ x h. ((x.0, tt), h));
+  refused = λ never none. absurd never;
 }
