@@ -63,8 +63,8 @@ impl FlatReply {
     /// value that a parser made is read back as it was; of any other, texts must be UTF-8, and
     /// errors, formats and kinds those that their texts are read as (`IsReadable`).
     ///
-    /// Refused with kind `Client` where tokens and text are no value's, and else only with
-    /// `OutOfMemory`.
+    /// Refused with kind `Client` and the text `the tokens and the text are no value's` where they
+    /// are none's, and else only with `OutOfMemory`.
     pub fn to_value(&self, alloc: Global) -> RedisResult<Value>
         ensures value { (v : Value) → IsFlatOf self.now v → IsReadable 1000 v
             → IfOk result (λ w. w ≡ v) }
@@ -190,7 +190,7 @@ impl FlatReply {
         Ok(())
     }
 
-    /// Appends the tokens and the text of a value. Where memory runs out, what stood before stays.
+    /// Appends the tokens and the text of a value. Where memory runs out, the reply is as it was.
     pub fn append(&mut self, value: &Value) -> Result<(), AllocError>
         ensures tokens { OnOk result (self.new.tokens.items
             ≡ self.old.tokens.items ++ placed (length self.old.text.items) (tokens_of value.now)) }

@@ -159,8 +159,8 @@ impl FlatValue<'_> {
     /// The value, as a tree.
     ///
     /// As [`FlatReply::to_value`](crate::FlatReply::to_value), of the tokens from its own on: values of
-    /// up to 1,000 levels are read, refused with kind `Client` where the tokens are no value's, and
-    /// else only with `OutOfMemory`.
+    /// up to 1,000 levels are read, refused with kind `Client` and the same text where the tokens are
+    /// no value's, and else only with `OutOfMemory`.
     pub fn to_value(&self, alloc: Global) -> RedisResult<Value>
         ensures value { (v : Value) → Shows self.now v → IsReadable 1000 v
             → IfOk result (λ w. w ≡ v) }
