@@ -7,6 +7,7 @@ ghost use Rattle.resp_args.specs.contracts.options.ProtocolVersion as version;
 ghost use Rattle.resp_containers.specs.lemmas.Clones.{of_copies};
 
 use crate::args::NumericBehavior;
+use crate::joined::Joined;
 use crate::options::{
     ExistenceCheck, ExpireOption, Expiry, FieldExistenceCheck, ProtocolVersion, SetExpiry,
 };
@@ -46,4 +47,8 @@ impl ExactClone for ProtocolVersion {
 
 impl ExactClone for NumericBehavior {
     ghost exact = { of_copies };
+}
+
+impl<T: ExactClone> ExactClone for Joined<T> {
+    ghost exact = { record { same = Prim.search rules; succeeds = Prim.search rules } };
 }

@@ -7,6 +7,7 @@ mod comparison;
 mod copies;
 mod impls;
 mod joined;
+pub mod laws;
 mod options;
 mod shown;
 mod single_arg;

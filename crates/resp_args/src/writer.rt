@@ -12,7 +12,8 @@ use resp_errors::RedisResult;
 /// [`writer_for_next_arg`](RedisWrite::writer_for_next_arg).
 ///
 /// The argument is there from then on, also where nothing is written to it. Dropping the writer
-/// takes no memory.
+/// takes no memory and writes nothing: see
+/// [`law_of_dropped_writers`](crate::laws::law_of_dropped_writers).
 #[derive(Drop)]
 pub struct ArgWriter<'a, W> {
     /// The list whose last argument is written.

@@ -1,5 +1,6 @@
 //! The laws: functions that do nothing, and whose contracts are proved.
 
+pub use resp_args::laws::law_of_dropped_writers;
 pub use resp_command::laws::{
     law_of_equal_arguments, law_of_packing, law_of_requests, law_of_scans, law_of_taking,
 };
