@@ -1,5 +1,5 @@
 -- The arguments of a command as they are shown: each with its bytes, or as a cursor.
-use Rattle.std.specs.Prelude.{◌≡◌, ℕ, ◌+◌, ◌-◌, Bool, true, false, List, [], ◌∷◌, Some, drop, length, nat_eq, slice_get, if◌then◌else◌}
+use Rattle.std.specs.Prelude.{◌≡◌, ⊤, ℕ, ◌+◌, ◌-◌, Bool, true, false, List, [], ◌∷◌, Some, drop, length, nat_eq, slice_get, if◌then◌else◌}
 use Rattle.std.specs.List.{flat_map, list_any}
 use Rattle.std.specs.Borrow.{Bor}
 use Rattle.resp_args.specs.Args.{Args}
@@ -43,3 +43,14 @@ abbrev pub arg_eq : {D : Type 0} → (D → D → Bool) → Arg D → Arg D → 
 arg_eq eq (Simple x) (Simple y) = eq x y
 arg_eq eq Cursor Cursor = true
 arg_eq eq _ _ = false
+
+-- what an argument shows, if it is an ordinary one, is such
+abbrev pub ShowsOnly : {D : Type 0} → (D → Type 0) → Arg D → Type 0
+ShowsOnly Such (Simple x) = Such x
+ShowsOnly Such Cursor = ⊤
+
+-- the clone of a shown argument is of its form, and shows a clone of what it shows
+abbrev pub IsArgClone : {D : Type 0} → (D → D → Type 0) → Arg D → Arg D → Type 0
+IsArgClone IsClone (Simple x) (Simple y) = IsClone x y
+IsArgClone IsClone Cursor Cursor = ⊤
+IsArgClone IsClone _ _ = ⊥

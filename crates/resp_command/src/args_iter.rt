@@ -5,7 +5,7 @@ ghost use Rattle.std.specs.Prelude.{◌≡◌, slice_get};
 use crate::encoded_args::EncodedArgs;
 
 /// An argument of a command, as [`Cmd::args_iter`](crate::Cmd::args_iter) shows it.
-#[derive(Clone, Debug, PartialEq, Drop)]
+#[derive(Clone, Debug, PartialEq, Eq, Drop)]
 pub enum Arg<D> {
     /// An ordinary argument.
     Simple(D),

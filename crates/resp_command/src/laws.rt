@@ -1,7 +1,7 @@
 //! The laws: functions that do nothing, and whose contracts are proved.
 
 ghost use Rattle.std.specs.Prelude.{◌≡◌, ℕ, List};
-ghost use Rattle.resp_command.specs.ShownArgs.{arg_eq};
+ghost use Rattle.resp_command.specs.ShownArgs.{IsArgClone, ShowsOnly, arg_eq};
 ghost use Rattle.resp_args.specs.Args.{Args};
 ghost use Rattle.resp_parse.specs.declared.limits.Limits.{Limits};
 ghost use Rattle.resp_command.specs.PackingLaw.{LawOfPacking, LawOfRequests};
@@ -35,6 +35,14 @@ pub fn law_of_taking()
 /// answer says; and it answers nothing ever after.
 pub fn law_of_scans<T: FromRedisValue>()
     ensures { LawOfScans T.WIDTH T.of_value }
+{}
+
+/// A clone of a shown argument is a cursor where it is one, and else an ordinary argument that shows a
+/// clone of what it shows; it is never refused where the clone of that isn't.
+pub fn law_of_cloned_arguments<D: Clone>()
+    ensures same { (a b : Arg D) → ⟦<Arg<D> as Clone>⟧.is_clone a b → IsArgClone D.is_clone a b }
+    ensures succeeds { (a : Arg D) → ShowsOnly D.is_infallible a
+        → ⟦<Arg<D> as Clone>⟧.is_infallible a }
 {}
 
 /// Two shown arguments are equal where both are cursors, or where both are ordinary and what they

@@ -2,7 +2,8 @@
 
 pub use resp_args::laws::law_of_dropped_writers;
 pub use resp_command::laws::{
-    law_of_equal_arguments, law_of_packing, law_of_requests, law_of_scans, law_of_taking,
+    law_of_cloned_arguments, law_of_equal_arguments, law_of_packing, law_of_requests, law_of_scans,
+    law_of_taking,
 };
 pub use resp_errors::laws::{law_of_equal_errors, law_of_error_texts};
 pub use resp_parse::laws::{
