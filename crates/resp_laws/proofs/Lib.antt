@@ -1,2 +1,3 @@
+pub mod HashedAlike
 pub mod OwnedAndBorrowed
 pub mod ReadBack

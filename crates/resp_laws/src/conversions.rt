@@ -1,24 +1,51 @@
 //! Laws of every conversion, and of what scalars are written as.
 
-ghost use Rattle.std.specs.Prelude.{⊤, FitsSigned, Result, string_bytes};
+ghost use Rattle.std.specs.Prelude.{◌≡◌, ⊤, FitsSigned, Result, string_bytes};
 ghost use Rattle.std.specs.List.{AllByRecursion};
 ghost use Rattle.std.specs.Str.{IsUtf8};
 ghost use Rattle.std.specs.Int.{w8, w16, w32, w64, w128};
 ghost use Rattle.resp_from.specs.Conversion.{Converts};
-ghost use Rattle.resp_laws.specs.Laws.{Agree, FitsUnsigned, ReadsBack};
+ghost use Rattle.resp_laws.specs.Laws.{Agree, ConvertAlike, FitsUnsigned, ReadsBack};
+ghost use Rattle.resp_laws.specs.Laws.{SameEntries, SameMembers};
 ghost use Rattle.resp_errors.specs.declared.parsing_error.ParsingError.{ParsingError};
 ghost use Rattle.resp_value.specs.declared.value.Value.{Value};
 
+use crate::single_valued::{SingleKey, SingleValued};
 use resp_args::ToRedisArgs;
 use resp_from::FromRedisValue;
+use std::collections::{HashMap, HashSet};
+use std::hash::Hash;
 
 /// Two conversions of one reply agree, such as an owned and a borrowed one: both give values of the
-/// reply, which are the same where it is one at most, or both refuse; unless memory ran out.
+/// reply, or both refuse; unless memory ran out.
+///
+/// Whether the values are equal is said by [`law_of_equal_conversions`], and of hashed containers by
+/// [`law_of_hashed_maps`] and [`law_of_hashed_sets`].
 #[tactic(auto, using(crate::proofs::OwnedAndBorrowed::agreeing))]
 pub fn law_of_owned_and_borrowed<T: FromRedisValue>()
     ensures agree { (reply : Value) (owned borrowed : Result T ParsingError)
         → Converts (T.of_value reply) owned → Converts (T.of_value reply) borrowed
         → Agree (T.of_value reply) owned borrowed }
+{}
+
+/// Two conversions of one reply give values that look the same, or both refuse; unless memory ran
+/// out.
+pub fn law_of_equal_conversions<T: SingleValued>()
+    ensures equal { ConvertAlike T.of_value (λ x y. T.seen x ≡ T.seen y) }
+{}
+
+/// Two conversions of one reply to hashed maps give the same entries, in any order, or both refuse;
+/// unless memory ran out. Each key has values that look the same, or none in either.
+pub fn law_of_hashed_maps<K: SingleKey + Hash, V: SingleValued>()
+    ensures equal { ConvertAlike ⟦<HashMap<K, V> as FromRedisValue>⟧.of_value
+        (λ m n. SameEntries K.eq V.seen m.entries n.entries) }
+{}
+
+/// Two conversions of one reply to hashed sets give the same members, in any order, or both refuse;
+/// unless memory ran out.
+pub fn law_of_hashed_sets<T: SingleKey + Hash>()
+    ensures equal { ConvertAlike ⟦<HashSet<T> as FromRedisValue>⟧.of_value
+        (λ s t. SameMembers T.eq s.keys t.keys) }
 {}
 
 /// A scalar is written as one argument, and converts back from it as a bulk string: each integer in

@@ -7,5 +7,8 @@
 mod conversions;
 mod single_valued;
 
-pub use conversions::{law_of_owned_and_borrowed, law_of_written_scalars};
+pub use conversions::{
+    law_of_equal_conversions, law_of_hashed_maps, law_of_hashed_sets, law_of_owned_and_borrowed,
+    law_of_written_scalars,
+};
 pub use single_valued::{SingleKey, SingleValued, law_of_one_value};
