@@ -13,7 +13,6 @@ use resp_value::{FrameFault, ParsingError, RedisError, RedisResult};
 use std::alloc::Global;
 
 /// A parser, and the reply that it gave last.
-#[derive(Drop)]
 pub struct Session {
     pub parser: Parser,
     pub reply: FlatReply,
@@ -22,6 +21,19 @@ pub struct Session {
     /// After how many bytes it showed: since the last value, or of those that were read by
     /// themselves.
     pub place: usize,
+}
+
+/// By hand, so that the proof of a function that owns one has a call where it is dropped, and not a
+/// case for each part.
+impl Drop for Session {
+    fn drop(self) {
+        let Session {
+            parser: _,
+            reply: _,
+            fault: _,
+            place: _,
+        } = self;
+    }
 }
 
 impl Session {
