@@ -26,7 +26,7 @@ pub fn count_up(alloc: Global, con: &mut dyn ConnectionLike, key: &str) -> Redis
         CountedUp (⟦<() as FromRedisValue>⟧.of_value) (⟦<Option<i64> as FromRedisValue>⟧.of_value)
         (⟦<Option<()> as FromRedisValue>⟧.of_value) (connection con.new) key.now number) }
 {
-    retrying(con, RETRIES, &CountUp { alloc, key }, is_aborted)
+    retrying(con, RETRIES, &CountUp { alloc, key }, &mut is_aborted)
 }
 
 /// The number of this key, which is to be raised by one.

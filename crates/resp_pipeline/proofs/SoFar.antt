@@ -26,35 +26,35 @@ module _ {C T E G : Type 0} (attempts : C → C → Result T E → Type 0)
   }
 
   pub answered : (left : ℕ) (again : G) (now new : C) (x : T) → SoFar left again now
-      → attempts now new (Ok x) → Retried attempts decides budget first old new (Ok x)
+      → attempts now new (Ok x) → Retried attempts decides budget first again old new (Ok x)
   answered left again now new x so_far last = record {
     errors = so_far.errors;
     between = (again, now);
     tried = so_far.tried;
     within = let h = so_far.count in omega arith;
     last = last;
-    stops = tt;
+    stops = refl;
   }
 
   pub used_up : (left : ℕ) (again : G) (now new : C) (e : E) → SoFar left again now → left ≡ 0
-      → attempts now new (Err e) → Retried attempts decides budget first old new (Err e)
+      → attempts now new (Err e) → Retried attempts decides budget first again old new (Err e)
   used_up left again now new e so_far none last = record {
     errors = so_far.errors;
     between = (again, now);
     tried = so_far.tried;
     within = let h = so_far.count in omega arith;
     last = last;
-    stops = inl (let h = so_far.count in omega arith);
+    stops = inl (let h = so_far.count in omega arith, refl);
   }
 
   pub stopped : (left : ℕ) (again : G) (now new : C) (e : E) (after : G) → SoFar left again now
-      → attempts now new (Err e) → decides again e false after
-      → Retried attempts decides budget first old new (Err e)
-  stopped left again now new e after so_far last decided = record {
+      → 0 < left → attempts now new (Err e) → decides again e false after
+      → Retried attempts decides budget first after old new (Err e)
+  stopped left again now new e after so_far some last decided = record {
     errors = so_far.errors;
     between = (again, now);
     tried = so_far.tried;
     within = let h = so_far.count in omega arith;
     last = last;
-    stops = inr (after, decided);
+    stops = inr (let h = so_far.count in omega arith, decided);
   }

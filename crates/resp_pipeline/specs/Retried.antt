@@ -1,5 +1,5 @@
 -- What trying again does.
-use Rattle.std.specs.Prelude.{◌≡◌, ℕ, ◌≤◌, ◌⊎◌, Bool, true, false, List, length, Result, Err, IfErr}
+use Rattle.std.specs.Prelude.{◌≡◌, ℕ, ◌<◌, ◌≤◌, ◌⊎◌, Bool, true, false, List, length, Result, Ok, Err}
 use Rattle.std.specs.List.{FoldsTo}
 
 -- `attempts` says what an attempt over a connection leaves and answers; `decides` what is said of
@@ -11,12 +11,21 @@ module _ {C T E G : Type 0} (attempts : C → C → Result T E → Type 0)
     pub refused : attempts old.1 new.1 (Err e)
     pub again : decides old.0 e true new.0
 
+  -- with this result it ends, after so many errors to be tried again: nothing is asked of a value,
+  -- nor of an error where the budget is used up; of any other error it is asked once, and the error
+  -- isn't to be tried again
+  abbrev pub Stops : ℕ → ℕ → G → G → Result T E → Type 0
+  Stops budget count old new (Ok x) = new ≡ old
+  Stops budget count old new (Err e) =
+      ((count ≡ budget) × (new ≡ old)) ⊎ ((count < budget) × decides old e false new)
+
   -- attempts were refused with these errors, each of which was to be tried again, and one more
   -- answered the result: a value, an error that isn't to be tried again, or the budget is used up
-  pub record Retried (budget : ℕ) (again : G) (old new : C) (result : Result T E) : Type 0 where
+  pub record Retried (budget : ℕ) (again left : G) (old new : C) (result : Result T E)
+      : Type 0 where
     pub errors : List E
     pub between : G × C
     pub tried : FoldsTo TriedAgain (again, old) errors between
     pub within : length errors ≤ budget
     pub last : attempts between.1 new result
-    pub stops : IfErr result (λ e. (length errors ≡ budget) ⊎ ((after : G) × decides between.0 e false after))
+    pub stops : Stops budget (length errors) between.0 left result

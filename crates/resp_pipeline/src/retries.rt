@@ -37,13 +37,12 @@ impl<T: FromRedisValue> Attempt<T> for Cmd {
 /// `budget` more times at most: a budget of 0 is one attempt. Answers what the last attempt did: a
 /// value, an error that isn't to be tried again, or any error once the budget is used up.
 ///
-/// `again` is asked of each error but the one that uses up the budget. It may wait, which this
-/// doesn't; [`RedisError::retry_method`] says what an error asks for:
+/// `again` is asked once of each error but the one that uses up the budget, and of nothing else. It
+/// may wait, which this doesn't; [`RedisError::retry_method`] says what an error asks for:
 ///
 /// ```text
-/// retrying(con, 3, cmd(alloc, "INCR")?.arg(page)?, |error| {
-///     error.retry_method() == RetryMethod::WaitAndRetry
-/// })
+/// let mut asks_to_wait = |error: &RedisError| error.retry_method() == RetryMethod::WaitAndRetry;
+/// retrying(con, 3, cmd(alloc, "INCR")?.arg(page)?, &mut asks_to_wait)
 /// ```
 ///
 /// In `crates/example_snippets/src/replies/counters.rt`.
@@ -56,10 +55,10 @@ pub fn retrying<T, A: Attempt<T>, G: FnMut(&RedisError) -> bool>(
     con: &mut dyn ConnectionLike,
     budget: u64,
     attempt: &A,
-    mut again: G,
+    again: &mut G,
 ) -> RedisResult<T>
-    requires callable { G.IsAlwaysCallable again }
-    ensures { Retried (A.attempts attempt.now) (CalledAt G.FnMut) budget again
+    requires callable { G.IsAlwaysCallable again.old }
+    ensures { Retried (A.attempts attempt.now) (CalledAt G.FnMut) budget again.old again.new
         (connection con.old) (connection con.new) result }
 {
     let mut left = budget;

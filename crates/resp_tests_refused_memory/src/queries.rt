@@ -58,7 +58,7 @@ fn commands_that_may_be_tried_again(rt: HostRuntime) {
     let command = get(&rt);
     let mut con = link(&rt, TEXT);
     refuse(rt.alloc());
-    let answer = retrying::<String, Cmd, _>(&mut con, 3, &command, never);
+    let answer = retrying::<String, Cmd, _>(&mut con, 3, &command, &mut never);
     answered(&rt, (con, GET_K.len()), answer, "Ok(\"abc\")");
 }
 

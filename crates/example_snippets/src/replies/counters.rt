@@ -56,7 +56,6 @@ pub fn visits_when_ready(
     con: &mut dyn ConnectionLike,
     page: &str,
 ) -> RedisResult<i64> {
-    retrying(con, 3, cmd(alloc, "INCR")?.arg(page)?, |error| {
-        error.retry_method() == RetryMethod::WaitAndRetry
-    })
+    let mut asks_to_wait = |error: &RedisError| error.retry_method() == RetryMethod::WaitAndRetry;
+    retrying(con, 3, cmd(alloc, "INCR")?.arg(page)?, &mut asks_to_wait)
 }

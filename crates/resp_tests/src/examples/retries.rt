@@ -15,7 +15,7 @@ fn asks_to_wait(error: &RedisError) -> bool {
 
 /// The number that a command gives over the connection, with this budget, is this.
 fn number_is(rt: &impl Test, con: &mut Stored, budget: u64, command: &Cmd, wanted: &str) {
-    let number = retrying::<i64, Cmd, _>(con, budget, command, asks_to_wait);
+    let number = retrying::<i64, Cmd, _>(con, budget, command, &mut asks_to_wait);
     assert_answer(rt, number, wanted);
 }
 
@@ -51,18 +51,20 @@ fn each_error_is_judged_once(rt: HostRuntime) {
     );
     let incr = command(rt.alloc(), &["INCR", "k"]).expect(&rt, "memory");
     let mut waits = 0_u64;
-    let number = retrying::<i64, Cmd, _>(&mut con, 9, &incr, |error| {
+    let mut twice = |error: &RedisError| {
         waits = waits.saturating_add(1);
         asks_to_wait(error) && waits < 3
-    });
+    };
+    let number = retrying::<i64, Cmd, _>(&mut con, 9, &incr, &mut twice);
     let loading = "BusyLoading: Redis is loading the dataset in memory";
     assert_answer(&rt, number, loading);
     assert_eq!(rt; waits, 3);
     let mut judged = 0_u64;
-    let number = retrying::<i64, Cmd, _>(&mut con, 0, &incr, |_| {
+    let mut always = |_: &RedisError| {
         judged = judged.saturating_add(1);
         true
-    });
+    };
+    let number = retrying::<i64, Cmd, _>(&mut con, 0, &incr, &mut always);
     assert_answer(&rt, number, loading);
     assert_eq!(rt; judged, 0);
     let visits = visits_when_ready(rt.alloc(), &mut con, "home");
@@ -74,7 +76,7 @@ fn a_pipeline_is_sent_again(rt: HostRuntime) {
     let incoming = b"-LOADING x\r\n-LOADING x\r\n:1\r\n:2\r\n";
     let mut link = link(&rt, incoming);
     let two = pipeline(rt.alloc(), &[&["A"], &["B"]]).expect(&rt, "memory");
-    let pair = retrying::<(i64, i64), Pipeline, _>(&mut link, 1, &two, asks_to_wait);
+    let pair = retrying::<(i64, i64), Pipeline, _>(&mut link, 1, &two, &mut asks_to_wait);
     assert_answer(&rt, pair, "(1, 2)");
 }
 

@@ -8,9 +8,12 @@ returns-in-Ok g c = answered _ _ _ _ _ _ _ _ _ _ c.loop-answer.invariant.so_far 
 
 pub returns-then-left-eq0 : goal.returns-then-left-eq0
 returns-then-left-eq0 g c = elim c.then-left-eq0.branch [
-  | then-left-eq0-via-then-left-eq0 w ↦ used_up _ _ _ _ _ _ _ _ _ _ c.loop-answer.invariant.so_far w.if-left-eq0.true c.in-Err.ensures
-  | then-left-eq0-via-else-left-eq0+then-not-again w ↦ stopped _ _ _ _ _ _ _ _ _ _ _ c.loop-answer.invariant.so_far c.in-Err.ensures
-      (record { shown = _; shows = refl; called = w.if-not-again.ensures })
+  | then-left-eq0-via-then-left-eq0 w ↦ rw w.again-is
+      (used_up _ _ _ _ _ _ _ _ _ _ c.loop-answer.invariant.so_far w.if-left-eq0.true c.in-Err.ensures)
+  | then-left-eq0-via-else-left-eq0+then-not-again w ↦ rw w.again-is
+      (stopped _ _ _ _ _ _ _ _ _ _ _ c.loop-answer.invariant.so_far
+      (let some = w.if-left-eq0.false in omega arith) c.in-Err.ensures
+      (record { shown = _; shows = refl; called = w.if-not-again.ensures }))
 ]
 
 pub loop-answer-preserved : goal.loop-answer-preserved
