@@ -345,7 +345,8 @@ impl Cmd {
     /// A first reply that is no array of a bulk string and an array is a list alone, which is all.
     /// Fails with kind `Parse` where the first reply is neither, with `OutOfMemory`, also where
     /// memory runs out for its items alone, and where the connection's `req_command` fails. Server
-    /// errors in a reply are values as others are, and aren't looked for.
+    /// errors in a reply are values as others are, and aren't looked for. The command is dropped where
+    /// it fails.
     ///
     /// ```text
     /// let mut scan = cmd(alloc, "SCAN")?;
@@ -375,7 +376,8 @@ impl Cmd {
     /// Sends the command as [`Cmd::iter`] does, and answers a scan that doesn't hold the
     /// connection: it is lent one at each call.
     ///
-    /// Fails as [`Cmd::iter`] does; the connection is then as the command's request left it.
+    /// Fails as [`Cmd::iter`] does; the connection is then as the command's request left it, and the
+    /// command is dropped.
     pub fn start_scan<T: FromRedisValue, C: ConnectionLike>(
         self,
         con: &mut C,
