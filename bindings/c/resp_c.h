@@ -197,7 +197,8 @@ uint32_t resp_parser_state(resp_parser *parser);
 /*
  * The fault that resp_parser_next or resp_parser_first met last: one of enum resp_fault. *offset is
  * after how many bytes it showed, the byte that shows it included: of resp_parser_next since the
- * last value, of resp_parser_first of the bytes that it was given. Both are 0 before a fault.
+ * last value, of resp_parser_first of the bytes that it was given. Both are 0 before a fault, and
+ * where no parser is open.
  */
 uint32_t resp_parser_fault(resp_parser *parser, size_t *offset);
 

@@ -147,7 +147,7 @@ pub extern "C" fn resp_parser_state(alloc: Global, parser: &mut RespParser) -> u
 }
 
 /// The number of the fault that was met last, or 0; `offset` is after how many bytes it showed: since
-/// the last value, or of those that were read by themselves.
+/// the last value, or of those that were read by themselves. Both are 0 where no parser is open.
 #[unsafe(no_mangle)]
 pub extern "C" fn resp_parser_fault(
     alloc: Global,
@@ -155,6 +155,7 @@ pub extern "C" fn resp_parser_fault(
     offset: &mut usize,
 ) -> u32
     ensures fault { Told (FaultIs offset.new) parser.old.slot.value parser.new.slot.value result }
+    ensures closed { parser.old.slot.value ≡ None → offset.new ≡ 0 }
 {
     *offset = 0;
     let Some(session) = parser.take(alloc) else {
