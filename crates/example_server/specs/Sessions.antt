@@ -1,6 +1,10 @@
 -- What a client is answered, and what its transactions do.
-use Rattle.std.specs.Prelude.{◌≡◌, List, [], ◌∷◌, ◌++◌}
+use Rattle.std.specs.Prelude.{◌≡◌, ℕ, List, [], ◌∷◌, ◌++◌, Some}
+use Rattle.std.specs.Fmt.{◌++?◌}
 use Rattle.std.specs.BTreeMap.{IsUnchanged}
+use Rattle.resp_core.specs.Replies.{usual}
+use Rattle.resp_encode.specs.Encodings.{encoding_in}
+use Rattle.example_server.specs.Replies.{answer_value}
 use Rattle.example_server.specs.Connections.{connection_after, connection_reply}
 use Rattle.example_server.specs.KeyCommands.{AnswersKeys, KeepsOnFailure}
 use Rattle.example_server.specs.declared.command.Command.{Command}
@@ -104,3 +108,11 @@ Answers old new request.Quit answered =
     AnswersAlone old new old.transaction answered reply.Okay
 Answers old new (request.Unread why) answered = AnswersAlone old new
     (failed old.transaction) answered (reply.Refused why)
+
+-- a request was answered, and the answer appended in the version that the client then has
+pub record Replied (old new : Session) (before after : List ℕ) : Type 0 where
+  pub asked : Request
+  pub answered : Answer
+  pub answers : Answers old new asked answered
+  pub sent : (Some before ++? encoding_in new.state.connection.protocol usual.depth
+      (answer_value answered)) ≡ Some after

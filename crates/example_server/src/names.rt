@@ -1,5 +1,8 @@
 //! Names of commands.
 
+ghost use Rattle.std.specs.Prelude.{◌≡◌};
+ghost use Rattle.example_server.specs.Names.{text_of};
+
 /// A command, or a subcommand, that the server knows.
 #[derive(Clone, Copy)]
 pub enum CommandName {
@@ -100,7 +103,9 @@ impl CommandName {
     }
 
     /// The name, in lower case, as errors have it.
-    pub fn text(&self) -> &'static str {
+    pub fn text(&self) -> &'static str
+        ensures { result.now ≡ text_of self.now }
+    {
         match self {
             CommandName::Ping => "ping",
             CommandName::Echo => "echo",

@@ -1,5 +1,11 @@
 //! Refusals, in the words of a server.
 
+ghost use Rattle.std.specs.Prelude.{◌≡◌, ◌++◌, IfOk, OnOk, [], map, take, codes};
+ghost use Rattle.std.specs.Char.{to_ascii_uppercase};
+ghost use Rattle.example_server.specs.Names.{text_of};
+ghost use Rattle.example_server.specs.Refusals.{error_of, line_of, fixed_line, unknown_line};
+ghost use Rattle.example_server.specs.Refusals.{quoted_after, with_quoted, spaced};
+
 use crate::names::CommandName;
 use resp_core::{RedisResult, ServerError, Text, Value};
 use std::alloc::{AllocError, Global};
@@ -54,39 +60,36 @@ impl Refusal {
     /// The refusal as an error reply.
     ///
     /// A CR or LF in a word is a space in it, and what isn't UTF-8 is U+FFFD.
-    pub fn into_value(self, alloc: Global) -> RedisResult<Value> {
-        let mut line = self.line(alloc)?;
-        for byte in line.iter_mut() {
-            if *byte == b'\r' || *byte == b'\n' {
-                *byte = b' ';
-            }
-        }
+    pub fn into_value(self, alloc: Global) -> RedisResult<Value>
+        ensures { IfOk result (λ value. value ≡ error_of self) }
+    {
+        let line = without_ends(alloc, self.line(alloc)?.as_slice())?;
         let text = Text::from_utf8_lossy(alloc, line.as_slice())?;
         Ok(Value::ServerError(ServerError::from_text(alloc, text.as_str())?))
     }
 
-    fn line(&self, alloc: Global) -> Result<Vec<u8>, AllocError> {
+    fn line(&self, alloc: Global) -> Result<Vec<u8>, AllocError>
+        ensures { IfOk result (λ line. line.items ≡ line_of self.now) }
+    {
         match self {
             Refusal::UnknownCommand(words) => unknown_command(alloc, words.as_slice()),
             Refusal::UnknownSubcommand(name, word) => unknown_subcommand(alloc, *name, word),
             Refusal::WrongNumber(name) => wrong_number(alloc, *name),
-            Refusal::HelloOption(word) => {
-                let mut line = Vec::from_slice(alloc, b"ERR Syntax error in HELLO option '")?;
-                line.extend_from_slice(word.as_slice())?;
-                line.push(b'\'')?;
-                Ok(line)
-            }
-            Refusal::ExpireOption(word) => {
-                let mut line = Vec::from_slice(alloc, b"ERR Unsupported option ")?;
-                line.extend_from_slice(word.as_slice())?;
-                Ok(line)
-            }
+            Refusal::HelloOption(word) => around(
+                alloc,
+                "ERR Syntax error in HELLO option '",
+                word,
+                "'",
+            ),
+            Refusal::ExpireOption(word) => around(alloc, "ERR Unsupported option ", word, ""),
             other => Vec::from_slice(alloc, other.fixed_text().as_bytes()),
         }
     }
 
     /// The text of a refusal that repeats nothing of the command.
-    fn fixed_text(&self) -> &'static str {
+    fn fixed_text(&self) -> &'static str
+        ensures { result.now ≡ fixed_line self.now }
+    {
         match self {
             Refusal::VersionNotInteger => "ERR Protocol version is not an integer or out of range",
             Refusal::NoSuchVersion => "NOPROTO unsupported protocol version",
@@ -113,8 +116,32 @@ impl Refusal {
     }
 }
 
+/// The bytes with a space for each CR and LF.
+fn without_ends(alloc: Global, line: &[u8]) -> Result<Vec<u8>, AllocError>
+    ensures { IfOk result (λ out. out.items ≡ map spaced line.now) }
+{
+    let mut out = Vec::new(alloc);
+    for byte in line {
+        let is_end = *byte == b'\r' || *byte == b'\n';
+        out.push(if is_end { b' ' } else { *byte })?;
+    }
+    Ok(out)
+}
+
+/// A word between two texts.
+fn around(alloc: Global, before: &str, word: &Vec<u8>, after: &str) -> Result<Vec<u8>, AllocError>
+    ensures { IfOk result (λ line. line.items ≡ before.now ++ word.now.items ++ after.now) }
+{
+    let mut line = Vec::from_slice(alloc, before.as_bytes())?;
+    line.extend_from_slice(word.as_slice())?;
+    line.extend_from_slice(after.as_bytes())?;
+    Ok(line)
+}
+
 /// A name, and as much of its arguments as fits.
-fn unknown_command(alloc: Global, words: &[Vec<u8>]) -> Result<Vec<u8>, AllocError> {
+fn unknown_command(alloc: Global, words: &[Vec<u8>]) -> Result<Vec<u8>, AllocError>
+    ensures { IfOk result (λ line. line.items ≡ unknown_line words.now) }
+{
     let mut line = Vec::from_slice(alloc, b"ERR unknown command '")?;
     let Some((name, arguments)) = words.split_first() else {
         return Ok(line);
@@ -126,21 +153,33 @@ fn unknown_command(alloc: Global, words: &[Vec<u8>]) -> Result<Vec<u8>, AllocErr
 }
 
 /// The first arguments in quotes, each with a space after it.
-fn repeated(alloc: Global, arguments: &[Vec<u8>]) -> Result<Vec<u8>, AllocError> {
+fn repeated(alloc: Global, arguments: &[Vec<u8>]) -> Result<Vec<u8>, AllocError>
+    ensures { IfOk result (λ quoted. quoted.items ≡ quoted_after [] arguments.now) }
+{
     let mut quoted = Vec::new(alloc);
     for argument in arguments {
-        if quoted.len() < REPEATED {
-            let room = REPEATED - quoted.len();
-            quoted.push(b'\'')?;
-            quoted.extend_from_slice(front(argument.as_slice(), room))?;
-            quoted.extend_from_slice(b"' ")?;
-        }
+        quote(&mut quoted, argument)?;
     }
     Ok(quoted)
 }
 
+/// Appends an argument in quotes, as far as there is room for it.
+fn quote(quoted: &mut Vec<u8>, argument: &Vec<u8>) -> Result<(), AllocError>
+    ensures { OnOk result (quoted.new.items ≡ with_quoted quoted.old.items argument.now) }
+{
+    if quoted.len() < REPEATED {
+        let room = REPEATED - quoted.len();
+        quoted.push(b'\'')?;
+        quoted.extend_from_slice(front(argument.as_slice(), room))?;
+        quoted.extend_from_slice(b"' ")?;
+    }
+    Ok(())
+}
+
 /// The first bytes, at most so many.
-fn front(bytes: &[u8], most: usize) -> &[u8] {
+fn front(bytes: &[u8], most: usize) -> &[u8]
+    ensures { result.now ≡ take most bytes.now }
+{
     if bytes.len() <= most {
         bytes
     } else {
@@ -152,18 +191,34 @@ fn unknown_subcommand(
     alloc: Global,
     name: CommandName,
     word: &Vec<u8>,
-) -> Result<Vec<u8>, AllocError> {
+) -> Result<Vec<u8>, AllocError>
+    ensures { IfOk result (λ line. line.items ≡ codes "ERR unknown subcommand '"
+        ++ take 128 word.now.items ++ codes "'. Try " ++ map to_ascii_uppercase (text_of name)
+        ++ codes " HELP.") }
+{
     let mut line = Vec::from_slice(alloc, b"ERR unknown subcommand '")?;
     line.extend_from_slice(front(word.as_slice(), REPEATED))?;
     line.extend_from_slice(b"'. Try ")?;
-    for byte in name.text().as_bytes() {
-        line.push(byte.to_ascii_uppercase())?;
-    }
+    line.extend_from_slice(uppercase(alloc, name.text().as_bytes())?.as_slice())?;
     line.extend_from_slice(b" HELP.")?;
     Ok(line)
 }
 
-fn wrong_number(alloc: Global, name: CommandName) -> Result<Vec<u8>, AllocError> {
+/// The bytes with each letter in upper case.
+fn uppercase(alloc: Global, text: &[u8]) -> Result<Vec<u8>, AllocError>
+    ensures { IfOk result (λ out. out.items ≡ map to_ascii_uppercase text.now) }
+{
+    let mut out = Vec::new(alloc);
+    for byte in text {
+        out.push(byte.to_ascii_uppercase())?;
+    }
+    Ok(out)
+}
+
+fn wrong_number(alloc: Global, name: CommandName) -> Result<Vec<u8>, AllocError>
+    ensures { IfOk result (λ line. line.items ≡ codes "ERR wrong number of arguments for '"
+        ++ text_of name ++ codes "' command") }
+{
     let mut line = Vec::from_slice(alloc, b"ERR wrong number of arguments for '")?;
     line.extend_from_slice(name.text().as_bytes())?;
     line.extend_from_slice(b"' command")?;

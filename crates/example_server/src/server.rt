@@ -1,5 +1,8 @@
 //! Serving a reader and a writer.
 
+ghost use Rattle.std.specs.Prelude.{OnOk};
+ghost use Rattle.example_server.specs.Sessions.{Replied};
+
 use crate::command::Request;
 use crate::reading::request_of;
 use crate::session::{Session, answer};
@@ -79,7 +82,10 @@ impl Server {
     }
 
     /// Appends the reply to a request of these words.
-    fn reply_to(&mut self, words: Vec<Vec<u8>>, replies: &mut Vec<u8>) -> RedisResult<()> {
+    fn reply_to(&mut self, words: Vec<Vec<u8>>, replies: &mut Vec<u8>) -> RedisResult<()>
+        ensures { OnOk result (Replied self.old.session self.new.session replies.old.items
+            replies.new.items) }
+    {
         let request = request_of(self.alloc, words)?;
         self.has_quit = matches!(&request, Request::Quit);
         let answer = answer(self.alloc, &mut self.session, request)?;
