@@ -61,7 +61,7 @@ use Rattle.resp_parse.specs.contracts.seen.SeenValues.TheInside as seen_values_i
 use Rattle.resp_parse.specs.contracts.seen_bytes.SeenBytes as seen_bytes
 use Rattle.resp_parse.specs.contracts.shape.ElementsKind as elements_kind
 use Rattle.resp_parse.proofs.body.Body.TheSendSync as body_sent
-use Rattle.resp_parse.proofs.counter.Counter.TheSendSync as counter_sent
+use Rattle.resp_parse.proofs.parser.counter.Counter.TheSendSync as counter_sent
 use Rattle.resp_parse.proofs.seen_bytes.SeenBytes.TheSendSync as seen_bytes_sent
 use Rattle.resp_parse.proofs.shape.ElementsKind.TheSendSync as elements_kind_sent
 use Rattle.resp_c.specs.Held.{owns_some}
