@@ -1,9 +1,9 @@
 //! Code over stored replies, and over a link that is counted.
 
-use crate::checks::{Test, assert_answer, assert_text, link, reply};
-use crate::testing::{MemoryLink, bytes_text, command, pipeline, sent_text};
+use crate::checks::{Test, assert_answer, assert_text, reply};
+use crate::testing::{bytes_text, pipeline};
 use example_snippets::replies::{Counted, Stored, count_call, visit_between, visit_over, visits};
-use resp_core::{Cmd, ConnectionLike, RedisResult, Value};
+use resp_core::ConnectionLike;
 use std::collections::VecDeque;
 use std::io::Cursor;
 
@@ -47,51 +47,13 @@ fn packed_commands_over_stored_replies(rt: HostRuntime) {
     assert_answer(&rt, con.req_packed_commands(b"x", 0, 0), broken);
 }
 
-/// A link to which one command is sent at a time.
-#[derive(Drop)]
-struct OneByOne {
-    link: MemoryLink,
-}
-
-impl ConnectionLike for OneByOne {
-    ghost use Rattle.std.specs.Prelude.{false};
-
-    ghost connection = { λ c. record (⟦<MemoryLink as ConnectionLike>⟧.connection c.link) { pipelines = false } };
-
-    fn req_command(&mut self, cmd: &Cmd) -> RedisResult<Value> {
-        self.link.req_command(cmd)
-    }
-
-    fn req_packed_command(&mut self, bytes: &[u8]) -> RedisResult<Value> {
-        self.link.req_packed_command(bytes)
-    }
-
-    fn req_packed_commands(
-        &mut self,
-        bytes: &[u8],
-        offset: usize,
-        count: usize,
-    ) -> RedisResult<Vec<Value>> {
-        self.link.req_packed_commands(bytes, offset, count)
-    }
-
-    fn supports_pipelining(&self) -> bool {
-        false
-    }
-}
-
 #[test]
-fn nothing_is_sent_without_pipelining(rt: HostRuntime) {
-    let mut con = OneByOne {
-        link: link(&rt, b":1\r\n:2\r\n"),
-    };
+fn a_connection_without_pipelining_is_not_asked(rt: HostRuntime) {
+    let mut con = stored(&rt, &[":1\r\n"]);
     let two = pipeline(rt.alloc(), &[&["A"], &["B"]]).expect(&rt, "memory");
     let refused = "This connection does not support pipelining. - Client";
     assert_answer(&rt, two.query::<(i64, i64)>(&mut con), refused);
-    let ping = command(rt.alloc(), &["PING"]).expect(&rt, "memory");
-    assert_answer(&rt, ping.query::<i64>(&mut con), "1");
-    let OneByOne { link } = con;
-    assert_text(&rt, sent_text(rt.alloc(), link), "*1\r\n$4\r\nPING\r\n");
+    assert_visit(&rt, &mut con, "1");
 }
 
 #[test]
