@@ -47,8 +47,6 @@ use Rattle.resp_flat.proofs.flat_reply.FlatReply.TheSendSync as reply_sent
 use Rattle.resp_parse.specs.contracts.body.Body as body
 use Rattle.resp_parse.specs.contracts.builder.Builder as builder
 use Rattle.resp_parse.specs.contracts.parser.counter.Counter as counter
-use Rattle.resp_parse.specs.contracts.held.Held as held
-use Rattle.resp_parse.specs.contracts.held.Held.TheInside as held_inside
 use Rattle.resp_parse.specs.contracts.machine.Machine as machine
 use Rattle.resp_parse.specs.contracts.open_aggregates.OpenAggregate as open_aggregate
 use Rattle.resp_parse.specs.contracts.open_aggregates.OpenAggregates as open_aggregates
@@ -169,13 +167,11 @@ open_aggregates_send =
     let outer = vec_send open_aggregate.the_row open_aggregate_send in
     view_send _ _ _ _ _ (declared_send open_aggregates_inside.the_type (search (leaves, values_send, seen_values_send, outer) depth 60))
 
-held_send : IsSend (as_row held.the_field)
-held_send = as_row_send held.the_field (view_send _ _ _ _ _ (declared_send held_inside.the_type (search (leaves, values_send) depth 60)))
-
 builder_send : IsSend builder.the_row
 builder_send =
     let shows = as_row_send reply.the_field reply_sent.the_field_send in
-    declared_send builder.the_type (search (leaves, held_send, shows) depth 60)
+    let waiting = as_row_send value.the_field value_send in
+    declared_send builder.the_type (search (leaves, waiting, shows) depth 60)
 
 machine_send : IsSend machine.the_row
 machine_send =

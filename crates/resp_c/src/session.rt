@@ -26,6 +26,7 @@ pub struct Session {
 /// By hand, so that the proof of a function that owns one has a call where it is dropped, and not a
 /// case for each part.
 impl Drop for Session {
+    #[inline(always)]
     fn drop(self) {
         let Session {
             parser: _,

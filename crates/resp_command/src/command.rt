@@ -48,6 +48,7 @@ pub struct Cmd {
 /// By hand, so that the proof of a function that owns one has a call where it is dropped, and not a
 /// case for each part.
 impl Drop for Cmd {
+    #[inline(always)]
     fn drop(self) {
         let Cmd {
             alloc: _,

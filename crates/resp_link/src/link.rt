@@ -42,6 +42,7 @@ pub struct ByteLink<S, K> {
 /// By hand, so that the proof of a function that owns one has a call where it is dropped, and not a
 /// case for each part.
 impl<S: Drop, K: Drop> Drop for ByteLink<S, K> {
+    #[inline(always)]
     fn drop(self) {
         let ByteLink {
             alloc: _,

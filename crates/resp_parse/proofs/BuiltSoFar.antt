@@ -1,6 +1,6 @@
 -- What is built so far, in either form.
-use Rattle.std.proofs.Common.{◌≡◌, suc, true, List, [], ◌∷◌, ◌++◌, take, drop, refl, ap, sym, ◌∙◌, subst, Some, Ok}
-use Rattle.resp_value.specs.declared.value.Value.{Value}
+use Rattle.std.proofs.Common.{◌≡◌, suc, Bool, true, false, cond, List, [], ◌∷◌, ◌++◌, take, drop, refl, ap, sym, ◌∙◌, subst, Some, Ok}
+use Rattle.resp_value.specs.declared.value.Value.{Value, Nil}
 use Rattle.resp_flat.specs.declared.flat_reply.FlatReply.{FlatReply}
 use Rattle.resp_flat.specs.FlatReplies.{tokens_of, text_of}
 use Rattle.resp_parse.specs.declared.shape.ElementsKind.{ElementsKind}
@@ -11,8 +11,8 @@ use Rattle.resp_parse.specs.declared.whole.Whole.{Whole}
 use Rattle.resp_parse.specs.declared.builder.Builder.{Builder}
 use Rattle.resp_parse.specs.declared.machine.Machine.{Machine}
 use Rattle.resp_parse.specs.Shapes.{elements_value, made_of}
-use Rattle.resp_parse.specs.OpenAggregates.{KeptIn, ClosedBy}
-use Rattle.resp_parse.specs.Building.{HoldsTree, Builds, BuildsBody, BuildsWhole, BuildsAll, BuildsIn, HoldsFlat, HoldsAll, names_kind, with_name}
+use Rattle.resp_parse.specs.OpenAggregates.{left_of, KeptIn, ClosedBy}
+use Rattle.resp_parse.specs.Building.{HoldsTree, HaveNone, Builds, BuildsBody, BuildsWhole, BuildsAll, BuildsIn, HoldsFlat, HoldsAll, names_kind, with_name}
 use Rattle.resp_parse.proofs.FlatBuilding.{flat-kept, flat-all, flat-closed}
 use Rattle.resp_parse.proofs.FlatPushes.{push-closed}
 
@@ -26,31 +26,55 @@ in-tree f fs now e h = subst HoldsTree e h
 more : (f : OpenAggregate) (v : Value) (w : Whole) → f.elements ≡ f.seen → v ≡ w.seen → f.elements ++ (v ∷ []) ≡ f.seen ++ (w.seen ∷ [])
 more f v w e i = ap (λ xs. xs ++ (v ∷ [])) e ∙ ap (λ (x : Value). f.seen ++ (x ∷ [])) i
 
+-- the builder is left without it
+left : (b : Builder) → (b.flat ≡ true → b.value ≡ Nil) → cond b.flat b.value Nil ≡ Nil
+left b h = by_form b.flat refl
+  where
+    by_form : (flat : Bool) → b.flat ≡ flat → cond flat b.value Nil ≡ Nil
+    by_form true e = h e
+    by_form false e = refl
+
 -- a value that isn't the last of its aggregate
-pub builds-kept : (b : Builder) (x : Value) (now : List OpenAggregate) (w : Whole) (new : List OpenAggregate) → KeptIn b.flat now b.value w new → BuildsWhole b now w → Builds (record b { value = x }) new
-builds-kept b x now w new a h = subst (Builds (record b { value = x })) (sym a.new_is) (record {
+pub builds-kept : (b : Builder) (x : Value) (now : List OpenAggregate) (w : Whole) (new : List OpenAggregate) → x ≡ left_of b.flat now b.value → KeptIn b.flat now b.value w new → BuildsWhole b now w → Builds (record b { value = x }) new
+builds-kept b x now w new v a h = subst (Builds (record b { value = x })) (sym a.new_is) (record {
   tree = λ z.
       let t = h.tree z in
       let o = in-tree a.aggregate a.outer now a.old_is t.0 in
       (rw z (more a.aggregate b.value w o.0 t.1), o.1);
   flat = λ z. flat-kept b.reply a.aggregate _ a.outer w.seen refl refl refl refl (subst (λ fs. HoldsFlat b.reply fs (tokens_of w.seen) (text_of w.seen)) a.old_is (h.flat z)) a.after_is;
+  form = record {
+    tree = h.form.tree;
+    flat = λ z. let o = subst HaveNone a.old_is (h.form.flat z) in (rw z o.0, o.1);
+  };
+  idle = v ∙ ap (λ fs. left_of b.flat fs b.value) a.old_is ∙ left b (h.idle);
 })
 
 -- the last one
-pub builds-all : (b : Builder) (x : Value) (now : List OpenAggregate) (w : Whole) (new : List OpenAggregate) (f : OpenAggregate) → ClosedBy b.flat now b.value w new f → BuildsWhole b now w → BuildsAll (record b { value = x }) new f
-builds-all b x now w new f a h = subst (BuildsAll (record b { value = x }) new) (sym a.closed_is) (record {
+pub builds-all : (b : Builder) (x : Value) (now : List OpenAggregate) (w : Whole) (new : List OpenAggregate) (f : OpenAggregate) → x ≡ left_of b.flat now b.value → ClosedBy b.flat now b.value w new f → BuildsWhole b now w → BuildsAll (record b { value = x }) new f
+builds-all b x now w new f v a h = subst (BuildsAll (record b { value = x }) new) (sym a.closed_is) (record {
   tree = λ z.
       let t = h.tree z in
       let o = in-tree a.aggregate new now a.old_is t.0 in
       (o.1, rw z (more a.aggregate b.value w o.0 t.1));
   flat = λ z. flat-all b.reply a.aggregate _ new w.seen refl refl refl refl (subst (λ fs. HoldsFlat b.reply fs (tokens_of w.seen) (text_of w.seen)) a.old_is (h.flat z)) a.last;
+  form = record {
+    tree = h.form.tree;
+    flat = λ z. (subst HaveNone a.old_is (h.form.flat z)).1;
+  };
+  idle = v ∙ ap (λ fs. left_of b.flat fs b.value) a.old_is ∙ left b (h.idle);
 })
 
 -- one that stands in no aggregate
-pub builds-outermost : (b : Builder) (x : Value) (now new : List OpenAggregate) (w : Whole) → now ≡ [] → new ≡ [] → x ≡ b.value → BuildsWhole b now w → BuildsWhole (record b { value = x }) new w
-builds-outermost b x now new w e f v h =
+pub builds-outermost : (b : Builder) (x : Value) (now new : List OpenAggregate) (w : Whole) → now ≡ [] → new ≡ [] → x ≡ left_of b.flat now b.value → BuildsWhole b now w → BuildsWhole (record b { value = x }) new w
+builds-outermost b x now new w e f l h =
+    let v : x ≡ b.value = l ∙ ap (λ fs. left_of b.flat fs b.value) e in
     let k : BuildsWhole b new w = subst (λ fs. BuildsWhole b fs w) (e ∙ sym f) h in
-    record { tree = λ z. ((k.tree z).0, v ∙ (k.tree z).1); flat = k.flat }
+    record {
+      tree = λ z. ((k.tree z).0, v ∙ (k.tree z).1);
+      flat = k.flat;
+      form = record { tree = k.form.tree; flat = k.form.flat };
+      idle = λ z. v ∙ k.idle z;
+    }
 
 -- a flat reply holds the value of an aggregate that is closed
 abbrev pub Closed : FlatReply → List OpenAggregate → OpenAggregate → Type 0

@@ -1,15 +1,16 @@
 -- What a parser has counted, from call to call.
-use Rattle.std.proofs.Common.{◌≡◌, ℕ, ◌+◌, ◌-◌, ◌*◌, ◌≤◌, Bool, true, false, List, [], ◌∷◌, length, drop, refl, ap, ◌∙◌, arith, Option, Some, None}
+use Rattle.std.proofs.Common.{◌≡◌, ℕ, ◌+◌, ◌-◌, ◌≤◌, Bool, true, false, List, [], length, drop, refl, ap, ◌∙◌, arith, Option, Some, None}
 use Rattle.std.proofs.lemmas.Grind.{common_steps}
 use Rattle.std.proofs.lemmas.List.{length-append}
-use Rattle.resp_parse.specs.declared.open_aggregates.OpenAggregate.{OpenAggregate}
 use Rattle.resp_parse.specs.declared.body.Body.{Body}
 use Rattle.resp_parse.specs.declared.machine.Machine.{Machine}
+use Rattle.resp_parse.specs.Building.{BuildsIn}
+use Rattle.resp_parse.proofs.InMemory.{values-within, tokens-within}
 use Rattle.resp_parse.specs.Counts.{Counts, nothing_done}
 use Rattle.resp_parse.specs.State.{State}
 use Rattle.resp_parse.specs.Bounds.{Bounded, OneCall}
 use Rattle.resp_parse.specs.Resume.{fresh_of, IsScanned}
-use Rattle.resp_parse.specs.Costs.{built_in, aggregates_least_bytes, potential, Spent, SpentAtStop}
+use Rattle.resp_parse.specs.Costs.{values_in, tokens_kept, potential, Spent, SpentAtStop}
 use Rattle.resp_parse.specs.Invariant.{Counted, Holds, CountsTaken, limits_of}
 use Rattle.resp_parse.proofs.Holding.{nothing_open}
 
@@ -97,14 +98,10 @@ pub scanned-within : (b : Option Body) (n : ℕ) (u : List ℕ) → IsScanned b 
 scanned-within None n u h = h.within
 scanned-within (Some b) n u h = omega (arith, h)
 
-built-built_within : (fs : List OpenAggregate) → 3 * built_in fs ≤ aggregates_least_bytes fs
-built-built_within [] = omega arith
-built-built_within (f ∷ fs) = omega (arith, built-built_within fs)
-
 -- what is kept bounds what was done
-pub Bounded-from_kept : {offset : Option ℕ} (most : ℕ) (m : Machine) (u since : List ℕ) (failed : Bool) (c : Counts) (n : ℕ) → length m.open_aggregates ≤ m.depth → Holds m u since failed → Counted m u c failed → (failed ≡ false → CountsTaken most m u since n) →
-    Bounded (record { limits = limits_of m most; unparsed = u; looked = m.scanned; since = since; failed = failed; fault_offset = offset; open_aggregates = length m.open_aggregates; built = built_in m.open_aggregates; counts = c })
-Bounded-from_kept most m u since failed c n l h k p = record {
+pub Bounded-from_kept : {offset : Option ℕ} (most : ℕ) (m : Machine) (u since : List ℕ) (failed : Bool) (c : Counts) (n : ℕ) → length m.open_aggregates ≤ m.depth → Holds m u since failed → Counted m u c failed → (failed ≡ false → CountsTaken most m u since n) → (failed ≡ false → BuildsIn m.builder m.open_aggregates m.body) →
+    Bounded (record { limits = limits_of m most; unparsed = u; looked = m.scanned; since = since; failed = failed; fault_offset = offset; open_aggregates = length m.open_aggregates; values = values_in m; tokens = tokens_kept m; counts = c })
+Bounded-from_kept most m u since failed c n l h k p o = record {
   iterations = omega (arith, k.iterations);
   looks = k.looks;
   examined = k.examined;
@@ -116,7 +113,8 @@ Bounded-from_kept most m u since failed c n l h k p = record {
       let d : length (drop m.scanned u) ≡ length u - m.scanned = grind (arith, common_steps) in
       record {
         accounted = omega (arith, b.accounted, s, d);
-        built = omega (arith, r.built_within, built-built_within m.open_aggregates, s, d);
+        values = omega (arith, r.built_within, values-within m (o w), s, d);
+        tokens = omega (arith, r.built_within, tokens-within m (o w), s, d);
         size = (let z = p w in
             let j : m.scanned ≤ length z.kept = scanned-within m.body m.scanned z.kept z.resumes.scanned in
             let x : length u ≡ length z.kept + length z.later = ap length z.unparsed_is ∙ length-append z.kept z.later in

@@ -13,7 +13,6 @@ pub mod FaultOffsets
 pub mod FewDigits
 pub mod FilledBodies
 pub mod HeadersInPieces
-pub mod LastHeld
 pub mod Holding
 pub mod LimitedReadings
 pub mod LineAt
@@ -34,6 +33,8 @@ pub mod Sizes
 pub mod SizesOfValues
 pub mod CountingTaken
 pub mod Taking
+pub mod TokenCounts
+pub mod InMemory
 pub mod SameCounts
 pub mod TypeBytes
 pub mod FlatTokens

@@ -7,12 +7,13 @@ use Rattle.resp_parse.specs.State.{State}
 abbrev pub not_looked_at : State → List ℕ
 not_looked_at s = drop s.looked s.unparsed
 
--- all bytes that came were looked at or are kept to be looked at; and three times the values built
--- for the value in progress is at most the bytes of it that were looked at, whatever lengths are
--- announced; and these are at most as many as may spell a value
+-- all bytes that came were looked at or are kept to be looked at; of the value in progress, one
+-- value for three bytes that were looked at stands in memory at most, or two tokens, whatever
+-- lengths are announced; and these bytes are at most as many as may spell a value
 pub record WorksWithin (s : State) : Type 0 where
   pub accounted : s.counts.examined + length (not_looked_at s) ≡ s.counts.received
-  pub built : 3 * s.built + length (not_looked_at s) ≤ length s.since
+  pub values : 3 * s.values + length (not_looked_at s) ≤ length s.since
+  pub tokens : 3 * s.tokens + 2 * length (not_looked_at s) ≤ 2 * length s.since
   pub size : length s.since ≤ s.limits.bytes + length (not_looked_at s)
 
 -- the iterations are at most four for three bytes that were looked at and one for each call: where

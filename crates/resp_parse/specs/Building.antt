@@ -2,6 +2,7 @@
 -- values stand in the open aggregates and in the body, contracts see in either case.
 use Rattle.std.specs.Prelude.{◌≡◌, ℕ, suc, ◌+◌, Bool, true, false, List, [], ◌∷◌, ◌++◌, length, map, take, drop, Option, None, Some}
 use Rattle.std.specs.Str.{is_utf8}
+use Rattle.resp_value.specs.declared.value.Value.{Nil}
 use Rattle.resp_flat.specs.declared.token.Token.{Token}
 use Rattle.resp_flat.specs.declared.token.TokenKind.{TokenKind}
 use Rattle.resp_flat.specs.declared.token.TokenKind.TheVariants as token
@@ -48,20 +49,35 @@ abbrev pub HoldsTree : List OpenAggregate → Type 0
 HoldsTree [] = Unit {0}
 HoldsTree (f ∷ fs) = (f.elements ≡ f.seen) × HoldsTree fs
 
+abbrev pub HaveNone : List OpenAggregate → Type 0
+HaveNone [] = Unit {0}
+HaveNone (f ∷ fs) = (f.elements ≡ []) × HaveNone fs
+
+-- a tree has no tokens, and a flat reply no elements
+pub record HoldsOneForm (b : Builder) (fs : List OpenAggregate) : Type 0 where
+  pub tree : b.flat ≡ false → b.reply.tokens.items ≡ []
+  pub flat : b.flat ≡ true → HaveNone fs
+
 -- inside these aggregates no value is begun
 pub record Builds (b : Builder) (fs : List OpenAggregate) : Type 0 where
   pub tree : b.flat ≡ false → HoldsTree fs
   pub flat : b.flat ≡ true → HoldsFlat b.reply fs [] []
+  pub form : HoldsOneForm b fs
+  pub idle : b.value ≡ Nil
 
 -- or a body is
 pub record BuildsBody (b : Builder) (fs : List OpenAggregate) (body : Body) : Type 0 where
   pub tree : b.flat ≡ false → HoldsTree fs × (b.bytes ≡ body.seen)
   pub flat : b.flat ≡ true → HoldsFlat b.reply fs [] body.seen × (body.start ≡ length (text_in fs))
+  pub form : HoldsOneForm b fs
+  pub idle : b.value ≡ Nil
 
 -- or a value is whole
 pub record BuildsWhole (b : Builder) (fs : List OpenAggregate) (w : Whole) : Type 0 where
   pub tree : b.flat ≡ false → HoldsTree fs × (b.value ≡ w.seen)
   pub flat : b.flat ≡ true → HoldsFlat b.reply fs (tokens_of w.seen) (text_of w.seen)
+  pub form : HoldsOneForm b fs
+  pub idle : b.flat ≡ true → b.value ≡ Nil
 
 -- with the body that is open, if one is
 abbrev pub BuildsIn : Builder → List OpenAggregate → Option Body → Type 0
@@ -79,6 +95,8 @@ pub record HoldsAll (reply : FlatReply) (fs : List OpenAggregate) (f : OpenAggre
 pub record BuildsAll (b : Builder) (fs : List OpenAggregate) (f : OpenAggregate) : Type 0 where
   pub tree : b.flat ≡ false → HoldsTree fs × (f.elements ≡ f.seen)
   pub flat : b.flat ≡ true → HoldsAll b.reply fs f
+  pub form : HoldsOneForm b fs
+  pub idle : b.value ≡ Nil
 
 -- whether the first of these tokens names the kind of a push, in this text
 abbrev pub names_kind_as : TokenKind → List ℕ → Bool

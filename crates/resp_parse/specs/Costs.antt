@@ -23,6 +23,23 @@ abbrev pub built_in : List OpenAggregate → ℕ
 built_in [] = 0
 built_in (f ∷ fs) = built_of f.seen + built_in fs
 
+-- the values of a tree that stand in memory: in the aggregates, and beside them, where nil is none
+abbrev pub elements_in : List OpenAggregate → ℕ
+elements_in [] = 0
+elements_in (f ∷ fs) = built_of f.elements + elements_in fs
+
+abbrev pub values_in : Machine → ℕ
+values_in m = elements_in m.open_aggregates + (built m.builder.value - 1)
+
+-- the tokens of a flat reply that do
+abbrev pub tokens_kept : Machine → ℕ
+tokens_kept m = length m.builder.reply.tokens.items
+
+-- as many values and tokens as before
+pub record TakesNoMore (old new : Machine) : Type 0 where
+  pub values : values_in new ≡ values_in old
+  pub tokens : tokens_kept new ≡ tokens_kept old
+
 -- the bytes that the open aggregates have taken, at least: three for a header and for each value
 abbrev pub aggregates_least_bytes : List OpenAggregate → ℕ
 aggregates_least_bytes [] = 0

@@ -20,7 +20,6 @@ pub mod Costs
 pub mod Filling
 pub mod State
 pub mod Bounds
-pub mod LastHeld
 pub mod Building
 pub mod Invariant
 pub mod Source

@@ -1,6 +1,6 @@
 -- The aggregates that are open, and what becomes of a value that is put in the innermost.
 use Rattle.std.specs.Prelude.{◌≡◌, ℕ, zero, suc, Bool, cond, List, [], ◌∷◌, ◌++◌, length, reverse, Result, Ok, Err}
-use Rattle.resp_value.specs.declared.value.Value.{Value}
+use Rattle.resp_value.specs.declared.value.Value.{Value, Nil}
 use Rattle.resp_parse.specs.declared.whole.Whole.{Whole}
 use Rattle.resp_parse.specs.declared.open_aggregates.OpenAggregate.{OpenAggregate}
 use Rattle.resp_parse.specs.declared.open_aggregates.Added.{Added}
@@ -26,6 +26,11 @@ with_element flat f v w = record f {
   elements = cond flat f.elements (f.elements ++ (v ∷ []));
   seen = f.seen ++ (w.seen ∷ []);
 }
+
+-- what is left of the value: in a tree it is an element, where an aggregate is open
+abbrev pub left_of : Bool → List OpenAggregate → Value → Value
+left_of flat [] v = v
+left_of flat (f ∷ fs) v = cond flat v Nil
 
 -- more elements are to come
 pub record KeptIn (flat : Bool) (old : List OpenAggregate) (v : Value) (w : Whole) (new : List OpenAggregate) : Type 0 where

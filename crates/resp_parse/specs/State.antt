@@ -13,7 +13,8 @@ use Rattle.resp_parse.specs.declared.read_error.ReadError.TheVariants.{Memory, F
 -- many of them were looked at; those since the last value that was handed out; whether the parser
 -- has failed, and after how many of these bytes a fault showed, if one was answered; how many
 -- aggregates are open, of aggregates whose header was read and whose elements aren't all there; of
--- how many values these elements are built; and what the parser has done
+-- the value in progress, how many values of a tree, those inside others too, and how many tokens of
+-- a flat reply stand in memory; and what the parser has done
 pub record State : Type 0 where
   pub limits : Limits
   pub unparsed : List ℕ
@@ -22,7 +23,8 @@ pub record State : Type 0 where
   pub failed : Bool
   pub fault_offset : Option ℕ
   pub open_aggregates : ℕ
-  pub built : ℕ
+  pub values : ℕ
+  pub tokens : ℕ
   pub counts : Counts
 
 -- the parser works, and b are the bytes since the last value that it handed out

@@ -4,8 +4,8 @@ ghost use Rattle.std.specs.Prelude.{◌≡◌, ◌∷◌, ◌+◌, ◌++◌, ℕ
 ghost use Rattle.std.specs.Str.{is_utf8};
 ghost use Rattle.resp_value.specs.declared.value.Value.{Value, Int, BulkString};
 ghost use Rattle.resp_parse.specs.declared.open_aggregates.OpenAggregate.{OpenAggregate};
-ghost use Rattle.resp_parse.specs.Building.{BeginsBody, BeginsAggregate, Builds, BuildsBody, BuildsWhole, BuildsAll, HoldsAll};
-ghost use Rattle.resp_parse.specs.Building.{HoldsFlat, text_in, names_kind, with_name};
+ghost use Rattle.resp_parse.specs.Building.{BeginsBody, BeginsAggregate, Builds, BuildsBody, BuildsWhole, BuildsAll};
+ghost use Rattle.resp_parse.specs.Building.{names_kind, with_name};
 ghost use Rattle.resp_parse.specs.Grammar.{simple};
 ghost use Rattle.resp_parse.specs.Shapes.{body_value, elements_value, count_of};
 ghost use Rattle.resp_parse.specs.Computes.{ComputesSeen, MakesSeen};
@@ -13,7 +13,6 @@ ghost use Rattle.resp_parse.specs.Resume.{FillsBody};
 ghost use Rattle.resp_parse.specs.Costs.{Iterations};
 
 use crate::body::Body;
-use crate::held::Held;
 use crate::open_aggregates::OpenAggregate;
 use crate::parser::Counter;
 use crate::read_error::ReadError;
@@ -51,8 +50,8 @@ pub(crate) struct Builder {
     pub(crate) reply: FlatReply,
     /// What a tree has of the body that is open.
     pub(crate) bytes: Bytes,
-    /// The value in a tree that is whole and not yet where it belongs.
-    pub(crate) value: Held,
+    /// The value in a tree that is whole and not yet where it belongs; nil where there is none.
+    pub(crate) value: Value,
 }
 
 impl Builder {
@@ -64,14 +63,14 @@ impl Builder {
             flat: false,
             reply: FlatReply::new(alloc),
             bytes: Bytes::new(alloc),
-            value: Held::new(alloc),
+            value: Value::Nil,
         }
     }
 
     /// From here on builds a flat reply, or a tree.
     pub(crate) fn choose(&mut self, flat: bool)
         ensures flat { self.new.flat ≡ flat }
-        ensures builds { Builds self.new [] }
+        ensures builds { Builds self.old [] → Builds self.new [] }
     {
         self.flat = flat;
         self.reply.clear();
@@ -86,7 +85,7 @@ impl Builder {
     {
         let whole = Whole::new(SeenValue::of(&value));
         if !self.flat {
-            self.value.hold(value)?;
+            self.value = value;
             return Ok(whole);
         }
         self.reply.append(&value)?;
@@ -102,7 +101,7 @@ impl Builder {
     {
         let whole = Whole::new(SeenValue::of(&Value::Int(n)));
         if !self.flat {
-            self.value.hold(Value::Int(n))?;
+            self.value = Value::Int(n);
             return Ok(whole);
         }
         self.reply.tokens.push(Token {
@@ -122,7 +121,7 @@ impl Builder {
             IfOk result (BuildsWhole self.new fs) }
     {
         if !self.flat {
-            self.value.hold(simple_of(alloc, text)?)?;
+            self.value = simple_of(alloc, text)?;
             return Ok(Whole::new(SeenValue::simple(text)));
         }
         if text == "OK" {
@@ -194,8 +193,8 @@ impl Builder {
             return self.tree_body(alloc, body.kind);
         }
         match body.kind {
-            BodyKind::Bulk => Ok(self.bulk(body.start, &body.seen)?),
-            kind => self.text_body(alloc, kind, body.start),
+            BodyKind::Bulk => Ok(self.bulk(body)?),
+            _ => self.text_body(alloc, body),
         }
     }
 
@@ -211,7 +210,7 @@ impl Builder {
         if let BodyKind::Bulk = kind {
             let value = Value::BulkString(bytes);
             let whole = Whole::new(SeenValue::of(&value));
-            self.value.hold(value)?;
+            self.value = value;
             return Ok(whole);
         }
         self.other_body(alloc, kind, bytes)
@@ -234,39 +233,36 @@ impl Builder {
         Ok(self.leaf(value)?)
     }
 
-    /// The bytes from `start` on are a bulk string.
-    fn bulk(&mut self, start: usize, seen: &SeenBytes) -> Result<Whole, AllocError>
+    /// The bytes of the body are a bulk string.
+    fn bulk(&mut self, body: &Body) -> Result<Whole, AllocError>
         requires flat { self.old.flat ≡ true }
         ensures flat { self.new.flat ≡ self.old.flat }
-        ensures seen { IfOk result (λ whole. whole.seen ≡ BulkString seen.now) }
-        ensures builds { (fs : List OpenAggregate) →
-            HoldsFlat self.old.reply fs [] seen.now → start ≡ length (text_in fs) →
+        ensures seen { IfOk result (λ whole. whole.seen ≡ BulkString body.now.seen) }
+        ensures builds { (fs : List OpenAggregate) → BuildsBody self.old fs body.now →
             IfOk result (BuildsWhole self.new fs) }
     {
         self.reply.tokens.push(Token {
             kind: TokenKind::BulkString,
-            size: self.reply.text.len().saturating_sub(start),
+            size: self.reply.text.len().saturating_sub(body.start),
             number: 0,
-            start,
+            start: body.start,
         })?;
-        Ok(Whole::new(SeenValue::bulk(seen)))
+        Ok(Whole::new(SeenValue::bulk(&body.seen)))
     }
 
-    /// The bytes from `start` on are the body of an error or of a verbatim string.
+    /// The bytes of the body are an error or a verbatim string.
     #[inline(never)]
-    fn text_body(&mut self, alloc: Global, kind: BodyKind, start: usize) -> Result<Whole, ReadError>
+    fn text_body(&mut self, alloc: Global, body: &Body) -> Result<Whole, ReadError>
         requires flat { self.old.flat ≡ true }
         ensures flat { self.new.flat ≡ self.old.flat }
-        ensures value { (fs : List OpenAggregate) (x : List ℕ) →
-            HoldsFlat self.old.reply fs [] x → start ≡ length (text_in fs) →
-            ComputesSeen result (body_value kind x) }
-        ensures builds { (fs : List OpenAggregate) (x : List ℕ) →
-            HoldsFlat self.old.reply fs [] x → start ≡ length (text_in fs) →
+        ensures value { (fs : List OpenAggregate) → BuildsBody self.old fs body.now →
+            ComputesSeen result (body_value body.now.kind body.now.seen) }
+        ensures builds { (fs : List OpenAggregate) → BuildsBody self.old fs body.now →
             IfOk result (BuildsWhole self.new fs) }
     {
-        let start = start.min(self.reply.text.len());
+        let start = body.start.min(self.reply.text.len());
         let bytes = Bytes::from_slice(alloc, &self.reply.text[start..])?;
-        let value = kind.value(alloc, bytes)?;
+        let value = body.kind.value(alloc, bytes)?;
         self.reply.text.truncate(start);
         Ok(self.leaf(value)?)
     }
@@ -345,9 +341,9 @@ impl Builder {
     fn close_flat(&mut self, aggregate: &OpenAggregate) -> Result<Whole, FrameFault>
         requires flat { self.old.flat ≡ true }
         ensures flat { self.new.flat ≡ self.old.flat }
-        ensures value { (fs : List OpenAggregate) → HoldsAll self.old.reply fs aggregate.now →
+        ensures value { (fs : List OpenAggregate) → BuildsAll self.old fs aggregate.now →
             MakesSeen result (elements_value aggregate.now.kind aggregate.now.seen) }
-        ensures builds { (fs : List OpenAggregate) → HoldsAll self.old.reply fs aggregate.now →
+        ensures builds { (fs : List OpenAggregate) → BuildsAll self.old fs aggregate.now →
             IfOk result (BuildsWhole self.new fs) }
     {
         if let ElementsKind::Push = aggregate.kind {
@@ -362,6 +358,7 @@ impl Builder {
     /// bulk string.
     fn name_push(&mut self, token: usize) -> bool
         ensures flat { self.new.flat ≡ self.old.flat }
+        ensures value { self.new.value ≡ self.old.value }
         ensures text { self.new.reply.text.items ≡ self.old.reply.text.items }
         ensures named { result ≡
             names_kind (drop (suc token) self.old.reply.tokens.items) self.old.reply.text.items }

@@ -50,7 +50,7 @@ impl Form for Value {
     ) -> Result<(), AllocError> {
         let _ = whole;
         if !builder.flat {
-            *out = builder.value.take();
+            *out = mem::replace(&mut builder.value, Value::Nil);
             return Ok(());
         }
         let Ok(value) = builder.reply.to_value(alloc) else {
@@ -83,7 +83,8 @@ impl Form for FlatReply {
             return Ok(());
         }
         let mut reply = FlatReply::new(alloc);
-        reply.append(&builder.value.take())?;
+        reply.append(&builder.value)?;
+        builder.value = Value::Nil;
         *out = reply;
         Ok(())
     }

@@ -5,7 +5,6 @@ mod body;
 mod builder;
 mod double;
 mod form;
-mod held;
 pub mod laws;
 mod limits;
 mod line;

@@ -28,15 +28,17 @@ pub(crate) fn first_line(bytes: &[u8], scanned: usize, counts: &mut Counter) -> 
         IfSome line.number (IsNumeral (take line.len bytes.now))) }
     ensures looks { LooksAt scanned bytes.now counts.old counts.new (len_of result) }
 {
-    let mut scanned = scanned;
-    if scanned == 0 {
-        match numeral(bytes, counts) {
-            Ok(line) => return Some(line),
-            Err(looked) => scanned = looked,
+    if scanned > 0 {
+        let len = line_end(bytes, scanned, counts)?;
+        return Some(Line { len, number: None });
+    }
+    match numeral(bytes, counts) {
+        Ok(line) => Some(line),
+        Err(looked) => {
+            let len = line_end(bytes, looked, counts)?;
+            Some(Line { len, number: None })
         }
     }
-    let len = line_end(bytes, scanned, counts)?;
-    Some(Line { len, number: None })
 }
 
 /// The first line, where it is few digits alone. Err: so many bytes hold no CR LF.

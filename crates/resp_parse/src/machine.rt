@@ -12,7 +12,7 @@ ghost use Rattle.resp_parse.specs.Resume.{place, resume, fresh_of, IsScanned, Go
 ghost use Rattle.resp_parse.specs.Resume.{Runs, ReadsInto, ReadsReadable, depth_below};
 ghost use Rattle.resp_parse.specs.Filling.{lacks_of, FillsOpenBody};
 ghost use Rattle.resp_parse.specs.Built.{built};
-ghost use Rattle.resp_parse.specs.Costs.{least_bytes, BuiltWithin, StepBuiltWithin, RunBuiltWithin, Places, Begins};
+ghost use Rattle.resp_parse.specs.Costs.{TakesNoMore, least_bytes, BuiltWithin, StepBuiltWithin, RunBuiltWithin, Places, Begins};
 ghost use Rattle.resp_parse.specs.Costs.{HeaderCost, StepCost, RunCost, ReadBuiltWithin};
 
 use crate::body::Body;
@@ -270,6 +270,8 @@ impl Machine {
         ensures fills { FillsOpenBody self.old bytes.now self.new counts.old counts.new result }
         ensures builds { BuildsIn self.old.builder self.old.open_aggregates self.old.body →
             BuildsIn self.new.builder self.new.open_aggregates self.new.body }
+        ensures memory { BuildsIn self.old.builder self.old.open_aggregates self.old.body →
+            TakesNoMore self.old self.new }
     {
         if bytes.is_empty() {
             return Ok(());
@@ -401,6 +403,8 @@ impl Machine {
         ensures same { self.new ≡ record self.old { builder = self.new.builder } }
         ensures builds { BuildsIn self.old.builder self.old.open_aggregates self.old.body →
             BuildsIn self.new.builder self.new.open_aggregates self.new.body }
+        ensures memory { BuildsIn self.old.builder self.old.open_aggregates self.old.body →
+            TakesNoMore self.old self.new }
     {
         if self.is_fresh() {
             self.builder.choose(flat);

@@ -1,9 +1,9 @@
 //! The aggregates whose headers were read and whose elements aren't all there.
 
 ghost use Rattle.std.specs.Prelude.{◌≡◌, ◌∷◌, ◌++◌, ◌≤◌, ◌+◌, cond, [], length, OnOk};
-ghost use Rattle.resp_parse.specs.OpenAggregates.{Adds, ClosesInnermost};
+ghost use Rattle.resp_value.specs.declared.value.Value.{Nil};
+ghost use Rattle.resp_parse.specs.OpenAggregates.{Adds, ClosesInnermost, left_of};
 
-use crate::held::Held;
 use crate::seen::SeenValues;
 use crate::shape::ElementsKind;
 use crate::whole::Whole;
@@ -142,10 +142,10 @@ impl OpenAggregates {
         alloc: Global,
         whole: Whole,
         flat: bool,
-        value: &mut Held,
+        value: &mut Value,
     ) -> Result<Added, AllocError>
         ensures adds { Adds flat self.old value.old whole self.new result }
-        ensures value { self.old ≡ [] → value.new ≡ value.old }
+        ensures value { OnOk result (value.new ≡ left_of flat self.old value.old) }
         ensures fewer { length self.new ≤ length self.old }
     {
         if self.len == 0 {
@@ -194,12 +194,13 @@ impl OpenAggregates {
 }
 
 /// Keeps an element, which a flat reply has itself.
-fn keep(elements: &mut Items<Value>, value: &mut Held, flat: bool) -> Result<(), AllocError>
-    ensures { OnOk result
+fn keep(elements: &mut Items<Value>, value: &mut Value, flat: bool) -> Result<(), AllocError>
+    ensures kept { OnOk result
         (elements.new ≡ cond flat elements.old (elements.old ++ (value.old ∷ []))) }
+    ensures value { OnOk result (value.new ≡ cond flat value.old Nil) }
 {
     if flat {
         return Ok(());
     }
-    elements.push(value.take())
+    elements.push(mem::replace(value, Value::Nil))
 }

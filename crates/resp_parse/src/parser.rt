@@ -43,9 +43,9 @@ const CHUNK: usize = 4096;
 ///
 /// Nor does it matter for the work: the parser goes on where it stopped. Its loops make at most
 /// four iterations for three bytes that it has looked at and one for each call, at most as many
-/// aggregates are open as levels are read, and of the value in progress it has built at most one
-/// value for each three bytes looked at, whatever lengths are announced. Contracts see these
-/// numbers in its state.
+/// aggregates are open as levels are read, and of the value in progress it holds at most one value
+/// for each three bytes looked at, or two tokens of a flat reply, whatever lengths are announced.
+/// Contracts see these numbers in its state.
 ///
 /// Values are read within [`Limits`]: 100 levels of values inside values and 2^63 - 1 bytes, or
 /// those that [`Parser::with_limits`] was given. No call changes them. A value with more levels is
@@ -74,6 +74,7 @@ pub struct Parser {
 /// By hand, so that the proof of a function that owns one has a call where it is dropped, and not a
 /// case for each part.
 impl Drop for Parser {
+    #[inline(always)]
     fn drop(self) {
         let Parser {
             buffer: _,
@@ -92,7 +93,7 @@ impl Drop for Parser {
 impl Model for Parser {
     ghost use Rattle.std.specs.Prelude.{drop, length};
     ghost use Rattle.resp_parse.specs.State.{State};
-    ghost use Rattle.resp_parse.specs.Costs.{built_in};
+    ghost use Rattle.resp_parse.specs.Costs.{values_in, tokens_kept};
     ghost use Rattle.resp_parse.specs.Invariant.{Invariant, limits_of};
 
     ghost Value = { State };
@@ -105,7 +106,8 @@ impl Model for Parser {
       failed = p.failed;
       fault_offset = p.fault_offset;
       open_aggregates = length p.machine.open_aggregates;
-      built = built_in p.machine.open_aggregates;
+      values = values_in p.machine;
+      tokens = tokens_kept p.machine;
       counts = p.counts;
     } };
 
@@ -318,6 +320,7 @@ impl Parser {
 
     /// Chooses what is built of the next value, where none is in progress.
     fn choose(&mut self, flat: bool)
+        requires works { self.old.failed ≡ false }
         ensures same { self.new ≡ self.old }
     {
         self.machine.choose(flat);

@@ -55,6 +55,7 @@ pub struct Pipeline {
 /// By hand, so that the proof of a function that owns one has a call where it is dropped, and not a
 /// case for each part.
 impl Drop for Pipeline {
+    #[inline(always)]
     fn drop(self) {
         let Pipeline {
             alloc: _,

@@ -10,7 +10,7 @@ use Rattle.resp_parse.proofs.builder.Builder.close_flat.Goals.{in-Push+else-not-
 
 pub returns-then-not-name_push-clause-value : goal.returns-then-not-name_push-clause-value
 returns-then-not-name_push-clause-value c = λ fs h.
-    rw c.in-Push.is (push-refused c.args.self.now.reply fs c.args.aggregate.now h (sym c.name_push.ensures.named ∙ c.if-not-name_push.true))
+    rw c.in-Push.is (push-refused c.args.self.now.reply fs c.args.aggregate.now (h.flat c.requires.flat) (sym c.name_push.ensures.named ∙ c.if-not-name_push.true))
 
 pub returns-clause-value : goal.returns-clause-value
 returns-clause-value c = λ fs h.
@@ -19,8 +19,8 @@ returns-clause-value c = λ fs h.
     let s = c.match-aggregate.self.reply in
     let closed : Closed s fs f = elim c.match-aggregate.branch [
       | in-Push+else-not-name_push w ↦ subst (λ (b : Builder). Closed b.reply fs f) (sym w.self-is)
-          (closed-push r w.name_push.new.self.reply fs f h w.in-Push.is (sym w.name_push.ensures.named ∙ w.if-not-name_push.false) w.name_push.ensures.tokens w.name_push.ensures.text)
-      | in_default w ↦ subst (λ (b : Builder). Closed b.reply fs f) (sym w.self-is) (closed-other r fs f h w.in_default.not-Push)
+          (closed-push r w.name_push.new.self.reply fs f (h.flat c.requires.flat) w.in-Push.is (sym w.name_push.ensures.named ∙ w.if-not-name_push.false) w.name_push.ensures.tokens w.name_push.ensures.text)
+      | in_default w ↦ subst (λ (b : Builder). Closed b.reply fs f) (sym w.self-is) (closed-other r fs f (h.flat c.requires.flat) w.in_default.not-Push)
     ] in
     closed-value s fs f closed ∙ ap Ok (sym (c.new.ensures.seen ∙ c.elements.ensures))
 
@@ -31,14 +31,20 @@ returns-clause-builds c = λ fs h.
     let s = c.match-aggregate.self.reply in
     let closed : Closed s fs f = elim c.match-aggregate.branch [
       | in-Push+else-not-name_push w ↦ subst (λ (b : Builder). Closed b.reply fs f) (sym w.self-is)
-          (closed-push r w.name_push.new.self.reply fs f h w.in-Push.is (sym w.name_push.ensures.named ∙ w.if-not-name_push.false) w.name_push.ensures.tokens w.name_push.ensures.text)
-      | in_default w ↦ subst (λ (b : Builder). Closed b.reply fs f) (sym w.self-is) (closed-other r fs f h w.in_default.not-Push)
+          (closed-push r w.name_push.new.self.reply fs f (h.flat c.requires.flat) w.in-Push.is (sym w.name_push.ensures.named ∙ w.if-not-name_push.false) w.name_push.ensures.tokens w.name_push.ensures.text)
+      | in_default w ↦ subst (λ (b : Builder). Closed b.reply fs f) (sym w.self-is) (closed-other r fs f (h.flat c.requires.flat) w.in_default.not-Push)
     ] in
     let flat : c.match-aggregate.self.flat ≡ true = elim c.match-aggregate.branch [
       | in-Push+else-not-name_push w ↦ ap (λ (b : Builder). b.flat) w.self-is ∙ w.name_push.ensures.flat ∙ c.requires.flat
       | in_default w ↦ ap (λ (b : Builder). b.flat) w.self-is ∙ c.requires.flat
     ] in
+    let same : c.match-aggregate.self.value ≡ c.args.self.now.value = elim c.match-aggregate.branch [
+      | in-Push+else-not-name_push w ↦ ap (λ (b : Builder). b.value) w.self-is ∙ w.name_push.ensures.value
+      | in_default w ↦ ap (λ (b : Builder). b.value) w.self-is
+    ] in
     record {
       tree = λ z. absurd (let e : true ≡ false = sym flat ∙ z in cc);
       flat = λ z. subst (λ (v : Value). HoldsFlat s fs (tokens_of v) (text_of v)) (sym (c.new.ensures.seen ∙ c.elements.ensures)) (closed-held s fs f closed);
+      form = record { tree = λ z. absurd (let e : true ≡ false = sym flat ∙ z in cc); flat = λ _. h.form.flat c.requires.flat };
+      idle = λ _. same ∙ h.idle;
     }

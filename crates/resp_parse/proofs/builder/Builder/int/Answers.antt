@@ -14,4 +14,6 @@ returns-clause-builds c = λ fs h.
       tree = λ z. absurd (let e : true ≡ false = sym c.if-not-self.false ∙ z in cc);
       flat = λ z. subst (λ (v : Value). HoldsFlat new fs (tokens_of v) (text_of v)) (sym seen)
           (flat-int c.args.self.now.reply new fs c.args.n (h.flat z) (search rules) refl);
+      form = record { tree = λ z. absurd (let e : true ≡ false = sym c.if-not-self.false ∙ z in cc); flat = h.form.flat };
+      idle = λ _. h.idle;
     }

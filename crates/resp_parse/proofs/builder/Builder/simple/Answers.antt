@@ -15,4 +15,6 @@ returns-clause-builds c = λ fs h.
       tree = λ z. absurd (let e : true ≡ false = sym c.if-not-self.false ∙ z in cc);
       flat = λ z. subst (λ (v : Value). HoldsFlat new fs (tokens_of v) (text_of v)) (sym (c.new-2.ensures.seen ∙ c.simple-2.ensures ∙ other))
           (flat-simple c.args.self.now.reply new fs c.args.text.now (h.flat z) (search rules) (search rules));
+      form = record { tree = λ z. absurd (let e : true ≡ false = sym c.if-not-self.false ∙ z in cc); flat = h.form.flat };
+      idle = λ _. h.idle;
     }

@@ -12,7 +12,7 @@ pub returns-in-StillOpen-clause-builds : goal.returns-in-StillOpen-clause-builds
 returns-in-StillOpen-clause-builds c =
     let b = c.loop-whole.self.builder in
     let a : KeptIn b.flat c.loop-whole.self.open_aggregates b.value c.loop-whole.whole c.add.new.self = rw c.in-StillOpen.is at c.in_ok-whole.ensures.adds in
-    subst (BuildsIn (record b { value = c.add.new.value }) c.add.new.self) (sym c.loop-whole.invariant.no_body) (builds-kept b c.add.new.value c.loop-whole.self.open_aggregates c.loop-whole.whole c.add.new.self a c.loop-whole.invariant.builds)
+    subst (BuildsIn (record b { value = c.add.new.value }) c.add.new.self) (sym c.loop-whole.invariant.no_body) (builds-kept b c.add.new.value c.loop-whole.self.open_aggregates c.loop-whole.whole c.add.new.self c.in_ok-whole.ensures.value a c.loop-whole.invariant.builds)
 
 pub returns-in-Outermost-clause-builds : goal.returns-in-Outermost-clause-builds
 returns-in-Outermost-clause-builds c =
@@ -20,7 +20,7 @@ returns-in-Outermost-clause-builds c =
     let now = c.loop-whole.self.open_aggregates in
     let a : Adds {E = Unit {0}} b.flat now b.value c.loop-whole.whole c.add.new.self (Ok (added.Outermost c.in-Outermost.whole)) = rw c.in-Outermost.is at c.in_ok-whole.ensures.adds in
     subst (BuildsWhole (record b { value = c.add.new.value }) c.add.new.self) (sym a.2)
-    (builds-outermost b c.add.new.value now c.add.new.self c.loop-whole.whole a.0 a.1 (c.in_ok-whole.ensures.value a.0) c.loop-whole.invariant.builds)
+    (builds-outermost b c.add.new.value now c.add.new.self c.loop-whole.whole a.0 a.1 c.in_ok-whole.ensures.value c.loop-whole.invariant.builds)
 
 pub returns-in-Err-clause-ends : goal.returns-in-Err-clause-ends
 returns-in-Err-clause-ends c =
@@ -34,7 +34,7 @@ returns-in-Err-clause-ends c =
     let v = c.args.whole.seen in
     let same = c.loop-whole.invariant.same in
     let a : ClosedBy b.flat now b.value w fs f = rw c.in-Closed.is at c.in_ok-whole.ensures.adds in
-    let all : BuildsAll (record b { value = c.add.new.value }) fs f = builds-all b c.add.new.value now w fs f a c.loop-whole.invariant.builds in
+    let all : BuildsAll (record b { value = c.add.new.value }) fs f = builds-all b c.add.new.value now w fs f c.in_ok-whole.ensures.value a c.loop-whole.invariant.builds in
     added-refused b.flat b.value d gs v now w same fs f a c.args.self.now c.in-Err.why (c.in-Err.ensures.value fs all)
 
 pub returns-in-Err-clause-places : goal.returns-in-Err-clause-places
@@ -49,7 +49,7 @@ returns-in-Err-clause-places c =
     let v = c.args.whole.seen in
     let same = c.loop-whole.invariant.same in
     let a : ClosedBy b.flat now b.value w fs f = rw c.in-Closed.is at c.in_ok-whole.ensures.adds in
-    let all : BuildsAll (record b { value = c.add.new.value }) fs f = builds-all b c.add.new.value now w fs f a c.loop-whole.invariant.builds in
+    let all : BuildsAll (record b { value = c.add.new.value }) fs f = builds-all b c.add.new.value now w fs f c.in_ok-whole.ensures.value a c.loop-whole.invariant.builds in
     let t : c.iterate.new.self.iterations ≡ c.loop-whole.counts.iterations + 1 = ap (λ (n : Counts). n.iterations) c.iterate.ensures in
     let l = closed-potential b.flat b.value d gs v now w same fs f a in
     let most = (c.in-Err.ensures.iterations fs all).most in
@@ -67,7 +67,7 @@ returns-in-Err-clause-iterations c =
     let v = c.args.whole.seen in
     let same = c.loop-whole.invariant.same in
     let a : ClosedBy b.flat now b.value w fs f = rw c.in-Closed.is at c.in_ok-whole.ensures.adds in
-    let all : BuildsAll (record b { value = c.add.new.value }) fs f = builds-all b c.add.new.value now w fs f a c.loop-whole.invariant.builds in
+    let all : BuildsAll (record b { value = c.add.new.value }) fs f = builds-all b c.add.new.value now w fs f c.in_ok-whole.ensures.value a c.loop-whole.invariant.builds in
     same-iterations c.args.counts.now c.loop-whole.counts c.close.new.counts c.loop-whole.invariant.iterations
     (same-iterations c.loop-whole.counts c.iterate.new.self c.close.new.counts (same-iterate c.loop-whole.counts c.iterate.new.self c.iterate.ensures) (c.in-Err.ensures.iterations fs all).same)
 
@@ -83,7 +83,7 @@ loop-whole-preserved c =
     let v = c.args.whole.seen in
     let same = c.loop-whole.invariant.same in
     let a : ClosedBy b.flat now b.value w fs f = rw c.in-Closed.is at c.in_ok-whole.ensures.adds in
-    let all : BuildsAll (record b { value = c.add.new.value }) fs f = builds-all b c.add.new.value now w fs f a c.loop-whole.invariant.builds in
+    let all : BuildsAll (record b { value = c.add.new.value }) fs f = builds-all b c.add.new.value now w fs f c.in_ok-whole.ensures.value a c.loop-whole.invariant.builds in
     let u = c.in-Ok.made.seen in
     let made = c.in-Ok.ensures.value fs all in
     let t : c.iterate.new.self.iterations ≡ c.loop-whole.counts.iterations + 1 = ap (λ (n : Counts). n.iterations) c.iterate.ensures in

@@ -55,9 +55,9 @@ invariant_of-self-in-Ok g c =
     }
 
 pub returns-in_ok-extend_from_slice-in-Ok-clause-bounds : goal.returns-in_ok-extend_from_slice-in-Ok-clause-bounds
-returns-in_ok-extend_from_slice-in-Ok-clause-bounds g c = let k = invariant_of-self-in-Ok g c in Bounded-from_kept c.self.inside.size_limit c.self.inside.machine (drop c.self.inside.consumed c.extend_from_slice.new.self.items) c.append.new.self c.self.inside.failed c.receive.new.self c.self.inside.taken k.depth k.holds k.counted k.taken
+returns-in_ok-extend_from_slice-in-Ok-clause-bounds g c = let k = invariant_of-self-in-Ok g c in Bounded-from_kept c.self.inside.size_limit c.self.inside.machine (drop c.self.inside.consumed c.extend_from_slice.new.self.items) c.append.new.self c.self.inside.failed c.receive.new.self c.self.inside.taken k.depth k.holds k.counted k.taken k.builds
 
 pub returns-in-Err-clause-bounds : goal.returns-in-Err-clause-bounds
 returns-in-Err-clause-bounds g c =
     rw c.reserve.ensures.items
-    (Bounded-from_kept c.self.inside.size_limit c.self.inside.machine (drop c.self.inside.consumed c.self.inside.buffer.items) c.self.inside.since c.self.inside.failed c.self.inside.counts c.self.inside.taken c.self.invariant.depth c.self.invariant.holds c.self.invariant.counted c.self.invariant.taken)
+    (Bounded-from_kept c.self.inside.size_limit c.self.inside.machine (drop c.self.inside.consumed c.self.inside.buffer.items) c.self.inside.since c.self.inside.failed c.self.inside.counts c.self.inside.taken c.self.invariant.depth c.self.invariant.holds c.self.invariant.counted c.self.invariant.taken c.self.invariant.builds)

@@ -15,6 +15,7 @@ returns-clause-bounds c =
     (Holds-failing c.self.inside.machine u c.self.inside.since c.self.inside.failed c.self.invariant.holds)
     (Counted-failing c.self.inside.machine u c.self.inside.counts c.self.inside.failed c.self.invariant.counted)
     (λ e. absurd (let z : true ≡ false = e in cc))
+    (λ e. absurd (let z : true ≡ false = e in cc))
 
 pub returns-clause-counts : goal.returns-clause-counts
 returns-clause-counts c = ap (λ (s : State). s.counts) c.self.view_is

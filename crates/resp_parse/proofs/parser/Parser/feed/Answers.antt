@@ -23,12 +23,14 @@ returns-then-self-clause-feeds c = λ b h. absurd (StandsAfter-not_failed c.args
 pub returns-in_err-reserve-clause-bounds : goal.returns-in_err-reserve-clause-bounds
 returns-in_err-reserve-clause-bounds c =
     rw c.in_err-reserve.ensures.items
-    (Bounded-from_kept c.self-2.inside.size_limit c.self-2.inside.machine (drop c.self-2.inside.consumed c.self-2.inside.buffer.items) c.self-2.inside.since c.self-2.inside.failed c.self-2.inside.counts c.self-2.inside.taken c.self-2.invariant.depth c.self-2.invariant.holds c.self-2.invariant.counted c.self-2.invariant.taken)
+    (Bounded-from_kept c.self-2.inside.size_limit c.self-2.inside.machine (drop c.self-2.inside.consumed c.self-2.inside.buffer.items) c.self-2.inside.since c.self-2.inside.failed c.self-2.inside.counts c.self-2.inside.taken c.self-2.invariant.depth c.self-2.invariant.holds c.self-2.invariant.counted c.self-2.invariant.taken c.self-2.invariant.builds)
 
 pub returns-in_err-fill-clause-bounds : goal.returns-in_err-fill-clause-bounds
 returns-in_err-fill-clause-bounds c =
-    rw (c.in_ok-reserve.ensures.items, c.in_err-fill.ensures.fills.0, c.in_err-fill.ensures.fills.1)
-    (Bounded-from_kept c.self-2.inside.size_limit c.self-2.inside.machine (drop c.self-2.inside.consumed c.self-2.inside.buffer.items) c.self-2.inside.since c.self-2.inside.failed c.self-2.inside.counts c.self-2.inside.taken c.self-2.invariant.depth c.self-2.invariant.holds c.self-2.invariant.counted c.self-2.invariant.taken)
+    let w : c.self-2.inside.failed ≡ false = ap (λ (s : State). s.failed) (c.self-2.view_is ∙ c.compact.ensures.same ∙ sym c.self.view_is) ∙ c.if-self.false in
+    let memory = c.in_err-fill.ensures.memory (c.self-2.invariant.builds w) in
+    rw (memory.values, memory.tokens, c.in_ok-reserve.ensures.items, c.in_err-fill.ensures.fills.0, c.in_err-fill.ensures.fills.1)
+    (Bounded-from_kept c.self-2.inside.size_limit c.self-2.inside.machine (drop c.self-2.inside.consumed c.self-2.inside.buffer.items) c.self-2.inside.since c.self-2.inside.failed c.self-2.inside.counts c.self-2.inside.taken c.self-2.invariant.depth c.self-2.invariant.holds c.self-2.invariant.counted c.self-2.invariant.taken c.self-2.invariant.builds)
 
 pub invariant_of-self-2 : goal.invariant_of-self-2
 invariant_of-self-2 c =
@@ -68,7 +70,7 @@ invariant_of-self-2 c =
     }
 
 pub returns-clause-bounds : goal.returns-clause-bounds
-returns-clause-bounds c = let k = invariant_of-self-2 c in Bounded-from_kept c.self-2.inside.size_limit c.fill.new.self (drop c.self-2.inside.consumed c.extend_from_slice.new.self.items) c.append.new.self c.self-2.inside.failed c.receive.new.self (c.self-2.inside.taken + length c.split_at.result.0.now) k.depth k.holds k.counted k.taken
+returns-clause-bounds c = let k = invariant_of-self-2 c in Bounded-from_kept c.self-2.inside.size_limit c.fill.new.self (drop c.self-2.inside.consumed c.extend_from_slice.new.self.items) c.append.new.self c.self-2.inside.failed c.receive.new.self (c.self-2.inside.taken + length c.split_at.result.0.now) k.depth k.holds k.counted k.taken k.builds
 
 pub returns-clause-feeds : goal.returns-clause-feeds
 returns-clause-feeds c = λ b h.

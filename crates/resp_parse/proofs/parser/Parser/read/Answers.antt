@@ -69,7 +69,7 @@ returns-in-Ok-default-true-clause-takes g c = λ b h.
     (v, (got.1.0, value-takes c.self.inside.size_limit c.self.inside.taken c.self.inside.buffer.items c.self.inside.since c.self.inside.consumed c.self.inside.failed c.self.inside.machine c.read.new.self c.self.invariant.consumed c.self.invariant.holds (ap (λ (s : State). s.failed) c.self.view_is ∙ c.requires.works) (c.self.invariant.taken (ap (λ (s : State). s.failed) c.self.view_is ∙ c.requires.works)) u c.split_at.result.0.now c.split_at.result.1.now f front later c.in-Ok-default-true.ensures.limit c.in-Ok-default-true.taken v d c.restart.new.self (c.restart.ensures ∙ x) _ refl refl refl refl b (StandsAfter-since c.args.self.now b h ∙ sym (ap (λ (s : State). s.since) c.self.view_is))))
 
 pub returns-in-Ok-default-true-clause-bounds : goal.returns-in-Ok-default-true-clause-bounds
-returns-in-Ok-default-true-clause-bounds g c = let k = invariant_of-self g c in Bounded-from_kept c.self.inside.size_limit c.read.new.self (drop (c.self.inside.consumed + c.in-Ok-default-true.taken) c.self.inside.buffer.items) c.restart.new.self c.self.inside.failed c.read.new.counts 0 k.depth k.holds k.counted k.taken
+returns-in-Ok-default-true-clause-bounds g c = let k = invariant_of-self g c in Bounded-from_kept c.self.inside.size_limit c.read.new.self (drop (c.self.inside.consumed + c.in-Ok-default-true.taken) c.self.inside.buffer.items) c.restart.new.self c.self.inside.failed c.read.new.counts 0 k.depth k.holds k.counted k.taken k.builds
 
 -- the value in progress passes its limit
 
@@ -105,7 +105,7 @@ returns-then-passes-clause-takes g c = λ b h.
     (long-takes c.self.inside.size_limit c.self.inside.taken c.self.inside.buffer.items c.self.inside.since c.self.inside.consumed c.self.inside.failed c.self.inside.machine c.read.new.self c.self.invariant.consumed c.self.invariant.holds (ap (λ (s : State). s.failed) c.self.view_is ∙ c.requires.works) (c.self.invariant.taken (ap (λ (s : State). s.failed) c.self.view_is ∙ c.requires.works)) u c.split_at.result.0.now c.split_at.result.1.now f front later c.in-Ok-default-false.ensures.limit c.in-Ok-default-false.taken some d _ (refusal_of c.too_long-why.result.0) c.too_long-why.result.1 refl refl refl c.too_long-why.ensures.refuses b (StandsAfter-since c.args.self.now b h ∙ sym (ap (λ (s : State). s.since) c.self.view_is)), r.1)
 
 pub returns-then-passes-clause-bounds : goal.returns-then-passes-clause-bounds
-returns-then-passes-clause-bounds g c = let k = invariant_of-self-then-passes g c in Bounded-from_kept c.self.inside.size_limit c.read.new.self (drop c.self.inside.consumed c.self.inside.buffer.items) c.self.inside.since true c.read.new.counts c.self.inside.taken k.depth k.holds k.counted k.taken
+returns-then-passes-clause-bounds g c = let k = invariant_of-self-then-passes g c in Bounded-from_kept c.self.inside.size_limit c.read.new.self (drop c.self.inside.consumed c.self.inside.buffer.items) c.self.inside.since true c.read.new.counts c.self.inside.taken k.depth k.holds k.counted k.taken k.builds
 
 -- more is awaited
 
@@ -141,7 +141,7 @@ returns-else-passes-clause-takes g c = λ b h.
     (waits-takes c.self.inside.size_limit c.self.inside.taken c.self.inside.buffer.items c.self.inside.since c.self.inside.consumed c.self.inside.failed c.self.inside.machine c.read.new.self c.self.invariant.consumed c.self.invariant.holds (ap (λ (s : State). s.failed) c.self.view_is ∙ c.requires.works) (c.self.invariant.taken (ap (λ (s : State). s.failed) c.self.view_is ∙ c.requires.works)) u c.split_at.result.0.now c.split_at.result.1.now f front later c.in-Ok-default-false.ensures.limit c.in-Ok-default-false.taken none d _ refl refl refl b (StandsAfter-since c.args.self.now b h ∙ sym (ap (λ (s : State). s.since) c.self.view_is)), r.1)
 
 pub returns-else-passes-clause-bounds : goal.returns-else-passes-clause-bounds
-returns-else-passes-clause-bounds g c = let k = invariant_of-self-in-Ok-default-false g c in Bounded-from_kept c.self.inside.size_limit c.read.new.self (drop (c.self.inside.consumed + c.in-Ok-default-false.taken) c.self.inside.buffer.items) c.self.inside.since c.self.inside.failed c.read.new.counts (c.self.inside.taken + c.in-Ok-default-false.taken) k.depth k.holds k.counted k.taken
+returns-else-passes-clause-bounds g c = let k = invariant_of-self-in-Ok-default-false g c in Bounded-from_kept c.self.inside.size_limit c.read.new.self (drop (c.self.inside.consumed + c.in-Ok-default-false.taken) c.self.inside.buffer.items) c.self.inside.since c.self.inside.failed c.read.new.counts (c.self.inside.taken + c.in-Ok-default-false.taken) k.depth k.holds k.counted k.taken k.builds
 
 -- a fault was met
 
@@ -175,7 +175,7 @@ returns-in-Err-Fault-clause-takes g c = λ b h.
     (stops-fault c.self.inside.size_limit c.self.inside.taken c.self.inside.buffer.items c.self.inside.since c.self.inside.consumed c.self.inside.failed c.self.inside.machine c.read.new.self c.self.invariant.consumed c.self.invariant.holds (ap (λ (s : State). s.failed) c.self.view_is ∙ c.requires.works) (c.self.invariant.taken (ap (λ (s : State). s.failed) c.self.view_is ∙ c.requires.works)) u c.split_at.result.0.now c.split_at.result.1.now f front later c.in-Err-Fault.ensures.limit _ refl refl refl c.in-Err-Fault.fault d b (StandsAfter-since c.args.self.now b h ∙ sym (ap (λ (s : State). s.since) c.self.view_is)), r.1)
 
 pub returns-in-Err-Fault-clause-bounds : goal.returns-in-Err-Fault-clause-bounds
-returns-in-Err-Fault-clause-bounds g c = let k = invariant_of-self-in-Err-Fault g c in Bounded-from_kept c.self.inside.size_limit c.read.new.self (drop c.self.inside.consumed c.self.inside.buffer.items) c.self.inside.since true c.read.new.counts c.self.inside.taken k.depth k.holds k.counted k.taken
+returns-in-Err-Fault-clause-bounds g c = let k = invariant_of-self-in-Err-Fault g c in Bounded-from_kept c.self.inside.size_limit c.read.new.self (drop c.self.inside.consumed c.self.inside.buffer.items) c.self.inside.since true c.read.new.counts c.self.inside.taken k.depth k.holds k.counted k.taken k.builds
 
 -- memory ran out
 
@@ -208,4 +208,4 @@ returns-in-Err-Memory-clause-takes g c = λ b h.
     (stops-memory c.self.inside.size_limit c.self.inside.taken c.self.inside.buffer.items c.self.inside.since c.self.inside.consumed c.self.inside.failed c.self.inside.machine c.read.new.self c.self.invariant.consumed c.self.invariant.holds (ap (λ (s : State). s.failed) c.self.view_is ∙ c.requires.works) (c.self.invariant.taken (ap (λ (s : State). s.failed) c.self.view_is ∙ c.requires.works)) u c.split_at.result.0.now c.split_at.result.1.now f front later c.in-Err-Memory.ensures.limit _ refl refl b (StandsAfter-since c.args.self.now b h ∙ sym (ap (λ (s : State). s.since) c.self.view_is)), r.1)
 
 pub returns-in-Err-Memory-clause-bounds : goal.returns-in-Err-Memory-clause-bounds
-returns-in-Err-Memory-clause-bounds g c = let k = invariant_of-self-in-Err-Memory g c in Bounded-from_kept c.self.inside.size_limit c.read.new.self (drop c.self.inside.consumed c.self.inside.buffer.items) c.self.inside.since true c.read.new.counts c.self.inside.taken k.depth k.holds k.counted k.taken
+returns-in-Err-Memory-clause-bounds g c = let k = invariant_of-self-in-Err-Memory g c in Bounded-from_kept c.self.inside.size_limit c.read.new.self (drop c.self.inside.consumed c.self.inside.buffer.items) c.self.inside.since true c.read.new.counts c.self.inside.taken k.depth k.holds k.counted k.taken k.builds

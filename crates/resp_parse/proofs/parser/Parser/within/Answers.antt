@@ -23,4 +23,4 @@ pub returns-clause-rest : goal.returns-clause-rest
 returns-clause-rest c = IsBetweenValues-from_same _ refl (c.new-3.ensures ∙ sym c.new.ensures.items)
 
 pub returns-clause-bounds : goal.returns-clause-bounds
-returns-clause-bounds c = let k = invariant_of-result c in Bounded-from_kept c.args.limits.bytes c.new-2.result c.new.result.items c.new-3.result false c.new-4.result 0 k.depth k.holds k.counted k.taken
+returns-clause-bounds c = let k = invariant_of-result c in Bounded-from_kept c.args.limits.bytes c.new-2.result c.new.result.items c.new-3.result false c.new-4.result 0 k.depth k.holds k.counted k.taken k.builds
