@@ -1,9 +1,10 @@
-//! Code over stored replies, and over a link that is counted.
+//! Code over stored replies, over a connection that takes one command at a time, and over a link
+//! that is counted.
 
 use crate::checks::{Test, assert_answer, assert_text, reply};
 use crate::testing::{bytes_text, pipeline};
 use example_snippets::replies::{Counted, Stored, count_call, visit_between, visit_over, visits};
-use resp_core::ConnectionLike;
+use resp_core::{Cmd, ConnectionLike, ErrorKind, RedisError, RedisResult, Value};
 use std::collections::VecDeque;
 use std::io::Cursor;
 
@@ -15,6 +16,49 @@ pub fn stored(rt: &impl Test, replies: &[&str]) -> Stored {
         values.push_back(value).expect(rt, "memory");
     }
     Stored::new(values)
+}
+
+/// Takes one command at a time, counts its requests, and runs out of memory at each.
+#[derive(Drop)]
+struct OneByOne {
+    requests: u64,
+}
+
+impl ConnectionLike for OneByOne {
+    ghost use Rattle.std.specs.Prelude.{false};
+    ghost use Rattle.resp_core.specs.Connections.{unobservable};
+
+    ghost connection = { λ c. unobservable false };
+
+    fn req_command(&mut self, cmd: &Cmd) -> RedisResult<Value> {
+        self.requests = self.requests.saturating_add(1);
+        if cmd.is_empty() {
+            return Err(RedisError::from((ErrorKind::Client, "empty command")));
+        }
+        Err(RedisError::OutOfMemory)
+    }
+
+    fn req_packed_command(&mut self, bytes: &[u8]) -> RedisResult<Value> {
+        self.requests = self.requests.saturating_add(1);
+        if bytes.is_empty() {
+            return Err(RedisError::from((ErrorKind::Client, "empty command")));
+        }
+        Err(RedisError::OutOfMemory)
+    }
+
+    fn req_packed_commands(
+        &mut self,
+        _bytes: &[u8],
+        _offset: usize,
+        _count: usize,
+    ) -> RedisResult<Vec<Value>> {
+        self.requests = self.requests.saturating_add(1);
+        Err(RedisError::OutOfMemory)
+    }
+
+    fn supports_pipelining(&self) -> bool {
+        false
+    }
 }
 
 /// A visit is answered this.
@@ -49,11 +93,16 @@ fn packed_commands_over_stored_replies(rt: HostRuntime) {
 
 #[test]
 fn a_connection_without_pipelining_is_not_asked(rt: HostRuntime) {
-    let mut con = stored(&rt, &[":1\r\n"]);
-    let two = pipeline(rt.alloc(), &[&["A"], &["B"]]).expect(&rt, "memory");
+    let mut con = OneByOne { requests: 0 };
+    let mut two = pipeline(rt.alloc(), &[&["A"], &["B"]]).expect(&rt, "memory");
     let refused = "This connection does not support pipelining. - Client";
     assert_answer(&rt, two.query::<(i64, i64)>(&mut con), refused);
-    assert_visit(&rt, &mut con, "1");
+    let _ = two.atomic();
+    assert_answer(&rt, two.query::<(i64, i64)>(&mut con), refused);
+    assert_eq!(rt; con.requests, 0);
+    let packed = con.req_packed_commands(b"x", 0, 2);
+    assert_answer(&rt, packed, "out of memory");
+    assert_eq!(rt; con.requests, 1);
 }
 
 #[test]
