@@ -1,21 +1,18 @@
 -- Two conversions of one reply to hashed maps hold the same entries, and to hashed sets the same
 -- members, in any order.
-use Rattle.std.specs.Prelude.{◌≡◌, Bool, List, [], map, reverse, Option, Some, option_map, unwrap_or}
+use Rattle.std.specs.Prelude.{◌≡◌, Bool, List, [], reverse, Option, option_map}
 use Rattle.std.specs.Cmp.{IsPartialOrder, Agrees, ties}
-use Rattle.std.specs.List.{AllZip}
 use Rattle.std.specs.Ordering.{is_eq}
 use Rattle.std.specs.declared.cmp.Ordering.{Ordering}
-use Rattle.std.proofs.Common.{sym, ap, ◌∙◌, subst}
+use Rattle.std.proofs.Common.{sym, ap, ◌∙◌}
 use Rattle.resp_value.specs.declared.value.Value.{Value}
 use Rattle.resp_containers.specs.Keyed.{hashed}
-use Rattle.resp_from.specs.Maps.{OfMap, OfPair, OfSet}
+use Rattle.resp_from.specs.Maps.{OfMap, OfSet}
 use Rattle.resp_laws.specs.Laws.{SameEntries, SameMembers}
 use Rattle.resp_types.specs.OneValue.{GoesBySeen, IsSingleValued, pair_seen}
-use Rattle.resp_types.specs.lemmas.Lists.{AreAlike, alike_partners}
+use Rattle.resp_types.specs.lemmas.Lists.{AreAlike}
 use Rattle.resp_types.specs.lemmas.LookUps.{alike_any, alike_reversed, alike_values}
-
-same_found : {X : Type 0} (o : Option X) (x y : X) → o ≡ Some x → o ≡ Some y → x ≡ y
-same_found o x y h k = ap (λ found. unwrap_or found x) (sym h ∙ k)
+use Rattle.resp_types.specs.lemmas.Maps.{alike_entries, alike_members}
 
 module _ {K S : Type 0} (eq : K → K → Bool) (partial : K → K → Option Ordering)
     (cmp : K → K → Ordering) (laws : IsPartialOrder eq partial) (agrees : Agrees partial cmp)
@@ -31,18 +28,11 @@ module _ {K S : Type 0} (eq : K → K → Bool) (partial : K → K → Option Or
       → OfMap (hashed eq) OfKey OfValue reply m → OfMap (hashed eq) OfKey OfValue reply n
       → SameEntries eq value_seen m n
   same_hashed_maps OfValue value_seen value_single reply m n h k = λ key.
-      let Of = OfPair OfKey OfValue in
-      let pairs : k.pairs ≡ h.pairs = same_found _ k.pairs h.pairs k.found h.found in
-      let again : AllZip Of h.pairs k.holds.converted =
-      subst (λ ps. AllZip Of ps k.holds.converted) pairs k.holds.each in
-      let alike : AreAlike (pair_seen seen value_seen) h.holds.converted k.holds.converted =
-      alike_partners Of (pair_seen seen value_seen)
-      (λ pair e d p q i.
-      (single pair.0 e.0 d.0 p.0 q.0 i, value_single pair.1 e.1 d.1 p.1 q.1 i))
-      h.pairs h.holds.converted k.holds.converted h.holds.each again in
       let backwards : AreAlike (pair_seen seen value_seen) (reverse h.holds.converted)
       (reverse k.holds.converted) = alike_reversed (pair_seen seen value_seen) h.holds.converted
-      k.holds.converted [] [] alike tt in
+      k.holds.converted [] []
+      (alike_entries (hashed eq) OfKey seen single OfValue value_seen value_single reply m n h k)
+      tt in
       ap (option_map value_seen) (h.holds.merged.last_values key)
       ∙ alike_values seen (eq key) (test_goes key) value_seen (reverse h.holds.converted)
       (reverse k.holds.converted) backwards
@@ -51,12 +41,7 @@ module _ {K S : Type 0} (eq : K → K → Bool) (partial : K → K → Option Or
   pub same_hashed_sets : (reply : Value) (m n : List K) → OfSet (hashed eq) OfKey reply m
       → OfSet (hashed eq) OfKey reply n → SameMembers eq m n
   same_hashed_sets reply m n h k = λ item.
-      let items : k.items ≡ h.items = same_found _ k.items h.items k.found h.found in
-      let again : AllZip OfKey h.items k.holds.converted =
-      subst (λ values. AllZip OfKey values k.holds.converted) items k.holds.each in
-      let alike : AreAlike seen h.holds.converted k.holds.converted =
-      alike_partners OfKey seen single h.items h.holds.converted k.holds.converted h.holds.each
-      again in
       h.holds.deduplicated.whole item
-      ∙ alike_any seen (eq item) (test_goes item) h.holds.converted k.holds.converted alike
+      ∙ alike_any seen (eq item) (test_goes item) h.holds.converted k.holds.converted
+      (alike_members (hashed eq) OfKey seen single reply m n h k)
       ∙ sym (k.holds.deduplicated.whole item)
