@@ -1,6 +1,11 @@
 //! Requests, out of the words that a client sends.
 //!
-//! No clause says which request words make: that is tested, by the commands of `stdin`.
+//! Which request words make is tested, by the commands of `stdin`; a clause says it of the word
+//! that names a version alone.
+
+ghost use Rattle.std.specs.Prelude.{pos, IfOk};
+ghost use Rattle.example_server.specs.Integers.{Writes};
+ghost use Rattle.example_server.specs.Replies.{number_of};
 
 use crate::command::{Command, ConnectionCommand, KeyCommand, Request};
 use crate::integers::integer_of;
@@ -187,7 +192,9 @@ fn hello(arguments: Vec<Vec<u8>>) -> Command {
     }
 }
 
-fn version_of(word: &[u8]) -> Result<ProtocolVersion, Refusal> {
+fn version_of(word: &[u8]) -> Result<ProtocolVersion, Refusal>
+    ensures { IfOk result (λ version. Writes word.now (pos (number_of version))) }
+{
     match integer_of(word) {
         Some(2) => Ok(ProtocolVersion::RESP2),
         Some(3) => Ok(ProtocolVersion::RESP3),
