@@ -1,5 +1,5 @@
 -- What a call of a connection answers, as what a query over it answers.
-use Rattle.std.proofs.Common.{◌≡◌, ℕ, List, [], ◌∷◌, length, Result, Ok, Err, ap, subst}
+use Rattle.std.proofs.Common.{◌≡◌, ℕ, List, [], ◌∷◌, ◌++◌, length, Result, Ok, Err, ap, subst}
 use Rattle.resp_value.specs.declared.value.Value.{Value, Nil}
 use Rattle.resp_errors.specs.declared.redis_error.RedisError.{RedisError}
 use Rattle.resp_errors.specs.declared.redis_error.RedisError.TheVariants.{Io, Parse, OutOfMemory}
@@ -8,7 +8,7 @@ use Rattle.resp_errors.specs.declared.parsing_error.ParsingError.TheVariants.{Fa
 use Rattle.resp_command.specs.Call.{Call, CommandCall, Refuses, broken_link, no_command, AnswersReply, Answers, needed}
 use Rattle.resp_command.specs.Command.{Command}
 use Rattle.resp_command.specs.CommandQuery.{CommandQuery}
-use Rattle.resp_command.specs.Connection.{Connection, incoming, Exchange, replied, malformed, early_end, sink_failed, source_failed, out_of_memory}
+use Rattle.resp_command.specs.Connection.{Connection, Bytes, ExchangeOf, Exchange, replied, malformed, early_end, sink_failed, source_failed, out_of_memory}
 use Rattle.resp_command.specs.Packed.{packed}
 use Rattle.resp_command.proofs.PackedReadsBack.{packed_reads_only}
 use Rattle.resp_command.proofs.OneTaking.{takes_one_thing}
@@ -19,9 +19,9 @@ refuses_ok old new a f h = let k = h.answer in cc
 
 module _ {A B : Type 0} (old new : Connection) (q : List ℕ) (n : ℕ) (answers answers' : List Value → Type 0) where
   -- the same error, of another type of answers
-  exchange_err : (e : RedisError) → ((replies : List Value) → answers replies → ⊥) → Exchange {A = A} old new q n (Err e) answers → Exchange {A = B} old new q n (Err e) answers'
-  exchange_err e none (replied h) = absurd (none h.replies h.answer)
-  exchange_err e none (malformed h) = let i : e ≡ Parse (Fault h.frame_fault) = (let k = h.answer in cc) in malformed (record {
+  exchange_of_err : (bytes : Bytes) (e : RedisError) → ((replies : List Value) → answers replies → ⊥) → ExchangeOf {A = A} bytes old new q n (Err e) answers → ExchangeOf {A = B} bytes old new q n (Err e) answers'
+  exchange_of_err bytes e none (replied h) = absurd (none h.replies h.answer)
+  exchange_of_err bytes e none (malformed h) = let i : e ≡ Parse (Fault h.frame_fault) = (let k = h.answer in cc) in malformed (record {
     frame_fault = h.frame_fault;
     pushes = h.pushes;
     sent = h.sent;
@@ -31,16 +31,17 @@ module _ {A B : Type 0} (old new : Connection) (q : List ℕ) (n : ℕ) (answers
     no_failure = h.no_failure;
     answer = ap Err i;
   })
-  exchange_err e none (early_end h) = let i : e ≡ Io UnexpectedEof = (let k = h.answer in cc) in early_end (record {
+  exchange_of_err bytes e none (early_end h) = let i : e ≡ Io UnexpectedEof = (let k = h.answer in cc) in early_end (record {
     pushes = h.pushes;
     sent = h.sent;
     takes = h.takes;
+    end = h.end;
     listed = h.listed;
     broken = h.broken;
     no_failure = h.no_failure;
     answer = ap Err i;
   })
-  exchange_err e none (sink_failed h) = sink_failed (record {
+  exchange_of_err bytes e none (sink_failed h) = sink_failed (record {
     sent = h.sent;
     unread = h.unread;
     listed = h.listed;
@@ -49,7 +50,7 @@ module _ {A B : Type 0} (old new : Connection) (q : List ℕ) (n : ℕ) (answers
     counted = h.counted;
     answer = h.answer;
   })
-  exchange_err e none (source_failed h) = source_failed (record {
+  exchange_of_err bytes e none (source_failed h) = source_failed (record {
     pushes = h.pushes;
     sent = h.sent;
     takes = h.takes;
@@ -59,11 +60,14 @@ module _ {A B : Type 0} (old new : Connection) (q : List ℕ) (n : ℕ) (answers
     sink = h.sink;
     answer = h.answer;
   })
-  exchange_err e none (out_of_memory h) = let i : e ≡ OutOfMemory = (let k = h.answer in cc) in out_of_memory (record { answer = ap Err i; no_failure = h.no_failure; left = h.left })
+  exchange_of_err bytes e none (out_of_memory h) = let i : e ≡ OutOfMemory = (let k = h.answer in cc) in out_of_memory (record { answer = ap Err i; no_failure = h.no_failure; left = h.left })
+
+  exchange_err : (e : RedisError) → ((replies : List Value) → answers replies → ⊥) → Exchange {A = A} old new q n (Err e) answers → Exchange {A = B} old new q n (Err e) answers'
+  exchange_err e none h = record { arrived = h.arrived; sent = h.sent; moves = h.moves; needed = h.needed; of = exchange_of_err _ e none h.of }
 
   -- what the replies are answered with, turned into another answer
-  exchange_ok : (a : A) (r : Result B RedisError) → ((replies : List Value) → length replies ≡ n → answers replies → answers' replies) → Exchange {A = A} old new q n (Ok a) answers → Exchange {A = B} old new q n r answers'
-  exchange_ok a r turn (replied h) = replied (record {
+  exchange_of_ok : (bytes : Bytes) (a : A) (r : Result B RedisError) → ((replies : List Value) → length replies ≡ n → answers replies → answers' replies) → ExchangeOf {A = A} bytes old new q n (Ok a) answers → ExchangeOf {A = B} bytes old new q n r answers'
+  exchange_of_ok bytes a r turn (replied h) = replied (record {
     replies = h.replies;
     pushes = h.pushes;
     enough = h.enough;
@@ -74,11 +78,14 @@ module _ {A B : Type 0} (old new : Connection) (q : List ℕ) (n : ℕ) (answers
     no_failure = h.no_failure;
     answer = turn h.replies h.enough h.answer;
   })
-  exchange_ok a r turn (malformed h) = absurd (let k = h.answer in cc)
-  exchange_ok a r turn (early_end h) = absurd (let k = h.answer in cc)
-  exchange_ok a r turn (sink_failed h) = absurd h.answer
-  exchange_ok a r turn (source_failed h) = absurd h.answer
-  exchange_ok a r turn (out_of_memory h) = absurd (let k = h.answer in cc)
+  exchange_of_ok bytes a r turn (malformed h) = absurd (let k = h.answer in cc)
+  exchange_of_ok bytes a r turn (early_end h) = absurd (let k = h.answer in cc)
+  exchange_of_ok bytes a r turn (sink_failed h) = absurd h.answer
+  exchange_of_ok bytes a r turn (source_failed h) = absurd h.answer
+  exchange_of_ok bytes a r turn (out_of_memory h) = absurd (let k = h.answer in cc)
+
+  exchange_ok : (a : A) (r : Result B RedisError) → ((replies : List Value) → length replies ≡ n → answers replies → answers' replies) → Exchange {A = A} old new q n (Ok a) answers → Exchange {A = B} old new q n r answers'
+  exchange_ok a r turn h = record { arrived = h.arrived; sent = h.sent; moves = h.moves; needed = h.needed; of = exchange_of_ok _ a r turn h.of }
 
   refuses_err : (e f : RedisError) → Refuses {A = A} old new f (Err e) → Refuses {A = B} old new f (Err e)
   refuses_err e f h = record { answer = (let i : e ≡ f = (let k = h.answer in cc) in ap Err i); same = h.same }
@@ -119,13 +126,13 @@ module _ {X : Type 0} (old new : Connection) (c : Command) (Of : Value → X →
   pub command_refused : (sent : Result Value RedisError) (e : RedisError) → sent ≡ Err e → CommandCall old new c sent (λ reply. sent ≡ Ok reply) → CommandQuery old new c Of (Err e)
   command_refused sent e is h = record {
     reads_only = packed_reads_only c.args;
-    takes_one = takes_one_thing old.limits (needed c) (incoming old);
+    takes_one = λ arrived. takes_one_thing old.limits (needed c) (old.received ++ arrived);
     call = call_err old new (packed c.args) (needed c) (ReplyIs (Err e)) _ _ e (none_answered e) (rw is at h);
   }
 
   pub command_answered : (sent : Result Value RedisError) (v : Value) (r : Result X RedisError) → sent ≡ Ok v → Answers Of r v → CommandCall old new c sent (λ reply. sent ≡ Ok reply) → CommandQuery old new c Of r
   command_answered sent v r is answer h = record {
     reads_only = packed_reads_only c.args;
-    takes_one = takes_one_thing old.limits (needed c) (incoming old);
+    takes_one = λ arrived. takes_one_thing old.limits (needed c) (old.received ++ arrived);
     call = call_ok old new (packed c.args) (needed c) (ReplyIs (Ok v)) _ _ v r (λ replies _. reply_answered Of v r answer replies) (rw is at h);
   }

@@ -1,5 +1,5 @@
 -- What a request gives a scan, from what it was answered with.
-use Rattle.std.proofs.Common.{◌≡◌, ◌≢◌, ℕ, List, true, false, refl, sym, subst, Result, Ok, Err, Some}
+use Rattle.std.proofs.Common.{◌≡◌, ◌≢◌, ◌++◌, ℕ, List, true, false, refl, sym, subst, Result, Ok, Err, Some}
 use Rattle.std.specs.Bool.{MatchBool}
 use Rattle.resp_errors.specs.declared.parsing_error.ParsingError.{ParsingError}
 use Rattle.resp_errors.specs.declared.parsing_error.ParsingError.TheVariants as parsing
@@ -12,7 +12,7 @@ use Rattle.resp_from.specs.Conversion.{Converts, ConvertsCall, Decides, RefusesI
 use Rattle.resp_from.proofs.Conversions.{RefusesIf-along}
 use Rattle.resp_command.specs.Call.{CommandCall, needed}
 use Rattle.resp_command.specs.Command.{Command}
-use Rattle.resp_command.specs.Connection.{Connection, incoming}
+use Rattle.resp_command.specs.Connection.{Connection}
 use Rattle.resp_command.specs.Cursors.{with_cursor}
 use Rattle.resp_command.specs.ScanReplies.{Given, IsBatch, IsFirstPage, IsListOf, IsPage, ReadsPage}
 use Rattle.resp_command.specs.Scans.{FirstRequest, LaterRequest, SendsPacked, scan_request}
@@ -77,7 +77,7 @@ module _ {X : Type 0} (n : ℕ) (Of : Value → X → Type 0) (old new : Connect
   first_failed answer e is h = record {
     answer = answer;
     reads_only = packed_reads_only c.args;
-    takes_one = takes_one_thing old.limits (needed c) (incoming old);
+    takes_one = λ arrived. takes_one_thing old.limits (needed c) (old.received ++ arrived);
     call = h;
     gives = rw is refl;
   }
@@ -86,7 +86,7 @@ module _ {X : Type 0} (n : ℕ) (Of : Value → X → Type 0) (old new : Connect
   first_read answer reply given is h read = record {
     answer = answer;
     reads_only = packed_reads_only c.args;
-    takes_one = takes_one_thing old.limits (needed c) (incoming old);
+    takes_one = λ arrived. takes_one_thing old.limits (needed c) (old.received ++ arrived);
     call = h;
     gives = rw is read;
   }
@@ -96,7 +96,7 @@ module _ {X : Type 0} (n : ℕ) (Of : Value → X → Type 0) (old new : Connect
     later_failed answer e is h = record {
       answer = answer;
       reads_only = packed_reads_only (with_cursor u c).args;
-      takes_one = takes_one_thing old.limits 1 (incoming old);
+      takes_one = λ arrived. takes_one_thing old.limits 1 (old.received ++ arrived);
       sends = h;
       gives = rw is refl;
     }
@@ -105,7 +105,7 @@ module _ {X : Type 0} (n : ℕ) (Of : Value → X → Type 0) (old new : Connect
     later_read answer reply given is h read = record {
       answer = answer;
       reads_only = packed_reads_only (with_cursor u c).args;
-      takes_one = takes_one_thing old.limits 1 (incoming old);
+      takes_one = λ arrived. takes_one_thing old.limits 1 (old.received ++ arrived);
       sends = h;
       gives = rw is read;
     }

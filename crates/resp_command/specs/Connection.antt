@@ -1,5 +1,6 @@
 -- What is known of a connection, and what one exchange over it leaves.
-use Rattle.std.specs.Prelude.{◌≡◌, ℕ, ◌<◌, ◌⊎◌, Bool, true, false, List, [], ◌++◌, length, Result, Err, IsErrAnd}
+use Rattle.std.specs.Prelude.{◌≡◌, ℕ, ◌<◌, ◌⊎◌, Bool, true, false, List, [], ◌++◌, length, Option, None, Some, Result, Err, IsErrAnd}
+use Rattle.std.specs.Io.KnownBytes.{Appends, Consumes, IsAtEnd}
 use Rattle.resp_value.specs.declared.value.Value.{Value}
 use Rattle.resp_value.specs.declared.value.PushInfo.{PushInfo}
 use Rattle.resp_errors.specs.declared.kinds.FrameFault.{FrameFault}
@@ -11,70 +12,79 @@ use Rattle.resp_parse.specs.Source.{FailureCounted}
 use Rattle.resp_parse.specs.declared.limits.Limits.{Limits}
 use Rattle.resp_parse.specs.Limits.{usual}
 use Rattle.resp_parse.specs.Limited.{Awaits}
-use Rattle.resp_command.specs.Taken.{Taken, took, met_fault, ended_early, PrefixReads, ListsPushes, pushes_in, replies_in}
+use Rattle.resp_command.specs.Taken.{ArrivedAsNeeded, Taken, took, met_fault, ended_early, PrefixReads, ListsPushes, pushes_in, replies_in}
 
 pub record Connection : Type 0 where
-  -- whether the bytes below are known
-  pub observable : Bool
   -- whether several commands may be sent at once
   pub pipelines : Bool
+  -- all bytes that were sent, and all that came
   pub sent : List ℕ
+  pub came : List ℕ
   -- whether some of what was sent may wait to be flushed
   pub unflushed : Bool
-  -- the bytes that were received and aren't taken, those of a value in progress included
+  -- the bytes that came and aren't taken, those of a value in progress included
   pub received : List ℕ
-  -- the bytes that the source has yet to give
-  pub to_come : List ℕ
   -- the pushes that were set aside and aren't taken
   pub pushes : List PushInfo
   pub broken : Bool
   -- how deep and how long the values may be that are read
   pub limits : Limits
+  -- how many bytes one read asks for at most
+  pub read_size : ℕ
   pub source_failures : ℕ
   pub sink_failures : ℕ
+  -- the bytes that the source has yet to give, and those that the sink holds, where they tell them,
+  -- as memory does and a socket doesn't
+  pub to_come : Option (List ℕ)
+  pub holds : Option (List ℕ)
 
--- the bytes that replies are taken from: those that were received, and then those that will come
-abbrev pub incoming : Connection → List ℕ
-incoming c = c.received ++ c.to_come
-
--- a connection that isn't observable and takes one command at a time: only whether it is broken is
--- known, since what is said of bytes and limits is said of observable connections alone
-abbrev pub unobservable : Bool → Connection
-unobservable broken = record {
-  observable = false;
+-- a connection that takes one command at a time, over which nothing came and nothing was sent
+abbrev pub idle : (broken : Bool) → Connection
+idle broken = record {
   pipelines = false;
   sent = [];
+  came = [];
   unflushed = false;
   received = [];
-  to_come = [];
   pushes = [];
   broken = broken;
   limits = usual;
+  read_size = 0;
   source_failures = 0;
   sink_failures = 0;
+  to_come = None;
+  holds = None;
 }
 
 -- what no call changes
 pub record SameKind (old new : Connection) : Type 0 where
-  pub observable : old.observable ≡ true → new.observable ≡ true
   pub pipelines : new.pipelines ≡ old.pipelines
   pub limits : new.limits ≡ old.limits
+  pub read_size : new.read_size ≡ old.read_size
 
--- what was sent grew by a prefix of the request
-pub record SentPrefix (old new q : List ℕ) : Type 0 where
-  pub prefix : List ℕ
+-- these bytes came, and these were sent; ends that tell their bytes lost the ones and gained the
+-- others
+pub record Moves (old new : Connection) (arrived sent : List ℕ) : Type 0 where
+  pub came : new.came ≡ old.came ++ arrived
+  pub sent : new.sent ≡ old.sent ++ sent
+  pub to_come : Consumes old.to_come new.to_come arrived
+  pub holds : Appends old.holds new.holds sent
+
+-- the bytes of an exchange: those that replies are taken from, those that are left of them, and
+-- those that were sent
+pub record Bytes : Type 0 where
+  pub incoming : List ℕ
+  pub left : List ℕ
+  pub sent : List ℕ
+
+-- a prefix of the request
+pub record IsPrefix (sent q : List ℕ) : Type 0 where
   pub rest : List ℕ
-  pub whole : q ≡ prefix ++ rest
-  pub sent : new ≡ old ++ prefix
-
--- the same, and it is empty only where the request is
-pub record SentPart (old new q : List ℕ) : Type 0 where
-  pub part : SentPrefix old new q
-  pub begun : part.prefix ≡ [] → q ≡ []
+  pub whole : q ≡ sent ++ rest
 
 -- the request was sent, and nothing of it waits
-pub record Sent (old new : Connection) (q : List ℕ) : Type 0 where
-  pub bytes : old.observable ≡ true → new.sent ≡ old.sent ++ q
+pub record Sent (bytes : Bytes) (new : Connection) (q : List ℕ) : Type 0 where
+  pub all : bytes.sent ≡ q
   pub flushed : new.unflushed ≡ false
 
 pub record NoFailure (old new : Connection) : Type 0 where
@@ -83,36 +93,37 @@ pub record NoFailure (old new : Connection) : Type 0 where
 
 -- the replies came: they are answered, the pushes before the last of them are set aside, every
 -- later byte is kept, and the connection is usable
-pub record Replied (old new : Connection) (q : List ℕ) (n : ℕ)
+pub record Replied (bytes : Bytes) (old new : Connection) (q : List ℕ) (n : ℕ)
     (answers : List Value → Type 0) : Type 0 where
   pub replies : List Value
   pub pushes : List PushInfo
   pub enough : length replies ≡ n
-  pub sent : Sent old new q
-  pub takes : old.observable ≡ true → Taken old.limits n (incoming old) (took replies pushes (incoming new))
+  pub sent : Sent bytes new q
+  pub takes : Taken old.limits n bytes.incoming (took replies pushes bytes.left)
   pub listed : new.pushes ≡ old.pushes ++ pushes
   pub usable : new.broken ≡ false
   pub no_failure : NoFailure old new
   pub answer : answers replies
 
 -- a fault stands in the place of a reply
-pub record FaultMet {A : Type 0} (old new : Connection) (q : List ℕ) (n : ℕ)
+pub record FaultMet {A : Type 0} (bytes : Bytes) (old new : Connection) (q : List ℕ) (n : ℕ)
     (result : Result A RedisError) : Type 0 where
   pub frame_fault : FrameFault
   pub pushes : List PushInfo
-  pub sent : Sent old new q
-  pub takes : old.observable ≡ true → Taken old.limits n (incoming old) (met_fault frame_fault pushes)
+  pub sent : Sent bytes new q
+  pub takes : Taken old.limits n bytes.incoming (met_fault frame_fault pushes)
   pub listed : new.pushes ≡ old.pushes ++ pushes
   pub broken : new.broken ≡ true
   pub no_failure : NoFailure old new
   pub answer : result ≡ Err (Parse (Fault frame_fault))
 
--- the incoming bytes end too early
-pub record EndedEarly {A : Type 0} (old new : Connection) (q : List ℕ) (n : ℕ)
+-- the source ends too early
+pub record EndedEarly {A : Type 0} (bytes : Bytes) (old new : Connection) (q : List ℕ) (n : ℕ)
     (result : Result A RedisError) : Type 0 where
   pub pushes : List PushInfo
-  pub sent : Sent old new q
-  pub takes : old.observable ≡ true → Taken old.limits n (incoming old) (ended_early pushes)
+  pub sent : Sent bytes new q
+  pub takes : Taken old.limits n bytes.incoming (ended_early pushes)
+  pub end : IsAtEnd new.to_come
   pub listed : new.pushes ≡ old.pushes ++ pushes
   pub broken : new.broken ≡ true
   pub no_failure : NoFailure old new
@@ -122,37 +133,37 @@ abbrev pub IsIo : RedisError → Type 0
 IsIo (Io kind) = Unit {0}
 IsIo _ = ⊥
 
--- nothing was received or taken
+-- nothing came and nothing was taken
 pub record ReceivedNothing (old new : Connection) : Type 0 where
   pub received : new.received ≡ old.received
-  pub to_come : new.to_come ≡ old.to_come
+  pub came : new.came ≡ old.came
 
--- the sink failed: a prefix of the request was sent, and nothing was received
-pub record SinkFailed {A : Type 0} (old new : Connection) (q : List ℕ)
+-- the sink failed: a prefix of the request was sent, and nothing came
+pub record SinkFailed {A : Type 0} (bytes : Bytes) (old new : Connection) (q : List ℕ)
     (result : Result A RedisError) : Type 0 where
-  pub sent : old.observable ≡ true → SentPrefix old.sent new.sent q
-  pub unread : old.observable ≡ true → ReceivedNothing old new
+  pub sent : IsPrefix bytes.sent q
+  pub unread : ReceivedNothing old new
   pub listed : new.pushes ≡ old.pushes
   pub broken : new.broken ≡ true
   pub source : new.source_failures ≡ old.source_failures
   pub counted : FailureCounted old.sink_failures new.sink_failures
   pub answer : IsErrAnd result IsIo
 
--- values that hold fewer than n replies were taken, with these pushes among them; all that was
--- received after them is incomplete
-pub record TookTooFew (n : ℕ) (old new : Connection) (pushes : List PushInfo) : Type 0 where
+-- values that hold fewer than n replies were taken, with these pushes among them; all that came
+-- after them is incomplete
+pub record TookTooFew (n : ℕ) (bytes : Bytes) (old new : Connection) (pushes : List PushInfo) : Type 0 where
   pub values : List Value
-  pub taken : PrefixReads old.limits (incoming old) values (incoming new)
+  pub taken : PrefixReads old.limits bytes.incoming values bytes.left
   pub few : length (replies_in values) < n
   pub pushes_are : pushes ≡ pushes_in values
   pub incomplete : Awaits old.limits new.received
 
--- the source failed: the request was sent, and too little was received for n replies
-pub record SourceFailed {A : Type 0} (old new : Connection) (q : List ℕ) (n : ℕ)
+-- the source failed: the request was sent, and too little came for n replies
+pub record SourceFailed {A : Type 0} (bytes : Bytes) (old new : Connection) (q : List ℕ) (n : ℕ)
     (result : Result A RedisError) : Type 0 where
   pub pushes : List PushInfo
-  pub sent : Sent old new q
-  pub takes : old.observable ≡ true → TookTooFew n old new pushes
+  pub sent : Sent bytes new q
+  pub takes : TookTooFew n bytes old new pushes
   pub listed : new.pushes ≡ old.pushes ++ pushes
   pub broken : new.broken ≡ true
   pub counted : FailureCounted old.source_failures new.source_failures
@@ -161,36 +172,59 @@ pub record SourceFailed {A : Type 0} (old new : Connection) (q : List ℕ) (n : 
 
 -- values were taken, and the pushes among them set aside, but for a last value that is a push and
 -- found no room
-pub record TookSome (old new : Connection) (pushes : List PushInfo) : Type 0 where
+pub record TookSome (bytes : Bytes) (l : Limits) (pushes : List PushInfo) : Type 0 where
   pub values : List Value
-  pub taken : PrefixReads old.limits (incoming old) values (incoming new)
+  pub taken : PrefixReads l bytes.incoming values bytes.left
   pub listed : ListsPushes values pushes
 
--- the connection is broken, and a part of the request was sent; the pushes among what was taken
--- were set aside
-pub record BrokenMidway (old new : Connection) (q : List ℕ) : Type 0 where
+-- the connection is broken, and a part of the request was sent, none of it only where it is empty;
+-- the pushes among what was taken were set aside
+pub record BrokenMidway (bytes : Bytes) (old new : Connection) (q : List ℕ) : Type 0 where
   pub pushes : List PushInfo
-  pub sent : old.observable ≡ true → SentPart old.sent new.sent q
-  pub takes : old.observable ≡ true → TookSome old new pushes
+  pub sent : IsPrefix bytes.sent q
+  pub begun : bytes.sent ≡ [] → q ≡ []
+  pub takes : TookSome bytes old.limits pushes
   pub listed : new.pushes ≡ old.pushes ++ pushes
   pub broken : new.broken ≡ true
 
 -- memory ran out, and neither source nor sink failed: nothing was sent and nothing changed, or
 -- midway
-pub record RanOutOfMemory {A : Type 0} (old new : Connection) (q : List ℕ)
+pub record RanOutOfMemory {A : Type 0} (bytes : Bytes) (old new : Connection) (q : List ℕ)
     (result : Result A RedisError) : Type 0 where
   pub answer : result ≡ Err OutOfMemory
   pub no_failure : NoFailure old new
-  pub left : (new ≡ old) ⊎ BrokenMidway old new q
+  pub left : (new ≡ old) ⊎ BrokenMidway bytes old new q
 
--- what a call does that sends q and needs n replies; answers says what the replies make of it.
--- What bytes were sent and taken is said where the connection is observable; how the connection is
--- left, always
-pub data Exchange {A : Type 0} (old new : Connection) (q : List ℕ) (n : ℕ)
+-- what an exchange with these bytes does that sends q and needs n replies; answers says what the
+-- replies make of it
+pub data ExchangeOf {A : Type 0} (bytes : Bytes) (old new : Connection) (q : List ℕ) (n : ℕ)
     (result : Result A RedisError) (answers : List Value → Type 0) : Type 0 where
-  replied : Replied old new q n answers → Exchange old new q n result answers
-  malformed : FaultMet old new q n result → Exchange old new q n result answers
-  early_end : EndedEarly old new q n result → Exchange old new q n result answers
-  sink_failed : SinkFailed old new q result → Exchange old new q n result answers
-  source_failed : SourceFailed old new q n result → Exchange old new q n result answers
-  out_of_memory : RanOutOfMemory old new q result → Exchange old new q n result answers
+  replied : Replied bytes old new q n answers → ExchangeOf bytes old new q n result answers
+  malformed : FaultMet bytes old new q n result → ExchangeOf bytes old new q n result answers
+  early_end : EndedEarly bytes old new q n result → ExchangeOf bytes old new q n result answers
+  sink_failed : SinkFailed bytes old new q result → ExchangeOf bytes old new q n result answers
+  source_failed : SourceFailed bytes old new q n result → ExchangeOf bytes old new q n result answers
+  out_of_memory : RanOutOfMemory bytes old new q result → ExchangeOf bytes old new q n result answers
+
+-- what a call does that sends q and needs n replies, over any connection: replies are taken from
+-- what was received before and what came, and no more was asked for than they need
+pub record Exchange {A : Type 0} (old new : Connection) (q : List ℕ) (n : ℕ)
+    (result : Result A RedisError) (answers : List Value → Type 0) : Type 0 where
+  pub arrived : List ℕ
+  pub sent : List ℕ
+  pub moves : Moves old new arrived sent
+  pub needed : ArrivedAsNeeded old.limits old.read_size n old.received arrived
+  pub of : ExchangeOf
+      (record { incoming = old.received ++ arrived; left = new.received; sent = sent })
+      old new q n result answers
+
+-- the same where the source tells its bytes: replies are taken from all that are incoming
+pub record KnownExchange {A : Type 0} (old new : Connection) (later : List ℕ) (q : List ℕ) (n : ℕ)
+    (result : Result A RedisError) (answers : List Value → Type 0) : Type 0 where
+  pub rest : List ℕ
+  pub sent : List ℕ
+  pub left : new.to_come ≡ Some rest
+  pub goes : new.sent ≡ old.sent ++ sent
+  pub of : ExchangeOf
+      (record { incoming = old.received ++ later; left = new.received ++ rest; sent = sent })
+      old new q n result answers

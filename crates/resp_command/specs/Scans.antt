@@ -1,12 +1,12 @@
 -- What a scan does: its requests, and what each call of `next` answers.
-use Rattle.std.specs.Prelude.{◌≡◌, ◌≢◌, ℕ, ◌<◌, ◌-◌, ◌+◌, ◌*◌, ◌^◌, ◌⊎◌, List, [], ◌∷◌, length, take, codes, Result, Ok, Err, Option, Some, None}
+use Rattle.std.specs.Prelude.{◌≡◌, ◌≢◌, ℕ, ◌<◌, ◌-◌, ◌+◌, ◌*◌, ◌^◌, ◌⊎◌, List, [], ◌∷◌, ◌++◌, length, take, codes, Result, Ok, Err, Option, Some, None}
 use Rattle.resp_errors.specs.declared.kinds.ErrorKind.TheVariants.{Client}
 use Rattle.resp_errors.specs.declared.redis_error.RedisError.{RedisError}
 use Rattle.resp_errors.specs.declared.redis_error.RedisError.TheVariants.{General, OutOfMemory}
 use Rattle.resp_value.specs.declared.value.Value.{Value}
 use Rattle.resp_command.specs.Call.{CommandCall, PackedCall, needed}
 use Rattle.resp_command.specs.Command.{Command}
-use Rattle.resp_command.specs.Connection.{Connection, incoming}
+use Rattle.resp_command.specs.Connection.{Connection}
 use Rattle.resp_command.specs.Cursors.{with_cursor}
 use Rattle.resp_command.specs.Packed.{packed_or_none}
 use Rattle.resp_command.specs.PackingLaw.{LawOfPacking}
@@ -38,13 +38,14 @@ abbrev pub budget_used_up : RedisError
 budget_used_up = General Client (codes "scan budget used up") None
 
 module _ {X : Type 0} (n : ℕ) (Of : Value → X → Type 0) where
-  -- a scan's first request: it reads only as the command's arguments, its reply is the one thing
-  -- that the incoming bytes hold, and it gives what the reply or a refusal determines
+  -- a scan's first request: it reads only as the command's arguments; whatever bytes arrive, one
+  -- reply takes one thing from them and those before; and it gives what the reply or a refusal
+  -- determines
   pub record FirstRequest (old new : Connection) (c : Command)
       (given : Result (Batch X) RedisError) : Type 0 where
     pub answer : Result Value RedisError
     pub reads_only : LawOfPacking c.args
-    pub takes_one : TakesOneThing old.limits (needed c) (incoming old)
+    pub takes_one : (arrived : List ℕ) → TakesOneThing old.limits (needed c) (old.received ++ arrived)
     pub call : CommandCall old new c answer (λ reply. answer ≡ Ok reply)
     pub gives : GivesFirst n Of answer given
 
@@ -58,7 +59,7 @@ module _ {X : Type 0} (n : ℕ) (Of : Value → X → Type 0) where
       Type 0 where
     pub answer : Result Value RedisError
     pub reads_only : LawOfPacking (with_cursor cursor c).args
-    pub takes_one : TakesOneThing old.limits 1 (incoming old)
+    pub takes_one : (arrived : List ℕ) → TakesOneThing old.limits 1 (old.received ++ arrived)
     pub sends : SendsPacked old new (scan_request c cursor) answer
     pub gives : Gives n Of answer given
 

@@ -1,5 +1,5 @@
 -- What n replies take from bytes (RESP3, "Pushes": a push may come before, between and after them).
-use Rattle.std.specs.Prelude.{◌≡◌, ℕ, ◌<◌, List, [], ◌∷◌, ◌++◌, length, filter, filter_map, Option, None, Some, is_none}
+use Rattle.std.specs.Prelude.{◌≡◌, ◌≢◌, ℕ, ◌<◌, ◌≤◌, List, [], ◌∷◌, ◌++◌, length, filter, filter_map, Option, None, Some, is_none}
 use Rattle.resp_value.specs.declared.value.Value.{Value, out-Value}
 use Rattle.resp_value.specs.declared.value.Value.TheOpen.{Value-F}
 use Rattle.resp_value.specs.declared.value.PushInfo.{PushInfo}
@@ -72,6 +72,21 @@ unfoldable pub Taken : Limits → ℕ → List ℕ → Taking → Type 0
 Taken l n b (took replies pushes rest) = TakesAll l n b replies pushes rest
 Taken l n b (met_fault f pushes) = TakesFewer l n b pushes (λ rest. HasFault l rest f)
 Taken l n b (ended_early pushes) = TakesFewer l n b pushes (Awaits l)
+
+-- the bytes hold fewer than n replies, and no fault
+pub record IsShort (l : Limits) (n : ℕ) (b : List ℕ) : Type 0 where
+  pub pushes : List PushInfo
+  pub ends : Taken l n b (ended_early pushes)
+
+-- bytes came after b only while there were too few: before the last of them, as many as one read
+-- asks for at most, n replies weren't there, nor a fault
+pub record ArrivedAsNeeded (l : Limits) (most n : ℕ) (b arrived : List ℕ) : Type 0 where
+  pub before : List ℕ
+  pub last : List ℕ
+  pub whole : arrived ≡ before ++ last
+  pub some : last ≡ [] → before ≡ []
+  pub size : length last ≤ most
+  pub short : last ≢ [] → IsShort l n (b ++ before)
 
 -- whatever bytes come: n replies within the limits take one thing from them, and nothing else
 pub record TakesOneThing (l : Limits) (n : ℕ) (b : List ℕ) : Type 0 where

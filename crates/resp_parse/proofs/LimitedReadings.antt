@@ -1,5 +1,5 @@
 -- What a reader with limits finds at the start of bytes is what reading finds among those that a value may have.
-use Rattle.std.proofs.Common.{◌≡◌, ℕ, zero, suc, ◌+◌, ◌-◌, ◌<◌, ◌≤◌, List, [], ◌++◌, length, take, drop, refl, ap, sym, ◌∙◌, subst, arith, append_assoc, ◌⊎◌, inl, inr}
+use Rattle.std.proofs.Common.{◌≡◌, ℕ, zero, suc, ◌+◌, ◌-◌, ◌<◌, ◌≤◌, List, ◌++◌, length, take, drop, refl, ap, sym, ◌∙◌, subst, arith, append_assoc, ◌⊎◌, inl, inr}
 use Rattle.std.proofs.lemmas.Grind.{common_steps}
 use Rattle.std.proofs.lemmas.List.{append-nil, append_cancel_left, length-append, take-append-le}
 use Rattle.std.proofs.Math.Seq.{take-append-add}
@@ -7,7 +7,6 @@ use Rattle.resp_value.specs.declared.value.Value.{Value}
 use Rattle.resp_errors.specs.declared.kinds.FrameFault.{FrameFault}
 use Rattle.resp_errors.specs.declared.kinds.FrameFault.TheVariants.{TooLong}
 use Rattle.resp_parse.specs.declared.limits.Limits.{Limits}
-use Rattle.resp_parse.specs.Source.{Source}
 use Rattle.resp_parse.specs.PlainReading.{ReadOutcome, got, fault, incomplete, read}
 use Rattle.resp_parse.specs.Limited as limited
 use Rattle.resp_parse.specs.Prefixes.{HasMalformedPrefix, HasWellFormedPrefix, IsIncomplete, FaultShownBy}
@@ -169,19 +168,3 @@ HasFault-longer l b after f (HasFault.too_long e h) = HasFault.too_long e (Passe
 pub FaultShownAt-longer : (l : Limits) (b after : List ℕ) (n : ℕ) → FaultShownAt l b n → FaultShownAt l (b ++ after) n
 FaultShownAt-longer l b after n (FaultShownAt.within h) = FaultShownAt.within (subst (λ x. FaultShownBy l.depth x n) (sym (first-longer l b after)) (FaultShownBy-longer l.depth (first_bytes l b) (take (l.bytes - length b) after) n h))
 FaultShownAt-longer l b after n (FaultShownAt.too_long e h) = FaultShownAt.too_long e (PassesSize-longer l b after h)
-
--- the buffered and the incoming bytes of a source, which went from s to t and filled some of them
-module _ (l : Limits) (b filled : List ℕ) (s t : Source) (receive : s.bytes ≡ filled ++ t.bytes) where
-  whole : (b ++ filled) ++ t.bytes ≡ b ++ s.bytes
-  whole = append_assoc b filled t.bytes ∙ ap (λ z. b ++ z) (sym receive)
-
-  pub HasValue-whole : (v : Value) (rest : List ℕ) → HasValue l (b ++ filled) v rest → HasValue l (b ++ s.bytes) v (rest ++ t.bytes)
-  HasValue-whole v rest h = subst (λ z. HasValue l z v (rest ++ t.bytes)) whole (HasValue-longer l (b ++ filled) t.bytes rest v h)
-
-  pub HasFault-whole : (f : FrameFault) → HasFault l (b ++ filled) f → HasFault l (b ++ s.bytes) f
-  HasFault-whole f h = subst (λ z. HasFault l z f) whole (HasFault-longer l (b ++ filled) t.bytes f h)
-
-  pub Awaits-whole : t.bytes ≡ [] → Awaits l (b ++ filled) → Awaits l (b ++ s.bytes)
-  Awaits-whole none h =
-      let all : b ++ filled ≡ b ++ s.bytes = sym (append-nil (b ++ filled)) ∙ ap (λ z. (b ++ filled) ++ z) (sym none) ∙ whole in
-      subst (λ z. Awaits l z) all h

@@ -1,6 +1,7 @@
 -- What the calls of a parser answer that stood after b: how it stands then, and, where a source was
 -- asked, how that went from s to t, and that what was filled is all that was received.
 use Rattle.std.specs.Prelude.{◌≡◌, ◌≢◌, ◌<◌, ◌≤◌, ◌+◌, ℕ, Bool, true, false, List, [], ◌++◌, length, Option, None, Some, Result, Ok, Err}
+use Rattle.std.specs.Io.KnownBytes.{IsAtEnd}
 use Rattle.resp_value.specs.declared.value.Value.{Value}
 use Rattle.resp_flat.specs.declared.flat_reply.FlatReply.{FlatReply}
 use Rattle.resp_flat.specs.FlatReplies.{IsFlatOf}
@@ -13,7 +14,7 @@ use Rattle.resp_errors.specs.declared.redis_error.RedisError.TheVariants as form
 use Rattle.resp_parse.specs.declared.limits.Limits.{Limits}
 use Rattle.resp_parse.specs.Limited.{HasValue, HasFault, Awaits}
 use Rattle.resp_parse.specs.State.{State, StandsAfter, FailedAfter, IsBetweenValues}
-use Rattle.resp_parse.specs.Source.{Source, SourceGave, FailureCounted, source_of}
+use Rattle.resp_parse.specs.Source.{Source, SourceGave, FailureCounted, fresh_source}
 
 -- Feeding.
 
@@ -61,7 +62,7 @@ pub record Filled (b : List ℕ) (old new : State) (s t : Source) : Type 0 where
 
 -- why nothing was filled
 pub data CannotFill (b : List ℕ) (e : RedisError) (new : State) (s t : Source) : Type 0 where
-  early_end : e ≡ form.Io UnexpectedEof → SourceGave s [] t → (s.observable ≡ true → t.bytes ≡ []) →
+  early_end : e ≡ form.Io UnexpectedEof → SourceGave s [] t → IsAtEnd t.to_come →
       t.failures ≡ s.failures → FailedAfter new b → CannotFill b e new s t
   source_failed : (kind : IoKind) → e ≡ form.Io kind → SourceGave s [] t →
       FailureCounted s.failures t.failures → StandsAfter new b → CannotFill b e new s t
@@ -87,6 +88,7 @@ pub record AsNeeded (l : Limits) (b filled : List ℕ) : Type 0 where
   pub before : List ℕ
   pub last : List ℕ
   pub whole : filled ≡ before ++ last
+  pub some : last ≡ [] → before ≡ []
   pub size : length last ≤ 4096
   pub awaited : last ≢ [] → Awaits l (b ++ before)
 
@@ -114,6 +116,7 @@ pub record StandsMidway (b : List ℕ) (old new : State) (s t : Source) : Type 0
   pub filled : List ℕ
   pub source_gave : SourceGave s filled t
   pub received : Received filled old new
+  pub needed : AsNeeded new.limits b filled
   pub awaits : Awaits new.limits (b ++ filled)
   pub stands : StandsAfter new (b ++ filled)
   pub failures : FailureCounted s.failures t.failures
@@ -125,7 +128,7 @@ pub data CannotParse (b : List ℕ) (e : RedisError) (old new : State) (s t : So
       HasFault new.limits (b ++ filled) f → Failed b filled old new s t →
       CannotParse b e old new s t
   early_end : (filled : List ℕ) → e ≡ form.Io UnexpectedEof →
-      Awaits new.limits (b ++ filled) → (s.observable ≡ true → t.bytes ≡ []) →
+      Awaits new.limits (b ++ filled) → IsAtEnd t.to_come →
       Failed b filled old new s t → CannotParse b e old new s t
   source_failed : (kind : IoKind) → e ≡ form.Io kind → StandsMidway b old new s t →
       CannotParse b e old new s t
@@ -136,10 +139,12 @@ abbrev pub Parses : List ℕ → State → State → Source → Source → Resul
 Parses b old new s t (Ok v) = Parsed b v old new s t
 Parses b old new s t (Err e) = CannotParse b e old new s t
 
--- the same of a reader that was used up, for a state that it came to, and its failures
+-- the same of a reader that was used up, for a state that it came to, its failures, and the bytes
+-- that came from it
 pub record ParsesReader {R : Type 0} (remaining : R → Option (List ℕ)) (b : List ℕ)
     (old new : State) (reader : R) (r : Result Value RedisError) : Type 0 where
   pub left : R
   pub failures : ℕ
-  pub parses : Parses b old new (source_of (remaining reader) 0)
-      (source_of (remaining left) failures) r
+  pub came : List ℕ
+  pub parses : Parses b old new (fresh_source (remaining reader))
+      (record { came = came; to_come = remaining left; failures = failures }) r

@@ -389,8 +389,6 @@ impl Parser {
         ensures limits { self.new.limits ≡ self.old.limits }
         ensures bounds { Bounded self.new }
         ensures calls { CallsWithin self.old.counts self.new.counts }
-        ensures observable { (S.source source.old).observable ≡ true →
-            (S.source source.new).observable ≡ true }
     {
         if self.failed {
             return Err(failed_before());
@@ -475,8 +473,6 @@ impl Parser {
         ensures limits { self.new.limits ≡ self.old.limits }
         ensures bounds { Bounded self.new }
         ensures asked { AskedFor self.old.counts self.new.counts result }
-        ensures observable { (S.source source.old).observable ≡ true →
-            (S.source source.new).observable ≡ true }
     {
         self.compact();
         if self.buffer.reserve(CHUNK).is_err() {

@@ -6,8 +6,8 @@ use resp_value::IoKind;
 
 /// A source of bytes, such as the reading end of a connection.
 ///
-/// What a source has to say of itself, its [`Self::source`], is for contracts: whether it is
-/// observable, which bytes it will give, and how often it has failed.
+/// What a source has to say of itself, its [`Self::source`], is for contracts: all bytes that came
+/// from it, those that it has yet to give where it tells them, and how often it has failed.
 pub trait ReplySource {
     ghost source: { Self → Source };
 

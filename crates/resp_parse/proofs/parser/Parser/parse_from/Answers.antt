@@ -11,7 +11,6 @@ use Rattle.resp_parse.proofs.parser.Parser.parse_from.Goals as goal
 
 pub loop-init : goal.loop-init
 loop-init g c = record {
-  observable = λ obs. obs;
   limits = refl;
   calls = omega arith;
   offset = λ w. sym (ap (λ (s : State). s.fault_offset) c.self.view_is) ∙ c.self.invariant.placed.works (ap (λ (s : State). s.failed) c.self.view_is ∙ w);
@@ -22,7 +21,6 @@ pub loop-preserved : goal.loop-preserved
 loop-preserved g c =
     let source = g.S.ReplySource.source in
     record {
-      observable = λ obs. c.ask.ensures.observable (c.loop.invariant.observable obs);
       limits = c.ask.ensures.limits ∙ c.take_value.ensures.limits ∙ c.loop.invariant.limits;
       calls = omega (arith, c.loop.invariant.calls, c.in_ok-ask.ensures.asked.0, c.in_ok-ask.ensures.asked.1, received-same c.loop.self c.take_value.new.self (λ e. (c.take_value.ensures.failed e).1) c.take_value.ensures.counts, calls-most c.loop.self c.take_value.new.self (λ e. (c.take_value.ensures.failed e).1) c.take_value.ensures.counts);
       offset = λ w.
@@ -32,7 +30,7 @@ loop-preserved g c =
       filled = λ b h.
           let k = c.loop.invariant.filled b h in
           let w : Takes (b ++ k.more.filled) c.take_value.new.self (Ok None) = rw c.in_default.is at (c.in_ok-value.ensures.takes (b ++ k.more.filled) k.more.stands) in
-          FilledAsNeeded-asked b c.args.self.now c.loop.self (source c.args.source.now) (source c.loop.source) k c.take_value.new.self (c.take_value.ensures.limits ∙ c.loop.invariant.limits) (received-same c.loop.self c.take_value.new.self (λ e. (c.take_value.ensures.failed e).1) c.take_value.ensures.counts) w (source c.ask.new.source) c.loop.invariant.observable c.ask.new.self
+          FilledAsNeeded-asked b c.args.self.now c.loop.self (source c.args.source.now) (source c.loop.source) k c.take_value.new.self (c.take_value.ensures.limits ∙ c.loop.invariant.limits) (received-same c.loop.self c.take_value.new.self (λ e. (c.take_value.ensures.failed e).1) c.take_value.ensures.counts) w (source c.ask.new.source) c.ask.new.self
           (c.in_ok-ask.ensures.asks (b ++ k.more.filled) w.1);
     }
 
@@ -59,7 +57,7 @@ returns-in_err-ask-clause-parses g c = λ b h.
     let p = err_from_is_err_and c.from_residual-in_err-ask.result c.from_residual-in_err-ask.ensures.1 in
     let k = c.loop.invariant.filled b h in
     let w : Takes (b ++ k.more.filled) c.take_value.new.self (Ok None) = rw c.in_default.is at (c.in_ok-value.ensures.takes (b ++ k.more.filled) k.more.stands) in
-    rw (p.1, p.2) (CannotParse-asked b c.args.self.now c.loop.self (source c.args.source.now) (source c.loop.source) k c.take_value.new.self (c.take_value.ensures.limits ∙ c.loop.invariant.limits) (received-same c.loop.self c.take_value.new.self (λ e. (c.take_value.ensures.failed e).1) c.take_value.ensures.counts) w (source c.ask.new.source) c.loop.invariant.observable c.ask.new.self c.ask.ensures.limits c.in_err-ask.ensures.asked.1 c.in_err-ask.field-0.0
+    rw (p.1, p.2) (CannotParse-asked b c.args.self.now c.loop.self (source c.args.source.now) (source c.loop.source) k c.take_value.new.self (c.take_value.ensures.limits ∙ c.loop.invariant.limits) (received-same c.loop.self c.take_value.new.self (λ e. (c.take_value.ensures.failed e).1) c.take_value.ensures.counts) w (source c.ask.new.source) c.ask.new.self c.ask.ensures.limits c.in_err-ask.ensures.asked.1 c.in_err-ask.field-0.0
     (c.in_err-ask.ensures.asks (b ++ k.more.filled) w.1))
 
 pub returns-clause-parses : goal.returns-clause-parses

@@ -1,4 +1,4 @@
-use Rattle.std.proofs.Common.{◌≡◌, ◌≤◌, ◌+◌, true, false, List, ℕ, None}
+use Rattle.std.proofs.Common.{◌≡◌, ◌≤◌, ◌+◌, false, List, ℕ, None}
 use Rattle.resp_parse.specs.State.{StandsAfter}
 use Rattle.resp_parse.proofs.Parsing.{FilledAsNeeded}
 use Rattle.resp_parse.proofs.parser.Parser.parse_from.Given as goal
@@ -8,7 +8,6 @@ abbrev pub invariant-loop : goal.invariant-loop
 invariant-loop g l =
     let source = g.S.ReplySource.source in
     record {
-      observable : (source l.fn.source).observable ≡ true → (source l.source).observable ≡ true;
       limits : l.self.limits ≡ l.fn.self.limits;
       calls : l.self.counts.calls + l.fn.self.counts.received ≤ l.fn.self.counts.calls + l.self.counts.received;
       offset : l.fn.self.failed ≡ false → l.self.fault_offset ≡ None;
