@@ -112,14 +112,26 @@ fn set_watched(
     ensures { OnOk result (PipelineQuery (connection con.old) (connection con.new)
         (setting key.now number) (⟦<Option<()> as FromRedisValue>⟧.of_value) (Ok (Some tt))) }
 {
-    let done: Option<()> = setting(alloc, key, number)?.query(con)?;
-    match done {
+    match set(alloc, con, key, number)? {
         Some(()) => Ok(()),
         None => Err(RedisError::from((
             ErrorKind::Server(ServerErrorKind::ExecAbort),
             "another client was faster",
         ))),
     }
+}
+
+/// Sets the key to the number in a transaction; None where it was aborted.
+fn set(
+    alloc: Global,
+    con: &mut dyn ConnectionLike,
+    key: &str,
+    number: i64,
+) -> RedisResult<Option<()>>
+    ensures { IfOk result (λ done. PipelineQuery (connection con.old) (connection con.new)
+        (setting key.now number) (⟦<Option<()> as FromRedisValue>⟧.of_value) (Ok done)) }
+{
+    setting(alloc, key, number)?.query(con)
 }
 
 /// The transaction that sets a key to a number.

@@ -56,11 +56,11 @@ use Rattle.resp_parse.specs.contracts.parser.Parser.TheInside as parser_inside
 use Rattle.resp_parse.specs.contracts.seen.Seen as seen
 use Rattle.resp_parse.specs.contracts.seen.SeenValues as seen_values
 use Rattle.resp_parse.specs.contracts.seen.SeenValues.TheInside as seen_values_inside
-use Rattle.resp_parse.specs.contracts.seen_bytes.SeenBytes as seen_bytes
+use Rattle.resp_parse.specs.contracts.history.History as history
 use Rattle.resp_parse.specs.contracts.shape.ElementsKind as elements_kind
 use Rattle.resp_parse.proofs.body.Body.TheSendSync as body_sent
 use Rattle.resp_parse.proofs.parser.counter.Counter.TheSendSync as counter_sent
-use Rattle.resp_parse.proofs.seen_bytes.SeenBytes.TheSendSync as seen_bytes_sent
+use Rattle.resp_parse.proofs.history.History.TheSendSync as history_sent
 use Rattle.resp_parse.proofs.shape.ElementsKind.TheSendSync as elements_kind_sent
 use Rattle.resp_c.specs.Held.{owns_some}
 use Rattle.resp_c.specs.declared.session.Session.{Session}
@@ -170,8 +170,7 @@ open_aggregates_send =
 builder_send : IsSend builder.the_row
 builder_send =
     let shows = as_row_send reply.the_field reply_sent.the_field_send in
-    let waiting = as_row_send value.the_field value_send in
-    declared_send builder.the_type (search (leaves, waiting, shows) depth 60)
+    declared_send builder.the_type (search (leaves, value_send, shows) depth 60)
 
 machine_send : IsSend machine.the_row
 machine_send =
@@ -183,7 +182,7 @@ parser_send : IsSend parser.the_row
 parser_send =
     let buffer = vec_send u8 byte_send in
     let offset = option_send usize (search sendable depth 12) in
-    let since = as_row_send seen_bytes.the_field seen_bytes_sent.the_send in
+    let since = as_row_send history.the_field history_sent.the_send in
     let counts = as_row_send counter.the_field counter_sent.the_send in
     view_send _ _ _ _ _ (declared_send parser_inside.the_type (search (leaves, machine_send, buffer, offset, since, counts) depth 60))
 

@@ -11,6 +11,7 @@ pub mod PackedReadsBack
 pub mod PageReading
 pub mod PrefixOfPrefix
 pub mod PiecesAgree
+pub mod KnownBytes
 pub mod Queries
 pub mod Requests
 pub mod ScanCalls

@@ -1,5 +1,6 @@
 -- What a call of a connection answers, as what a query over it answers.
-use Rattle.std.proofs.Common.{◌≡◌, ℕ, List, [], ◌∷◌, ◌++◌, length, Result, Ok, Err, ap, subst}
+use Rattle.std.proofs.Common.{◌≡◌, ℕ, List, [], ◌∷◌, ◌++◌, length, refl, Option, None, Some, Result, Ok, Err, ap, sym, ◌∙◌, subst, append-nil, arith}
+use Rattle.std.specs.Io.KnownBytes.{Appends, Consumes}
 use Rattle.resp_value.specs.declared.value.Value.{Value, Nil}
 use Rattle.resp_errors.specs.declared.redis_error.RedisError.{RedisError}
 use Rattle.resp_errors.specs.declared.redis_error.RedisError.TheVariants.{Io, Parse, OutOfMemory}
@@ -63,7 +64,7 @@ module _ {A B : Type 0} (old new : Connection) (q : List ℕ) (n : ℕ) (answers
   exchange_of_err bytes e none (out_of_memory h) = let i : e ≡ OutOfMemory = (let k = h.answer in cc) in out_of_memory (record { answer = ap Err i; no_failure = h.no_failure; left = h.left })
 
   exchange_err : (e : RedisError) → ((replies : List Value) → answers replies → ⊥) → Exchange {A = A} old new q n (Err e) answers → Exchange {A = B} old new q n (Err e) answers'
-  exchange_err e none h = record { arrived = h.arrived; sent = h.sent; moves = h.moves; needed = h.needed; of = exchange_of_err _ e none h.of }
+  exchange_err e none h = record { arrived = h.arrived; gone = h.gone; moves = h.moves; needed = h.needed; of = exchange_of_err _ e none h.of }
 
   -- what the replies are answered with, turned into another answer
   exchange_of_ok : (bytes : Bytes) (a : A) (r : Result B RedisError) → ((replies : List Value) → length replies ≡ n → answers replies → answers' replies) → ExchangeOf {A = A} bytes old new q n (Ok a) answers → ExchangeOf {A = B} bytes old new q n r answers'
@@ -85,7 +86,7 @@ module _ {A B : Type 0} (old new : Connection) (q : List ℕ) (n : ℕ) (answers
   exchange_of_ok bytes a r turn (out_of_memory h) = absurd (let k = h.answer in cc)
 
   exchange_ok : (a : A) (r : Result B RedisError) → ((replies : List Value) → length replies ≡ n → answers replies → answers' replies) → Exchange {A = A} old new q n (Ok a) answers → Exchange {A = B} old new q n r answers'
-  exchange_ok a r turn h = record { arrived = h.arrived; sent = h.sent; moves = h.moves; needed = h.needed; of = exchange_of_ok _ a r turn h.of }
+  exchange_ok a r turn h = record { arrived = h.arrived; gone = h.gone; moves = h.moves; needed = h.needed; of = exchange_of_ok _ a r turn h.of }
 
   refuses_err : (e f : RedisError) → Refuses {A = A} old new f (Err e) → Refuses {A = B} old new f (Err e)
   refuses_err e f h = record { answer = (let i : e ≡ f = (let k = h.answer in cc) in ap Err i); same = h.same }
@@ -105,6 +106,26 @@ module _ {A B : Type 0} (old new : Connection) (q : List ℕ) (n : ℕ) (answers
     when_empty = λ b m. absurd (refuses_ok old new a no_command (h.when_empty b m));
     otherwise = λ b m. exchange_ok a r turn (h.otherwise b m);
   }
+
+-- an exchange in which nothing came and nothing was sent
+kept-known : (known : Option (List ℕ)) → Consumes known known [] × Appends known known []
+kept-known None = (tt, tt)
+kept-known (Some xs) = (refl, sym (append-nil xs))
+
+pub nothing_done : {A : Type 0} {old new : Connection} {q : List ℕ} {n : ℕ} {r : Result A RedisError} {answers : List Value → Type 0} → new ≡ old →
+    ExchangeOf (record { incoming = old.received ++ []; left = new.received; sent = [] }) old new q n r answers → Exchange old new q n r answers
+nothing_done {old = old} {new = new} same h = record {
+  arrived = [];
+  gone = [];
+  moves = record {
+    came = ap (λ (c : Connection). c.came) same ∙ sym (append-nil old.came);
+    sent = ap (λ (c : Connection). c.sent) same ∙ sym (append-nil old.sent);
+    to_come = subst (λ (c : Connection). Consumes old.to_come c.to_come []) (sym same) (kept-known old.to_come).0;
+    holds = subst (λ (c : Connection). Appends old.holds c.holds []) (sym same) (kept-known old.holds).1;
+  };
+  needed = record { before = []; last = []; whole = refl; some = λ _. refl; size = omega arith; short = λ some. absurd (some refl) };
+  of = h;
+}
 
 -- the one reply is the result
 abbrev ReplyIs : Result Value RedisError → List Value → Type 0

@@ -64,11 +64,11 @@ pub record SameKind (old new : Connection) : Type 0 where
 
 -- these bytes came, and these were sent; ends that tell their bytes lost the ones and gained the
 -- others
-pub record Moves (old new : Connection) (arrived sent : List ℕ) : Type 0 where
+pub record Moves (old new : Connection) (arrived gone : List ℕ) : Type 0 where
   pub came : new.came ≡ old.came ++ arrived
-  pub sent : new.sent ≡ old.sent ++ sent
+  pub sent : new.sent ≡ old.sent ++ gone
   pub to_come : Consumes old.to_come new.to_come arrived
-  pub holds : Appends old.holds new.holds sent
+  pub holds : Appends old.holds new.holds gone
 
 -- the bytes of an exchange: those that replies are taken from, those that are left of them, and
 -- those that were sent
@@ -211,20 +211,20 @@ pub data ExchangeOf {A : Type 0} (bytes : Bytes) (old new : Connection) (q : Lis
 pub record Exchange {A : Type 0} (old new : Connection) (q : List ℕ) (n : ℕ)
     (result : Result A RedisError) (answers : List Value → Type 0) : Type 0 where
   pub arrived : List ℕ
-  pub sent : List ℕ
-  pub moves : Moves old new arrived sent
+  pub gone : List ℕ
+  pub moves : Moves old new arrived gone
   pub needed : ArrivedAsNeeded old.limits old.read_size n old.received arrived
   pub of : ExchangeOf
-      (record { incoming = old.received ++ arrived; left = new.received; sent = sent })
+      (record { incoming = old.received ++ arrived; left = new.received; sent = gone })
       old new q n result answers
 
 -- the same where the source tells its bytes: replies are taken from all that are incoming
 pub record KnownExchange {A : Type 0} (old new : Connection) (later : List ℕ) (q : List ℕ) (n : ℕ)
     (result : Result A RedisError) (answers : List Value → Type 0) : Type 0 where
   pub rest : List ℕ
-  pub sent : List ℕ
-  pub left : new.to_come ≡ Some rest
-  pub goes : new.sent ≡ old.sent ++ sent
+  pub gone : List ℕ
+  pub to_come : new.to_come ≡ Some rest
+  pub sent : new.sent ≡ old.sent ++ gone
   pub of : ExchangeOf
-      (record { incoming = old.received ++ later; left = new.received ++ rest; sent = sent })
+      (record { incoming = old.received ++ later; left = new.received ++ rest; sent = gone })
       old new q n result answers

@@ -1,6 +1,12 @@
 //! The laws: functions that do nothing, and whose contracts are proved.
 
-ghost use Rattle.std.specs.Prelude.{◌≡◌, ℕ, List};
+ghost use Rattle.std.specs.Prelude.{◌≡◌, ◌≢◌, ℕ, false, [], List, Result, Some};
+ghost use Rattle.resp_errors.specs.declared.redis_error.RedisError.{RedisError};
+ghost use Rattle.resp_command.specs.Call.{Answers, AnswersReply, needed};
+ghost use Rattle.resp_command.specs.Command.{Command};
+ghost use Rattle.resp_command.specs.CommandQuery.{CommandQuery};
+ghost use Rattle.resp_command.specs.Connection.{Connection, KnownExchange};
+ghost use Rattle.resp_command.specs.Packed.{packed};
 ghost use Rattle.resp_command.specs.ShownArgs.{IsArgClone, ShowsOnly, arg_eq};
 ghost use Rattle.resp_args.specs.Args.{Args};
 ghost use Rattle.resp_parse.specs.declared.limits.Limits.{Limits};
@@ -35,6 +41,15 @@ pub fn law_of_taking()
 /// answer says; and it answers nothing ever after.
 pub fn law_of_scans<T: FromRedisValue>()
     ensures { LawOfScans T.WIDTH T.of_value }
+{}
+
+/// Over a source that tells its bytes, as memory does, a query takes its reply from all bytes that
+/// are incoming: what is said of those that came holds of them all.
+pub fn law_of_commands_in_memory<T: FromRedisValue>()
+    ensures { (old new : Connection) (c : Command) (r : Result T RedisError) (later : List ℕ)
+        → CommandQuery old new c T.of_value r → old.broken ≡ false → c.args ≢ []
+        → old.to_come ≡ Some later → KnownExchange old new later (packed c.args) (needed c) r
+        (AnswersReply (Answers T.of_value r)) }
 {}
 
 /// A clone of a shown argument is a cursor where it is one, and else an ordinary argument that shows a

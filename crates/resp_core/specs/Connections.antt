@@ -1,8 +1,12 @@
 -- What the contracts of commands and connections cite, given out for the crates of users.
-pub use Rattle.resp_command.specs.Call.{Call, CommandCall, PackedCall, Answers, Refuses}
+pub use Rattle.resp_command.specs.Call.{Call, CommandCall, PackedCall, Answers, AnswersReply}
+pub use Rattle.resp_command.specs.Call.{Refuses, needed}
 pub use Rattle.resp_command.specs.Command.{Command, new_command}
 pub use Rattle.resp_command.specs.CommandQuery.{CommandQuery}
-pub use Rattle.resp_command.specs.Connection.{Connection, Exchange, incoming, unobservable}
+pub use Rattle.resp_command.specs.Connection.{Connection, Bytes, Exchange, ExchangeOf}
+pub use Rattle.resp_command.specs.Connection.{KnownExchange, Moves, idle}
+pub use Rattle.resp_command.specs.Connection.{replied, malformed, early_end, sink_failed}
+pub use Rattle.resp_command.specs.Connection.{source_failed, out_of_memory}
 pub use Rattle.resp_command.specs.Cursors.{HoldsCursor, with_cursor, with_cursor_arg}
 pub use Rattle.resp_command.specs.Cursors.{with_extended_arg}
 pub use Rattle.resp_command.specs.Packed.{as_value, packed}
@@ -14,8 +18,11 @@ pub use Rattle.resp_command.specs.ScanStates.{borrowed, scan_state, state_of}
 pub use Rattle.resp_command.specs.Scans.{Asked, CannotStart, FirstRequest, LaterRequest, Next}
 pub use Rattle.resp_command.specs.Scans.{Requests, ScanState, Starts}
 pub use Rattle.resp_command.specs.ShownArgs.{args_left, referent, shown_args}
-pub use Rattle.resp_command.specs.Taken.{Taken, Taking, TakesOneThing}
+pub use Rattle.resp_command.specs.Taken.{ArrivedAsNeeded, IsShort, Taken, Taking, TakesOneThing}
+pub use Rattle.resp_command.specs.Taken.{took, met_fault, ended_early, PrefixReads, ListsPushes}
+pub use Rattle.resp_command.specs.Taken.{pushes_in, replies_in}
 pub use Rattle.resp_link.specs.Linking.{connection_of}
 pub use Rattle.resp_link.specs.Receiving.{Inflow, inflow_of, unread}
-pub use Rattle.resp_link.specs.Sink.{SendsAll, Sink, sink_of}
+pub use Rattle.resp_link.specs.Sink.{SendsAll, Sink, fresh_sink}
+pub use Rattle.resp_parse.specs.Source.{Fills, Source, fresh_source}
 pub use Rattle.resp_pipeline.specs.Retried.{Retried, TriedAgain}

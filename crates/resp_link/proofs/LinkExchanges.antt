@@ -1,5 +1,6 @@
 -- A request, and then its replies.
-use Rattle.std.proofs.Common.{◌≡◌, ◌&&◌, ℕ, ◌<◌, List, [], ◌∷◌, ◌++◌, length, true, false, Bool, append-nil, sym, ap, ◌∙◌, refl, Result, Ok, Err, inr}
+use Rattle.std.proofs.Common.{◌≡◌, ℕ, ◌<◌, List, [], ◌∷◌, ◌++◌, length, true, false, Bool, append-nil, sym, ap, ◌∙◌, refl, subst, Option, None, Some, Result, Ok, Err, inr}
+use Rattle.std.specs.Io.KnownBytes.{Consumes}
 use Rattle.resp_value.specs.declared.value.Value.{Value}
 use Rattle.resp_errors.specs.declared.kinds.IoKind.{IoKind}
 use Rattle.resp_errors.specs.declared.kinds.FrameFault.{FrameFault}
@@ -10,155 +11,194 @@ use Rattle.resp_link.specs.Linking.{connection_of, Exchanges}
 use Rattle.resp_link.specs.Sink.{Sink, SendsAll}
 use Rattle.resp_command.specs.Taken.{Taken, took, met_fault, ended_early, pushes_in, replies_in, all, all_but_last}
 use Rattle.resp_command.proofs.Values.{reads_one, reads_both}
-use Rattle.resp_link.specs.Receiving.{Inflow, inflowing, AwaitsMore, ReadsPush, StopsReceiving, Receives, CannotReceive, malformed, early_end, source_failed, out_of_memory, no_room}
+use Rattle.resp_link.specs.Receiving.{Inflow, FollowsPush, StopsReceiving, Receives, CannotReceive, malformed, early_end, source_failed, out_of_memory, no_room}
+use Rattle.resp_link.proofs.Receiving.{needed-none, consumed-nothing}
+use Rattle.resp_command.specs.Call.{Call, needed}
+use Rattle.resp_command.specs.Command.{Command}
+use Rattle.resp_command.specs.Packed.{packed}
 use Rattle.resp_command.specs.Connection as connection
-use Rattle.resp_command.specs.Connection.{Connection, SameKind, Sent, Exchange, TookTooFew, TookSome, BrokenMidway}
+use Rattle.resp_command.specs.Connection.{Connection, SameKind, Moves, Bytes, Sent, ExchangeOf, Exchange, TookTooFew, TookSome, BrokenMidway}
 
-both_true : (a b : Bool) → (a && b) ≡ true → (a ≡ true) × (b ≡ true)
-both_true true b h = (refl, h)
-both_true false b h = (h, cc)
+-- ---- what was read before it stopped
 
-and_true : (a b : Bool) → a ≡ true → b ≡ true → (a && b) ≡ true
-and_true a b h k = rw (h, k) refl
+module _ (n : ℕ) (i i' : Inflow) (e : RedisError) (r : CannotReceive n i i' e) where
+  abbrev incoming : List ℕ
+  incoming = i.received ++ r.reads.arrived
 
-taken_got : (n : ℕ) (i i' : Inflow) (replies : List Value) (r : Receives n i i' replies) → i.observable ≡ true → Taken i.limits n (inflowing i) (took replies (pushes_in r.values) (inflowing i'))
+  taken_fault : length (replies_in r.values) < n → (f : FrameFault) → HasFault i.limits r.rest f → Taken i.limits n incoming (met_fault f (pushes_in r.values))
+  unfolding Taken
+  taken_fault few f bad = record { values = r.values; rest = r.rest; prefix = r.reads.prefix; few = few; pushes_are = refl; follows = bad }
+
+  taken_early : length (replies_in r.values) < n → Awaits i.limits r.rest → Taken i.limits n incoming (ended_early (pushes_in r.values))
+  unfolding Taken
+  taken_early few incomplete = record { values = r.values; rest = r.rest; prefix = r.reads.prefix; few = few; pushes_are = refl; follows = incomplete }
+
+taken_got : (n : ℕ) (i i' : Inflow) (replies : List Value) (r : Receives n i i' replies) → Taken i.limits n (i.received ++ r.reads.arrived) (took replies (pushes_in r.values) i'.received)
 unfolding Taken
-taken_got n i i' replies r obs = record { values = r.values; prefix = r.on.prefix obs; ends = r.ends; replies_are = r.replies_are; pushes_are = refl }
+taken_got n i i' replies r = record { values = r.values; prefix = r.reads.prefix; ends = r.ends; replies_are = r.replies_are; pushes_are = refl }
 
--- what was read before it stopped
-module _ (n : ℕ) (i i' : Inflow) (e : RedisError) (r : CannotReceive n i i' e) (few : length (replies_in r.values) < n) where
-  taken_fault : (f : FrameFault) → (r.at.observable ≡ true → HasFault r.at.limits (inflowing r.at) f) → i.observable ≡ true → Taken i.limits n (inflowing i) (met_fault f (pushes_in r.values))
-  unfolding Taken
-  taken_fault f bad obs = record { values = r.values; rest = inflowing r.at; prefix = r.on.prefix obs; few = few; pushes_are = refl; follows = rw r.on.limits at bad (r.on.observable obs) }
+-- ---- an exchange of a link
 
-  taken_early : (r.at.observable ≡ true → Awaits r.at.limits (inflowing r.at)) → i.observable ≡ true → Taken i.limits n (inflowing i) (ended_early (pushes_in r.values))
-  unfolding Taken
-  taken_early incomplete obs = record { values = r.values; rest = inflowing r.at; prefix = r.on.prefix obs; few = few; pushes_are = refl; follows = rw r.on.limits at incomplete (r.on.observable obs) }
-
--- what came in while nothing or everything was sent
+-- what came in while this was sent
 module _ (i i' : Inflow) (k k' : Sink) (b b' : Bool) where
-  too_few : (n : ℕ) (e : RedisError) (r : CannotReceive n i i' e) → length (replies_in r.values) < n → (r.at.observable ≡ true → AwaitsMore r.at i') → i.observable ≡ true →
-      TookTooFew n (connection_of i k b) (connection_of i' k' b') (pushes_in r.values)
-  too_few n e r few awaits obs =
-      let a = awaits (r.on.observable obs) in
-      record { values = r.values; taken = rw a.same at r.on.prefix obs; few = few; pushes_are = refl; incomplete = rw r.on.limits at a.incomplete }
+  same_kind : i'.limits ≡ i.limits → SameKind (connection_of i k b) (connection_of i' k' b')
+  same_kind limits = record { pipelines = refl; limits = limits; read_size = refl }
 
-  -- memory ran out once the request was sent
-  midway : (n : ℕ) (q : List ℕ) (e : RedisError) → SendsAll k k' q (Ok tt) → (r : CannotReceive n i i' e) → b' ≡ true
-      → (i.observable ≡ true → TookSome (connection_of i k b) (connection_of i' k' b') (pushes_in r.values)) → BrokenMidway (connection_of i k b) (connection_of i' k' b') q
-  midway n q e sending r is_broken takes = record {
-    pushes = pushes_in r.values;
-    sent = λ obs. record {
-      part = record { prefix = q; rest = []; whole = sym (append-nil q); sent = sending.bytes (both_true i.observable k.observable obs).1 };
-      begun = λ none. none;
-    };
-    takes = λ obs. takes (both_true i.observable k.observable obs).0;
-    listed = r.pushes ∙ r.on.pushes;
-    broken = is_broken;
-  }
+  moves : (arrived : List ℕ) → i'.came ≡ i.came ++ arrived → Consumes i.to_come i'.to_come arrived → {q : List ℕ} {r : Result (Unit {0}) IoKind} → (sending : SendsAll k k' q r) → Moves (connection_of i k b) (connection_of i' k' b') arrived sending.gone
+  moves arrived came to_come sending = record { came = came; sent = sending.sent; to_come = to_come; holds = sending.holds }
 
-  took_all : (n : ℕ) (e : RedisError) (r : CannotReceive n i i' e) → (r.at.observable ≡ true → inflowing r.at ≡ inflowing i') → i.observable ≡ true → TookSome (connection_of i k b) (connection_of i' k' b') (pushes_in r.values)
-  took_all n e r same obs = record { values = r.values; taken = rw (same (r.on.observable obs)) at r.on.prefix obs; listed = all refl }
-
-  took_but_last : (n : ℕ) (e : RedisError) (r : CannotReceive n i i' e) → (r.at.observable ≡ true → ReadsPush r.at i') → i.observable ≡ true → TookSome (connection_of i k b) (connection_of i' k' b') (pushes_in r.values)
-  took_but_last n e r reads obs =
-      let p = reads (r.on.observable obs) in
-      record {
-        values = r.values ++ p.push ∷ [];
-        taken = reads_both i.limits (inflowing i) (inflowing r.at) (inflowing i') r.values (p.push ∷ []) (r.on.prefix obs) (reads_one i.limits (inflowing r.at) (inflowing i') p.push (rw r.on.limits at p.prefix));
-        listed = all_but_last r.values p.push refl p.is_push refl;
-      }
-
-  same_kind : (i.observable ≡ true → i'.observable ≡ true) → i'.limits ≡ i.limits → (k.observable ≡ true → k'.observable ≡ true) → SameKind (connection_of i k b) (connection_of i' k' b')
-  same_kind f limits g = record {
-    observable = λ obs. let t = both_true i.observable k.observable obs in and_true i'.observable k'.observable (f t.0) (g t.1);
-    pipelines = refl;
-    limits = limits;
-  }
-
-  sent_whole : (q : List ℕ) → SendsAll k k' q (Ok tt) → Sent (connection_of i k b) (connection_of i' k' b') q
-  sent_whole q sending = record { bytes = λ obs. sending.bytes (both_true i.observable k.observable obs).1; flushed = sending.flushed }
+  sent_whole : (q incoming left : List ℕ) → (sending : SendsAll k k' q (Ok tt)) → Sent (record { incoming = incoming; left = left; sent = sending.gone }) (connection_of i' k' b') q
+  sent_whole q incoming left sending = record { all = sending.part; flushed = sending.flushed }
 
 -- the request wasn't sent whole
 pub unsent : {A : Type 0} (i : Inflow) (k k' : Sink) (b : Bool) (q : List ℕ) (n : ℕ) (kind : IoKind) (answers : List Value → Type 0) →
     SendsAll k k' q (Err kind) → Exchanges {A = A} (connection_of i k b) (connection_of i k' true) q n (Err (Io kind)) answers
-unsent i k k' b q n kind answers sending = record {
-  same = same_kind i i k k' b true (λ t. t) refl sending.observable;
-  exchange = connection.sink_failed (record {
-    sent = λ obs. sending.bytes (both_true i.observable k.observable obs).1;
-    unread = λ _. record { received = refl; to_come = refl };
-    listed = refl;
-    broken = refl;
-    source = refl;
-    counted = sending.failures;
-    answer = tt;
-  });
-}
+unsent i k k' b q n kind answers sending =
+    record {
+      same = same_kind i i k k' b true refl;
+      exchange = record {
+        arrived = [];
+        gone = sending.gone;
+        moves = moves i i k k' b true [] (sym (append-nil i.came)) (consumed-nothing i.to_come) sending;
+        needed = needed-none i.limits n i.received;
+        of = connection.sink_failed (record {
+          sent = sending.part;
+          unread = record { received = refl; came = refl };
+          listed = refl;
+          broken = refl;
+          source = refl;
+          counted = sending.failures;
+          answer = tt;
+        });
+      };
+    }
 
 -- the replies came
 pub replied : {A : Type 0} (i i' : Inflow) (k k' : Sink) (b : Bool) (q : List ℕ) (n : ℕ) (replies : List Value) (result : Result A RedisError) (answers : List Value → Type 0) →
     SendsAll k k' q (Ok tt) → Receives n i i' replies → answers replies → Exchanges (connection_of i k b) (connection_of i' k' false) q n result answers
 replied i i' k k' b q n replies result answers sending r answer = record {
-  same = same_kind i i' k k' b false r.on.observable r.on.limits sending.observable;
-  exchange = connection.replied (record {
-    replies = replies;
-    pushes = pushes_in r.values;
-    enough = ap length r.replies_are ∙ r.ends.enough;
-    sent = sent_whole i i' k k' b false q sending;
-    takes = λ obs. taken_got n i i' replies r (both_true i.observable k.observable obs).0;
-    listed = r.on.pushes;
-    usable = refl;
-    no_failure = record { source = r.on.failures; sink = sending.failures };
-    answer = answer;
-  });
+  same = same_kind i i' k k' b false r.reads.limits;
+  exchange = record {
+    arrived = r.reads.arrived;
+    gone = sending.gone;
+    moves = moves i i' k k' b false r.reads.arrived r.reads.came r.reads.to_come sending;
+    needed = r.reads.needed;
+    of = connection.replied (record {
+      replies = replies;
+      pushes = pushes_in r.values;
+      enough = ap length r.replies_are ∙ r.ends.enough;
+      sent = sent_whole i i' k k' b false q _ _ sending;
+      takes = taken_got n i i' replies r;
+      listed = r.reads.pushes;
+      usable = refl;
+      no_failure = record { source = r.failures; sink = sending.failures };
+      answer = answer;
+    });
+  };
 }
 
-missed : {A : Type 0} (i i' : Inflow) (k k' : Sink) (b : Bool) (q : List ℕ) (n : ℕ) (e : RedisError) (answers : List Value → Type 0) →
-    SendsAll k k' q (Ok tt) → (r : CannotReceive n i i' e) → StopsReceiving (length (replies_in r.values) < n) r.at i' e → Exchange {A = A} (connection_of i k b) (connection_of i' k' true) q n (Err e) answers
-missed i i' k k' b q n e answers sending r (malformed f few is bad same) = connection.malformed (record {
-  frame_fault = f;
-  pushes = pushes_in r.values;
-  sent = sent_whole i i' k k' b true q sending;
-  takes = λ obs. taken_fault n i i' e r few f bad (both_true i.observable k.observable obs).0;
-  listed = r.pushes ∙ r.on.pushes;
-  broken = refl;
-  no_failure = record { source = same ∙ r.on.failures; sink = sending.failures };
-  answer = ap Err is;
-})
-missed i i' k k' b q n e answers sending r (early_end few is incomplete same) = connection.early_end (record {
-  pushes = pushes_in r.values;
-  sent = sent_whole i i' k k' b true q sending;
-  takes = λ obs. taken_early n i i' e r few incomplete (both_true i.observable k.observable obs).0;
-  listed = r.pushes ∙ r.on.pushes;
-  broken = refl;
-  no_failure = record { source = same ∙ r.on.failures; sink = sending.failures };
-  answer = ap Err is;
-})
-missed i i' k k' b q n e answers sending r (source_failed kind few is awaits counted) = connection.source_failed (record {
-  pushes = pushes_in r.values;
-  sent = sent_whole i i' k k' b true q sending;
-  takes = λ obs. too_few i i' k k' b true n e r few awaits (both_true i.observable k.observable obs).0;
-  listed = r.pushes ∙ r.on.pushes;
-  broken = refl;
-  counted = rw (r.on.failures) at counted;
-  sink = sending.failures;
-  answer = rw is tt;
-})
-missed i i' k k' b q n e answers sending r (out_of_memory is rest same) = connection.out_of_memory (record {
-  answer = ap Err is;
-  no_failure = record { source = same ∙ r.on.failures; sink = sending.failures };
-  left = inr (midway i i' k k' b true n q e sending r refl (took_all i i' k k' b true n e r rest));
-})
-missed i i' k k' b q n e answers sending r (no_room is push same) = connection.out_of_memory (record {
-  answer = ap Err is;
-  no_failure = record { source = same ∙ r.on.failures; sink = sending.failures };
-  left = inr (midway i i' k k' b true n q e sending r refl (took_but_last i i' k k' b true n e r push));
-})
-
 -- fewer replies came than were needed
+module _ (i i' : Inflow) (k k' : Sink) (b : Bool) (q : List ℕ) (n : ℕ) (e : RedisError) (sending : SendsAll k k' q (Ok tt)) (r : CannotReceive n i i' e) where
+  abbrev bytes : Bytes
+  bytes = record { incoming = i.received ++ r.reads.arrived; left = i'.received; sent = sending.gone }
+
+  abbrev old : Connection
+  old = connection_of i k b
+
+  abbrev new : Connection
+  new = connection_of i' k' true
+
+  too_few : length (replies_in r.values) < n → Awaits i.limits r.rest → i'.received ≡ r.rest → TookTooFew n bytes old new (pushes_in r.values)
+  too_few few awaits left = record {
+    values = r.values;
+    taken = rw left r.reads.prefix;
+    few = few;
+    pushes_are = refl;
+    incomplete = rw left awaits;
+  }
+
+  -- memory ran out once the request was sent
+  midway : TookSome bytes i.limits (pushes_in r.values) → BrokenMidway bytes old new q
+  midway takes = record {
+    pushes = pushes_in r.values;
+    sent = record { rest = []; whole = sym sending.part ∙ sym (append-nil sending.gone) };
+    begun = λ none. sym sending.part ∙ none;
+    takes = takes;
+    listed = r.reads.pushes;
+    broken = refl;
+  }
+
+  took_all : i'.received ≡ r.rest → TookSome bytes i.limits (pushes_in r.values)
+  took_all left = record { values = r.values; taken = rw left r.reads.prefix; listed = all refl }
+
+  took_but_last : FollowsPush i.limits r.rest i'.received → TookSome bytes i.limits (pushes_in r.values)
+  took_but_last p = record {
+    values = r.values ++ p.push ∷ [];
+    taken = reads_both i.limits bytes.incoming r.rest i'.received r.values (p.push ∷ []) r.reads.prefix (reads_one i.limits r.rest i'.received p.push p.prefix);
+    listed = all_but_last r.values p.push refl p.is_push refl;
+  }
+
+  missed : {A : Type 0} (answers : List Value → Type 0) → StopsReceiving (length (replies_in r.values) < n) i i' r.rest e → ExchangeOf {A = A} bytes old new q n (Err e) answers
+  missed answers (malformed f few is bad same) = connection.malformed (record {
+    frame_fault = f;
+    pushes = pushes_in r.values;
+    sent = sent_whole i i' k k' b true q _ _ sending;
+    takes = taken_fault n i i' e r few f bad;
+    listed = r.reads.pushes;
+    broken = refl;
+    no_failure = record { source = same; sink = sending.failures };
+    answer = ap Err is;
+  })
+  missed answers (early_end few is incomplete end same) = connection.early_end (record {
+    pushes = pushes_in r.values;
+    sent = sent_whole i i' k k' b true q _ _ sending;
+    takes = taken_early n i i' e r few incomplete;
+    end = end;
+    listed = r.reads.pushes;
+    broken = refl;
+    no_failure = record { source = same; sink = sending.failures };
+    answer = ap Err is;
+  })
+  missed answers (source_failed kind few is awaits left counted) = connection.source_failed (record {
+    pushes = pushes_in r.values;
+    sent = sent_whole i i' k k' b true q _ _ sending;
+    takes = too_few few awaits left;
+    listed = r.reads.pushes;
+    broken = refl;
+    counted = counted;
+    sink = sending.failures;
+    answer = rw is tt;
+  })
+  missed answers (out_of_memory is left same) = connection.out_of_memory (record {
+    answer = ap Err is;
+    no_failure = record { source = same; sink = sending.failures };
+    left = inr (midway (took_all left));
+  })
+  missed answers (no_room is push same) = connection.out_of_memory (record {
+    answer = ap Err is;
+    no_failure = record { source = same; sink = sending.failures };
+    left = inr (midway (took_but_last push));
+  })
+
 pub unanswered : {A : Type 0} (i i' : Inflow) (k k' : Sink) (b : Bool) (q : List ℕ) (n : ℕ) (e : RedisError) (answers : List Value → Type 0) →
     SendsAll k k' q (Ok tt) → CannotReceive n i i' e → Exchanges {A = A} (connection_of i k b) (connection_of i' k' true) q n (Err e) answers
 unanswered i i' k k' b q n e answers sending r = record {
-  same = same_kind i i' k k' b true (λ t. r.observable (r.on.observable t)) (r.limits ∙ r.on.limits) sending.observable;
-  exchange = missed i i' k k' b q n e answers sending r r.stops;
+  same = same_kind i i' k k' b true r.reads.limits;
+  exchange = record {
+    arrived = r.reads.arrived;
+    gone = sending.gone;
+    moves = moves i i' k k' b true r.reads.arrived r.reads.came r.reads.to_come sending;
+    needed = r.reads.needed;
+    of = missed i i' k k' b q n e sending r answers r.stops;
+  };
+}
+
+-- the call of a command that isn't refused
+pub commanded : {A : Type 0} (old new : Connection) (c : Command) (q : List ℕ) (n : ℕ) (r : Result A RedisError) (answers : List Value → Type 0) → old.broken ≡ false → (c.args ≡ [] → ⊥) → q ≡ packed c.args → n ≡ needed c →
+    Exchanges old new q n r answers → Call old new (c.args ≡ []) (packed c.args) (needed c) r answers
+commanded old new c q n r answers works some is count h = record {
+  same = h.same;
+  when_broken = λ b. absurd (let k : true ≡ false = sym b ∙ works in cc);
+  when_empty = λ _ none. absurd (some none);
+  otherwise = λ _ _. rw (is, count) at h.exchange;
 }

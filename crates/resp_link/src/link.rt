@@ -5,8 +5,8 @@ ghost use Rattle.std.specs.Prelude.{if◌then◌else◌};
 ghost use Rattle.resp_parse.specs.State.{IsBetweenValues, IsBetweenValues-prop};
 ghost use Rattle.resp_parse.specs.Limits.{AreLimits, RefusesLimits, IsDepthLimit, of_depth, usual};
 ghost use Rattle.resp_parse.specs.Limits.{depth_refused};
-ghost use Rattle.resp_parse.specs.Source.{source_of};
-ghost use Rattle.resp_link.specs.Sink.{sink_of};
+ghost use Rattle.resp_parse.specs.Source.{fresh_source};
+ghost use Rattle.resp_link.specs.Sink.{fresh_sink};
 ghost use Rattle.resp_command.specs.Call.{AnswersReply, AnswersFrom, broken_link, no_command};
 ghost use Rattle.resp_link.specs.Receiving.{unread};
 ghost use Rattle.resp_link.specs.Linking.{BetweenUnless, Exchanges, connection_of};
@@ -58,8 +58,8 @@ impl<R: Read, W: Write> ByteLink<Reading<R>, Writing<W>> {
     /// A link over a reader and a writer. Replies are read within [`Limits::default`].
     pub fn new(alloc: Global, reader: R, writer: W) -> ByteLink<Reading<R>, Writing<W>>
         ensures { ⟦<ByteLink<Reading<R>, Writing<W>> as ConnectionLike>⟧.connection result
-            ≡ connection_of (unread usual (source_of (R.remaining reader) 0))
-            (sink_of (W.contents writer) false 0) false }
+            ≡ connection_of (unread usual (fresh_source (R.remaining reader)))
+            (fresh_sink (W.contents writer)) false }
     {
         ByteLink::over(alloc, Reading::new(reader), Writing::new(writer))
     }
@@ -77,8 +77,8 @@ impl<R: Read + Drop, W: Write + Drop> ByteLink<Reading<R>, Writing<W>> {
         ensures accepts { IsOk result ↔ AreLimits limits }
         ensures made { IfOk result (λ link.
             ⟦<ByteLink<Reading<R>, Writing<W>> as ConnectionLike>⟧.connection link
-            ≡ connection_of (unread limits (source_of (R.remaining reader) 0))
-            (sink_of (W.contents writer) false 0) false) }
+            ≡ connection_of (unread limits (fresh_source (R.remaining reader)))
+            (fresh_sink (W.contents writer)) false) }
         ensures error { IfErr result (RefusesLimits limits) }
     {
         ByteLink::over_with_limits(alloc, Reading::new(reader), Writing::new(writer), limits)
@@ -95,8 +95,8 @@ impl<R: Read + Drop, W: Write + Drop> ByteLink<Reading<R>, Writing<W>> {
         ensures accepts { IsOk result ↔ IsDepthLimit limit }
         ensures made { IfOk result (λ link.
             ⟦<ByteLink<Reading<R>, Writing<W>> as ConnectionLike>⟧.connection link
-            ≡ connection_of (unread (of_depth limit) (source_of (R.remaining reader) 0))
-            (sink_of (W.contents writer) false 0) false) }
+            ≡ connection_of (unread (of_depth limit) (fresh_source (R.remaining reader)))
+            (fresh_sink (W.contents writer)) false) }
         ensures error { IfErr result (λ e. e ≡ depth_refused) }
     {
         ByteLink::over_with_depth_limit(alloc, Reading::new(reader), Writing::new(writer), limit)

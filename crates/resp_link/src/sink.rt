@@ -6,8 +6,8 @@ use resp_value::IoKind;
 
 /// A place to send bytes to.
 pub trait CommandSink {
-    /// What is known of it: whether it is observable, the bytes sent so far, whether some of them
-    /// may wait to be flushed, and how many calls have failed.
+    /// What is known of it: all bytes that it said it took, those that it holds where it tells them,
+    /// whether some of them may wait to be flushed, and how many calls have failed.
     ghost sink: { Self → Sink };
 
     /// Sends a prefix of the bytes, at least one of any, and answers how many. An `Err` sends

@@ -2,19 +2,22 @@
 
 ghost use Rattle.std.specs.Prelude.{◌≡◌, ◌+◌, ◌-◌, ◌^◌, min, false, length};
 ghost use Rattle.resp_parse.specs.Source.{FailureCounted};
-ghost use Rattle.resp_link.specs.Sink.{sink_of};
+ghost use Rattle.resp_link.specs.Sink.{fresh_sink};
 
 use crate::sink::CommandSink;
+use resp_parse::History;
 use resp_value::IoKind;
 use std::io::Write;
 
 /// Any writer as a [`CommandSink`].
 ///
-/// It counts the failures of the writer, and is observable where the writer's bytes are known, as
-/// over memory. A write of nothing is the fault `WriteZero`.
+/// It counts the failures of the writer. Contracts see all bytes that it took, whichever writer it
+/// is, and those that it holds where the writer tells them, as memory does. A write of nothing is the
+/// fault `WriteZero`.
 #[derive(Drop)]
 pub struct Writing<W> {
     writer: W,
+    sent: History,
     unflushed: bool,
     failures: u64,
 }
@@ -22,10 +25,11 @@ pub struct Writing<W> {
 impl<W: Write> Writing<W> {
     /// A sink over a writer, with no failures so far.
     pub fn new(writer: W) -> Writing<W>
-        ensures { ⟦<Writing<W> as CommandSink>⟧.sink result ≡ sink_of (W.contents writer) false 0 }
+        ensures { ⟦<Writing<W> as CommandSink>⟧.sink result ≡ fresh_sink (W.contents writer) }
     {
         Writing {
             writer,
+            sent: History::new(),
             unflushed: false,
             failures: 0,
         }
@@ -33,11 +37,11 @@ impl<W: Write> Writing<W> {
 
     /// The writer, by move.
     pub fn into_inner(self) -> W
-        ensures { (⟦<Writing<W> as CommandSink>⟧.sink self).bytes
-            ≡ (sink_of (W.contents result) false 0).bytes }
+        ensures holds { W.contents result ≡ (⟦<Writing<W> as CommandSink>⟧.sink self).holds }
     {
         let Writing {
             writer,
+            sent: _,
             unflushed: _,
             failures: _,
         } = self;
@@ -46,7 +50,12 @@ impl<W: Write> Writing<W> {
 }
 
 impl<W: Write> CommandSink for Writing<W> {
-    ghost sink = { λ s. sink_of (W.contents s.writer) s.unflushed s.failures };
+    ghost sink = { λ s. record {
+      sent = s.sent;
+      holds = W.contents s.writer;
+      unflushed = s.unflushed;
+      failures = s.failures;
+    } };
 
     fn send(&mut self, bytes: &[u8]) -> Result<usize, IoKind> {
         self.unflushed = true;
@@ -56,6 +65,7 @@ impl<W: Write> CommandSink for Writing<W> {
                     count_failure(&mut self.failures);
                     return Err(IoKind::WriteZero);
                 }
+                self.sent.append(&bytes[..n]);
                 Ok(n)
             }
             Err(error) => {

@@ -1,6 +1,6 @@
 //! A body whose bytes come in pieces.
 
-use crate::seen_bytes::SeenBytes;
+use crate::history::History;
 use crate::shape::BodyKind;
 
 /// A body whose bytes and CR LF aren't all there.
@@ -12,5 +12,5 @@ pub(crate) struct Body {
     /// Where its bytes begin in the text of a flat reply.
     pub(crate) start: usize,
     /// Which bytes it has.
-    pub(crate) seen: SeenBytes,
+    pub(crate) seen: History,
 }

@@ -13,11 +13,11 @@ ghost use Rattle.resp_parse.specs.Resume.{FillsBody};
 ghost use Rattle.resp_parse.specs.Costs.{Iterations};
 
 use crate::body::Body;
+use crate::history::History;
 use crate::open_aggregates::OpenAggregate;
 use crate::parser::Counter;
 use crate::read_error::ReadError;
 use crate::seen::{SeenValue, SeenValues};
-use crate::seen_bytes::SeenBytes;
 use crate::shape::{BodyKind, ElementsKind};
 use crate::value_of::simple_of;
 use crate::whole::Whole;
@@ -157,7 +157,7 @@ impl Builder {
             kind,
             missing,
             start: self.reply.text.len(),
-            seen: SeenBytes::new(),
+            seen: History::new(),
         })
     }
 

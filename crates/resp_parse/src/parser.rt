@@ -14,11 +14,11 @@ ghost use Rattle.resp_parse.specs.Bounds.{Bounded, FedBy, OneCall, CallsWithin, 
 ghost use Rattle.resp_parse.specs.Counts.{nothing_done};
 
 use crate::form::Form;
+use crate::history::History;
 use crate::limits::{LONGEST, Limits};
 use crate::machine::Machine;
 use crate::read_error::ReadError;
 use crate::reader_source::Reading;
-use crate::seen_bytes::SeenBytes;
 use crate::source::ReplySource;
 use resp_flat::FlatReply;
 use resp_value::{FrameFault, IoKind, ParsingError, RedisError, RedisResult, Value};
@@ -67,7 +67,7 @@ pub struct Parser {
     failed: bool,
     /// How many bytes since the last value show the fault that was answered.
     fault_offset: Option<usize>,
-    since: SeenBytes,
+    since: History,
     counts: Counter,
 }
 
@@ -193,7 +193,7 @@ impl Parser {
             machine: Machine::new(alloc, limits.depth),
             failed: false,
             fault_offset: None,
-            since: SeenBytes::new(),
+            since: History::new(),
             counts: Counter::new(),
         }
     }

@@ -3,7 +3,7 @@
 ghost use Rattle.std.specs.Prelude.{◌≡◌, ◌+◌, ◌-◌, ◌^◌, min, []};
 ghost use Rattle.resp_parse.specs.Source.{fresh_source, FailureCounted};
 
-use crate::seen_bytes::SeenBytes;
+use crate::history::History;
 use crate::source::ReplySource;
 use resp_value::IoKind;
 use std::io::Read;
@@ -15,7 +15,7 @@ use std::io::Read;
 #[derive(Drop)]
 pub struct Reading<R> {
     reader: R,
-    came: SeenBytes,
+    came: History,
     failures: u64,
 }
 
@@ -27,7 +27,7 @@ impl<R: Read> Reading<R> {
     {
         Reading {
             reader,
-            came: SeenBytes::new(),
+            came: History::new(),
             failures: 0,
         }
     }

@@ -8,7 +8,7 @@ ghost use Rattle.resp_value.specs.contracts.value.Value as value;
 ghost use Rattle.resp_parse.specs.Grammar.{simple};
 ghost use Rattle.resp_parse.specs.Shapes.{made_of};
 
-use crate::seen_bytes::SeenBytes;
+use crate::history::History;
 use crate::shape::ElementsKind;
 use resp_value::Value;
 use std::marker::{Model, PhantomData};
@@ -83,7 +83,7 @@ impl Shows<&str> for OfText {
 /// The bulk string of these bytes.
 struct OfBytes;
 
-impl Shows<SeenBytes> for OfBytes {
+impl Shows<History> for OfBytes {
     ghost use Rattle.std.specs.Prelude.{◌∷◌, []};
     ghost use Rattle.resp_value.specs.declared.value.Value.{BulkString};
 
@@ -120,11 +120,11 @@ impl SeenValue {
     }
 
     /// The bulk string of these bytes.
-    pub(crate) fn bulk(bytes: &SeenBytes) -> SeenValue
+    pub(crate) fn bulk(bytes: &History) -> SeenValue
         ensures { result ≡ BulkString bytes.now }
     {
         SeenValue {
-            seen: Seen::of::<SeenBytes, OfBytes>(bytes),
+            seen: Seen::of::<History, OfBytes>(bytes),
         }
     }
 

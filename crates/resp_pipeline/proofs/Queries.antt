@@ -1,40 +1,43 @@
 -- What a pipeline's query answers, by what the connection's call answers.
-use Rattle.std.proofs.Common.{◌≡◌, ℕ, ◌+◌, inl, inr, true, false, List, Result, Ok, Err, refl, sym, ap, ◌∙◌, subst, arith}
+use Rattle.std.proofs.Common.{◌≡◌, ℕ, ◌+◌, inl, inr, true, false, List, ◌++◌, Result, Ok, Err, refl, sym, ap, ◌∙◌, subst, arith}
 use Rattle.resp_value.specs.declared.value.Value.{Value}
 use Rattle.resp_errors.specs.declared.redis_error.RedisError.{RedisError}
 use Rattle.resp_errors.specs.declared.redis_error.RedisError.TheVariants.{OutOfMemory}
 use Rattle.resp_command.specs.Call.{Call, AnswersFrom}
-use Rattle.resp_command.specs.Connection.{Connection, incoming, out_of_memory}
+use Rattle.resp_command.specs.Connection.{Connection, SameKind, out_of_memory}
 use Rattle.resp_command.proofs.OneTaking.{takes_one_thing}
-use Rattle.resp_command.proofs.Queries.{call_err, call_ok}
+use Rattle.resp_command.proofs.Queries.{call_err, call_ok, nothing_done}
 use Rattle.resp_pipeline.specs.Outcome.{Outcome}
 use Rattle.resp_pipeline.specs.Pipeline.{Plan, request, replies_needed}
 use Rattle.resp_pipeline.specs.PipelineQuery.{PipelineQuery, no_pipelining}
 use Rattle.resp_pipeline.proofs.Requests.{pipeline_reads_only}
 
-module _ {X : Type 0} (old new : Connection) (p : Plan) (Of : Value → X → Type 0) where
-  pub unsupported : old.pipelines ≡ false → new ≡ old → PipelineQuery old new p Of (Err no_pipelining)
-  unsupported alone same = record {
+module _ {X : Type 0} (old new : Connection) (p : Plan) (Of : Value → X → Type 0) (same : new ≡ old) where
+  same_kind : SameKind old new
+  same_kind = record { pipelines = ap (λ (c : Connection). c.pipelines) same; limits = ap (λ (c : Connection). c.limits) same; read_size = ap (λ (c : Connection). c.read_size) same }
+
+  pub unsupported : old.pipelines ≡ false → PipelineQuery old new p Of (Err no_pipelining)
+  unsupported alone = record {
     reads_only = pipeline_reads_only p;
-    takes_one = takes_one_thing old.limits (replies_needed p) (incoming old);
-    same = record { observable = λ t. ap (λ (c : Connection). c.observable) same ∙ t; pipelines = ap (λ (c : Connection). c.pipelines) same; limits = ap (λ (c : Connection). c.limits) same };
+    takes_one = λ arrived. takes_one_thing old.limits (replies_needed p) (old.received ++ arrived);
+    same = same_kind;
     unsupported = λ _. record { answer = refl; same = same };
     when_broken = λ t _. absurd (let k : true ≡ false = sym t ∙ alone in cc);
     otherwise = λ t _. absurd (let k : true ≡ false = sym t ∙ alone in cc);
   }
 
-  pub not_packed : old.pipelines ≡ true → new ≡ old → PipelineQuery old new p Of (Err OutOfMemory)
-  not_packed several same = record {
+  pub not_packed : old.pipelines ≡ true → PipelineQuery old new p Of (Err OutOfMemory)
+  not_packed several = record {
     reads_only = pipeline_reads_only p;
-    takes_one = takes_one_thing old.limits (replies_needed p) (incoming old);
-    same = record { observable = λ t. ap (λ (c : Connection). c.observable) same ∙ t; pipelines = ap (λ (c : Connection). c.pipelines) same; limits = ap (λ (c : Connection). c.limits) same };
+    takes_one = λ arrived. takes_one_thing old.limits (replies_needed p) (old.received ++ arrived);
+    same = same_kind;
     unsupported = λ t. absurd (let k : true ≡ false = sym several ∙ t in cc);
     when_broken = λ _ _. inr (record { answer = refl; same = same });
-    otherwise = λ _ _. out_of_memory (record {
+    otherwise = λ _ _. nothing_done same (out_of_memory (record {
       answer = refl;
       no_failure = record { source = ap (λ (c : Connection). c.source_failures) same; sink = ap (λ (c : Connection). c.sink_failures) same };
       left = inl same;
-    });
+    }));
   }
 
 -- what the connection's call was asked, and what it answered
@@ -48,7 +51,7 @@ module _ {X V : Type 0} (items : V → List Value) (old new : Connection) (p : P
       let call = call_err {A = V} {B = X} old new (request p) (replies_needed p) (AnswersFrom items 0 (Err e)) (Outcome p Of (Err e)) ⊥ e (λ replies k. k) (rw is at asked) in
       record {
         reads_only = pipeline_reads_only p;
-        takes_one = takes_one_thing old.limits (replies_needed p) (incoming old);
+        takes_one = λ arrived. takes_one_thing old.limits (replies_needed p) (old.received ++ arrived);
         same = h.same;
         unsupported = λ t. absurd (let k : true ≡ false = sym several ∙ t in cc);
         when_broken = λ _ b. inl (call.when_broken b);
@@ -61,7 +64,7 @@ module _ {X V : Type 0} (items : V → List Value) (old new : Connection) (p : P
       (λ replies len all. subst (λ (vs : List Value). Outcome p Of r vs) all answer) (rw is at asked) in
       record {
         reads_only = pipeline_reads_only p;
-        takes_one = takes_one_thing old.limits (replies_needed p) (incoming old);
+        takes_one = λ arrived. takes_one_thing old.limits (replies_needed p) (old.received ++ arrived);
         same = h.same;
         unsupported = λ t. absurd (let k : true ≡ false = sym several ∙ t in cc);
         when_broken = λ _ b. inl (call.when_broken b);

@@ -1,11 +1,11 @@
 -- What the query of a pipeline over a connection does: its theorem.
-use Rattle.std.specs.Prelude.{◌≡◌, ◌⊎◌, true, false, Result, None, codes}
+use Rattle.std.specs.Prelude.{◌≡◌, ◌⊎◌, ℕ, true, false, List, ◌++◌, Result, None, codes}
 use Rattle.resp_value.specs.declared.value.Value.{Value}
 use Rattle.resp_errors.specs.declared.kinds.ErrorKind.TheVariants as kind
 use Rattle.resp_errors.specs.declared.redis_error.RedisError.{RedisError}
 use Rattle.resp_errors.specs.declared.redis_error.RedisError.TheVariants.{General, OutOfMemory}
 use Rattle.resp_command.specs.Call.{Refuses, broken_link}
-use Rattle.resp_command.specs.Connection.{Connection, incoming, SameKind, Exchange}
+use Rattle.resp_command.specs.Connection.{Connection, SameKind, Exchange}
 use Rattle.resp_pipeline.specs.Outcome.{Outcome}
 use Rattle.resp_pipeline.specs.Pipeline.{Plan, request, replies_needed}
 use Rattle.resp_pipeline.specs.PipelineLaw.{LawOfPipelines}
@@ -16,12 +16,12 @@ abbrev pub no_pipelining : RedisError
 no_pipelining = General kind.Client (codes "This connection does not support pipelining.") None
 
 -- a pipeline over a connection: it writes its request, which the grammar reads only as its
--- commands; it takes as replies the only thing that these take from the incoming bytes; it keeps
+-- commands; whatever bytes arrive, its replies take one thing from them and those before; it keeps
 -- every later byte; and it answers what the replies, a fault, an early end or a failure determine
 pub record PipelineQuery {X : Type 0} (old new : Connection) (p : Plan)
     (of_value : Value → X → Type 0) (result : Result X RedisError) : Type 0 where
   pub reads_only : LawOfPipelines p
-  pub takes_one : TakesOneThing old.limits (replies_needed p) (incoming old)
+  pub takes_one : (arrived : List ℕ) → TakesOneThing old.limits (replies_needed p) (old.received ++ arrived)
   pub same : SameKind old new
   pub unsupported : old.pipelines ≡ false → Refuses old new no_pipelining result
   -- memory may run out while the request is built

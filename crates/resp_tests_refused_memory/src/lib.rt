@@ -30,8 +30,6 @@ mod heap;
 #[cfg(test)]
 mod links;
 #[cfg(test)]
-mod lost_replies;
-#[cfg(test)]
 mod made;
 #[cfg(test)]
 mod no_memory;

@@ -9,7 +9,7 @@ use crate::made::get;
 use crate::subjects::Subject;
 use resp_core::{
     ArgList, ArgWriter, Boxed, ByteLink, Bytes, Cmd, CommandSink, ConnectionLike, Fields,
-    FlatReply, FlatValue, FromRedisValue, InfoDict, IntegerReplyOrNoOp, Items, Limits,
+    FlatReply, FlatValue, FromRedisValue, History, InfoDict, IntegerReplyOrNoOp, Items, Limits,
     NumericBehavior, Parser, Pipeline, ProtocolVersion, PushKind, Reading, RedisWrite, ReplySource,
     Text, ToRedisArgs, TokenKind, Value, ValueType, VerbatimFormat, Writing, from_redis_value,
     from_redis_value_ref, get_push_kind, is_double_text, is_valid_16_bytes_hex_digest,
@@ -51,6 +51,14 @@ fn cleared_commands(rt: HostRuntime) {
     taken.set_cursor(7);
     taken.clear();
     assert!(rt; taken.is_empty() && Cmd::new(rt.alloc()).is_empty());
+    took_none(&rt);
+}
+
+#[test]
+fn histories(rt: HostRuntime) {
+    refuse_all(rt.alloc());
+    let mut came = History::new();
+    came.append(b"+OK");
     took_none(&rt);
 }
 

@@ -1,6 +1,6 @@
 //! One request and its reply, handed on.
 
-ghost use Rattle.std.specs.Prelude.{◌≡◌, ◌++◌, OnOk, true};
+ghost use Rattle.std.specs.Prelude.{◌≡◌, ◌++◌, OnOk};
 ghost use Rattle.resp_core.specs.Connections.{PackedCall};
 ghost use Rattle.example_snippets.specs.Relayed.{Relays};
 
@@ -14,8 +14,8 @@ use resp_encode::encode;
 pub fn forward(upstream: &mut dyn ConnectionLike, request: &[u8]) -> Reply
     ensures call { PackedCall (connection upstream.old) (connection upstream.new) request.now
         result }
-    ensures sent { OnOk result ((connection upstream.old).observable ≡ true →
-        (connection upstream.new).sent ≡ (connection upstream.old).sent ++ request.now) }
+    ensures sent { OnOk result
+        ((connection upstream.new).sent ≡ (connection upstream.old).sent ++ request.now) }
 {
     upstream.req_packed_command(request)
 }

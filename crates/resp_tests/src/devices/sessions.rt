@@ -215,9 +215,9 @@ struct WornOut {
 }
 
 impl ReplySource for WornOut {
-    ghost use Rattle.std.specs.Prelude.{false, []};
+    ghost use Rattle.std.specs.Prelude.{None, []};
 
-    ghost source = { λ s. record { observable = false; bytes = []; failures = s.failures } };
+    ghost source = { λ s. record { came = []; to_come = None; failures = s.failures } };
 
     fn fill(&mut self, _buf: &mut [u8]) -> Result<usize, IoKind> {
         self.failures = self.failures.saturating_add(1);

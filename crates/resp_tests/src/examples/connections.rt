@@ -2,20 +2,22 @@
 //! that is counted.
 
 use crate::checks::{Test, assert_answer, assert_text, reply};
-use crate::testing::{bytes_text, pipeline};
-use example_snippets::replies::{Counted, Stored, count_call, visit_between, visit_over, visits};
-use resp_core::{Cmd, ConnectionLike, ErrorKind, RedisError, RedisResult, Value};
-use std::collections::VecDeque;
+use crate::testing::{MemoryLink, bytes_text, pipeline};
+use example_snippets::replies;
+use example_snippets::replies::{Counted, InPieces, count_call, visit_between, visit_over, visits};
+use resp_core::{
+    ByteLink, Cmd, ConnectionLike, ErrorKind, RedisError, RedisResult, Value, Writing,
+};
 use std::io::Cursor;
 
-/// A connection that will answer these replies.
-pub fn stored(rt: &impl Test, replies: &[&str]) -> Stored {
-    let mut values = VecDeque::new(rt.alloc());
+/// A link that is answered these replies.
+pub fn stored(rt: &impl Test, replies: &[&str]) -> MemoryLink {
+    let mut values = Vec::new(rt.alloc());
     for bytes in replies {
         let value = reply(rt, bytes.as_bytes());
-        values.push_back(value).expect(rt, "memory");
+        values.push(value).expect(rt, "memory");
     }
-    Stored::new(values)
+    replies::stored(rt.alloc(), values.as_slice()).expect(rt, "memory")
 }
 
 /// Takes one command at a time, counts its requests, and runs out of memory at each.
@@ -26,9 +28,9 @@ struct OneByOne {
 
 impl ConnectionLike for OneByOne {
     ghost use Rattle.std.specs.Prelude.{false};
-    ghost use Rattle.resp_core.specs.Connections.{unobservable};
+    ghost use Rattle.resp_core.specs.Connections.{idle};
 
-    ghost connection = { λ c. unobservable false };
+    ghost connection = { λ c. idle false };
 
     fn req_command(&mut self, cmd: &Cmd) -> RedisResult<Value> {
         self.requests = self.requests.saturating_add(1);
@@ -103,6 +105,16 @@ fn a_connection_without_pipelining_is_not_asked(rt: HostRuntime) {
     let packed = con.req_packed_commands(b"x", 0, 2);
     assert_answer(&rt, packed, "out of memory");
     assert_eq!(rt; con.requests, 1);
+}
+
+#[test]
+fn visits_over_a_source_of_ones_own(rt: HostRuntime) {
+    for (size, wanted) in [(1, "7"), (2, "7"), (99, "7"), (0, "UnexpectedEof")] {
+        let bytes = Vec::from_slice(rt.alloc(), b":7\r\n").expect(&rt, "memory");
+        let sink = Writing::new(Vec::new(rt.alloc()));
+        let mut con = ByteLink::over(rt.alloc(), InPieces::new(bytes, size), sink);
+        assert_visit(&rt, &mut con, wanted);
+    }
 }
 
 #[test]

@@ -3,8 +3,8 @@
 
 use crate::checks::{Test, assert_answer, link};
 use crate::examples::connections::stored;
-use crate::testing::{command, pipeline};
-use example_snippets::replies::{Stored, visits_when_ready};
+use crate::testing::{MemoryLink, command, pipeline};
+use example_snippets::replies::visits_when_ready;
 use resp_core::{Cmd, Pipeline, RedisError, RetryMethod, retrying};
 
 const LOADING: &str = "-LOADING Redis is loading the dataset in memory\r\n";
@@ -14,7 +14,7 @@ fn asks_to_wait(error: &RedisError) -> bool {
 }
 
 /// The number that a command gives over the connection, with this budget, is this.
-fn number_is(rt: &impl Test, con: &mut Stored, budget: u64, command: &Cmd, wanted: &str) {
+fn number_is(rt: &impl Test, con: &mut MemoryLink, budget: u64, command: &Cmd, wanted: &str) {
     let number = retrying::<i64, Cmd, _>(con, budget, command, &mut asks_to_wait);
     assert_answer(rt, number, wanted);
 }

@@ -1,4 +1,4 @@
-use Rattle.std.proofs.Common.{rules, ◌≡◌}
+use Rattle.std.proofs.Common.{rules, refl, ◌≡◌}
 use Rattle.std.proofs.lemmas.Result.{err_from_is_err_and}
 use Rattle.resp_command.proofs.Values.{as_push-Push}
 use Rattle.resp_link.proofs.Receiving.{only_pushes_none, only_pushes_more, received_one, received_none, no_room, stands_since}
@@ -13,7 +13,7 @@ returns-in_err-reply-clause-reply g c =
     let at = c.loop-kind.self in
     let p = err_from_is_err_and c.from_residual.result c.from_residual.ensures.1 in
     rw (p.1, p.2) (received_none _ (source at.source) _ at.parser c.parse_from.new.self _ _ c.loop-kind.invariant.only
-    c.parse_from.ensures.observable c.parse_from.ensures.limits (rw c.in_err-reply.was at c.parse_from.ensures.parses at.parser.since (stands_since at.parser c.loop-kind.invariant.rest)))
+    c.parse_from.ensures.limits (rw c.in_err-reply.was at c.parse_from.ensures.parses at.parser.since (stands_since at.parser c.loop-kind.invariant.rest)))
 
 pub returns-in_err-push-in-Push-clause-reply : goal.returns-in_err-push-in-Push-clause-reply
 returns-in_err-push-in-Push-clause-reply g c =
@@ -23,7 +23,7 @@ returns-in_err-push-in-Push-clause-reply g c =
     let parsed = rw c.in_ok-reply.was at c.parse_from.ensures.parses at.parser.since (stands_since at.parser c.loop-kind.invariant.rest) in
     let same : c.push.new.self.items ≡ at.pushes.items = search rules in
     rw (p.1, p.2, same) (no_room _ (source at.source) _ at.parser c.parse_from.new.self _ c.in_ok-reply.reply (record { kind = c.in-Push.kind; payload = c.in-Push.payload }) c.loop-kind.invariant.only
-    c.parse_from.ensures.observable c.parse_from.ensures.limits parsed (rw c.in-Push.is (as_push-Push _ _)))
+    c.parse_from.ensures.limits parsed (rw c.in-Push.is (as_push-Push _ _)))
 
 pub loop-kind-preserved : goal.loop-kind-preserved
 loop-kind-preserved g c =
@@ -32,8 +32,8 @@ loop-kind-preserved g c =
     let parsed = rw c.in_ok-reply.was at c.parse_from.ensures.parses at.parser.since (stands_since at.parser c.loop-kind.invariant.rest) in
     record {
       rest = parsed.rest;
-      only = only_pushes_more _ (source at.source) _ at.parser c.parse_from.new.self _ _ c.in_ok-reply.reply (record { kind = c.in-Push.kind; payload = c.in-Push.payload }) c.loop-kind.invariant.only
-          c.parse_from.ensures.observable c.parse_from.ensures.limits parsed (rw c.in-Push.is (as_push-Push _ _)) (search rules);
+      only = only_pushes_more _ (source at.source) _ at.parser c.parse_from.new.self _ _ c.in_ok-reply.reply c.loop-kind.invariant.only
+          c.parse_from.ensures.limits parsed (record { kind = c.in-Push.kind; payload = c.in-Push.payload }) (rw c.in-Push.is (as_push-Push _ _)) (search rules);
     }
 
 pub returns-in_default : goal.returns-in_default
@@ -42,7 +42,7 @@ returns-in_default g c =
     let at = c.loop-kind.self in
     let parsed = rw c.in_ok-reply.was at c.parse_from.ensures.parses at.parser.since (stands_since at.parser c.loop-kind.invariant.rest) in
     record {
-      reply = received_one _ (source at.source) _ at.parser c.parse_from.new.self _ c.in_ok-reply.reply c.loop-kind.invariant.only
-          c.parse_from.ensures.observable c.parse_from.ensures.limits parsed (search rules);
+      reply = received_one _ (source at.source) _ at.parser c.parse_from.new.self at.pushes.items at.pushes.items c.in_ok-reply.reply c.loop-kind.invariant.only
+          c.parse_from.ensures.limits parsed (search rules) refl;
       rest = parsed.rest;
     }

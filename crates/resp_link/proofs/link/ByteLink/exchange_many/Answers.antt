@@ -1,8 +1,13 @@
 use Rattle.std.proofs.Common.{arith, ◌++◌, []}
 use Rattle.std.proofs.lemmas.Result.{err_from_is_err_and}
 use Rattle.resp_link.proofs.Receiving.{receives_none, receives_both, cannot_receive_after, kept_after}
-use Rattle.resp_link.proofs.LinkExchanges.{replied, unanswered}
+use Rattle.resp_link.proofs.LinkExchanges.{unsent, replied, unanswered}
 use Rattle.resp_link.proofs.link.ByteLink.exchange_many.Goals as goal
+
+pub returns-in_err-send_all-clause-exchanged : goal.returns-in_err-send_all-clause-exchanged
+returns-in_err-send_all-clause-exchanged g c =
+    let p = err_from_is_err_and c.from_residual.result c.from_residual.ensures.1 in
+    rw (p.1, p.2) (unsent _ _ _ _ _ _ _ _ (rw c.in_err-send_all.was at c.send_all.ensures))
 
 pub returns-in_err-skip_replies-clause-exchanged : goal.returns-in_err-skip_replies-clause-exchanged
 returns-in_err-skip_replies-clause-exchanged g c =

@@ -1,7 +1,12 @@
 use Rattle.std.proofs.Common.{refl}
 use Rattle.std.proofs.lemmas.Result.{err_from_is_err_and}
-use Rattle.resp_link.proofs.LinkExchanges.{replied, unanswered}
+use Rattle.resp_link.proofs.LinkExchanges.{unsent, replied, unanswered}
 use Rattle.resp_link.proofs.link.ByteLink.exchange_one.Goals as goal
+
+pub returns-in_err-send_all : goal.returns-in_err-send_all
+returns-in_err-send_all g c =
+    let p = err_from_is_err_and c.from_residual.result c.from_residual.ensures.1 in
+    record { exchanged = rw (p.1, p.2) (unsent _ _ _ _ _ 1 _ _ (rw c.in_err-send_all.was at c.send_all.ensures)) }
 
 pub returns-in_err-reply : goal.returns-in_err-reply
 returns-in_err-reply g c =

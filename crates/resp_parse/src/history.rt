@@ -6,13 +6,15 @@ use boxcar::tag::{Names, Tag};
 use std::marker::Model;
 use std::mem;
 
-/// Bytes that came. It takes no memory and no time: contracts alone see it.
+/// All bytes that came or went so far. It takes no memory and no time: contracts alone see it.
+///
+/// A source, a sink or a connection of one's own keeps the history of its bytes in one.
 #[derive(Drop)]
-pub(crate) struct SeenBytes {
+pub struct History {
     bytes: Tag,
 }
 
-impl Model for SeenBytes {
+impl Model for History {
     ghost use Rattle.std.specs.Prelude.{List, ℕ};
 
     ghost Value = { List ℕ };
@@ -36,18 +38,18 @@ impl Names<&[u8]> for These {
     ghost numbers = { λ bytes. bytes.now };
 }
 
-impl SeenBytes {
+impl History {
     /// No bytes.
-    pub(crate) fn new() -> SeenBytes
+    pub fn new() -> History
         ensures { result ≡ [] }
     {
-        SeenBytes {
+        History {
             bytes: Tag::empty(),
         }
     }
 
-    /// More bytes came.
-    pub(crate) fn append(&mut self, bytes: &[u8])
+    /// These bytes came next.
+    pub fn append(&mut self, bytes: &[u8])
         ensures { self.new ≡ self.old ++ bytes.now }
     {
         let before = mem::replace(&mut self.bytes, Tag::empty());
