@@ -1,7 +1,7 @@
 //! Replies as trees.
 
 ghost use Rattle.std.specs.Prelude.{◌≡◌, IfOk, map, is_some, MatchOption, Ok, Err};
-ghost use Rattle.resp_value.specs.FirstError.{first_error, first_some, first_of_pairs};
+ghost use Rattle.resp_value.specs.FirstError.{first_error, first_some, first_of_pairs, or_else};
 ghost use Rattle.resp_errors.specs.declared.redis_error.RedisError.TheVariants as form;
 ghost use Rattle.resp_value.specs.declared.value.Value.TheVariants as value;
 
@@ -105,34 +105,38 @@ impl Value {
             Value::Nil => Ok(Value::Nil),
             Value::Okay => Ok(Value::Okay),
             Value::Int(n) => Ok(Value::Int(*n)),
-            Value::SimpleString(text) => Ok(Value::SimpleString(text.try_clone(alloc)?)),
+            Value::SimpleString(text) => text.try_clone(alloc).map(Value::SimpleString),
             Value::BulkString(bytes) => {
-                Ok(Value::BulkString(Bytes::from_slice(alloc, bytes.as_slice())?))
+                Bytes::from_slice(alloc, bytes.as_slice()).map(Value::BulkString)
             }
-            Value::Array(elements) => Ok(Value::Array(clone_elements(alloc, elements)?)),
-            Value::Map(pairs) => Ok(Value::Map(clone_pairs(alloc, pairs)?)),
+            Value::Array(elements) => clone_elements(alloc, elements).map(Value::Array),
+            Value::Map(pairs) => clone_pairs(alloc, pairs).map(Value::Map),
             Value::Attribute {
                 payload,
                 attributes,
-            } => Ok(Value::Attribute {
-                payload: Boxed::new(alloc, payload.get().try_clone(alloc)?)?,
-                attributes: clone_pairs(alloc, attributes)?,
-            }),
-            Value::ServerError(error) => Ok(Value::ServerError(error.try_clone(alloc)?)),
-            Value::Boolean(truth) => Ok(Value::Boolean(*truth)),
-            Value::Double(text) => Ok(Value::Double(text.try_clone(alloc)?)),
-            Value::BigNumber(bytes) => {
-                Ok(Value::BigNumber(Bytes::from_slice(alloc, bytes.as_slice())?))
+            } => {
+                let payload = Boxed::new(alloc, payload.get().try_clone(alloc)?)?;
+                clone_pairs(alloc, attributes).map(|attributes| Value::Attribute {
+                    payload,
+                    attributes,
+                })
             }
-            Value::Set(elements) => Ok(Value::Set(clone_elements(alloc, elements)?)),
-            Value::VerbatimString { format, text } => Ok(Value::VerbatimString {
-                format: format.try_clone(alloc)?,
-                text: text.try_clone(alloc)?,
-            }),
-            Value::Push { kind, payload } => Ok(Value::Push {
-                kind: kind.try_clone(alloc)?,
-                payload: clone_elements(alloc, payload)?,
-            }),
+            Value::ServerError(error) => error.try_clone(alloc).map(Value::ServerError),
+            Value::Boolean(truth) => Ok(Value::Boolean(*truth)),
+            Value::Double(text) => text.try_clone(alloc).map(Value::Double),
+            Value::BigNumber(bytes) => {
+                Bytes::from_slice(alloc, bytes.as_slice()).map(Value::BigNumber)
+            }
+            Value::Set(elements) => clone_elements(alloc, elements).map(Value::Set),
+            Value::VerbatimString { format, text } => {
+                let format = format.try_clone(alloc)?;
+                text.try_clone(alloc)
+                    .map(|text| Value::VerbatimString { format, text })
+            }
+            Value::Push { kind, payload } => {
+                let kind = kind.try_clone(alloc)?;
+                clone_elements(alloc, payload).map(|payload| Value::Push { kind, payload })
+            }
         }
     }
 
@@ -233,15 +237,26 @@ fn first_error_in(elements: Items<Value>) -> Option<ServerError>
 fn first_error_in_pairs(pairs: Items<(Value, Value)>) -> Option<ServerError>
     ensures { result ≡ first_of_pairs (map (λ p. (first_error p.0, first_error p.1)) pairs) }
 {
-    for (key, value) in pairs.into_vec() {
-        if key.has_error() {
-            return key.into_first_error();
-        }
-        if value.has_error() {
-            return value.into_first_error();
+    for pair in pairs.into_vec() {
+        if let Some(error) = first_error_in_pair(pair) {
+            return Some(error);
         }
     }
     None
+}
+
+#[cycle(find)]
+fn first_error_in_pair(pair: (Value, Value)) -> Option<ServerError>
+    ensures { result ≡ or_else (first_error pair.0) (first_error pair.1) }
+{
+    let (key, value) = pair;
+    match key.into_first_error() {
+        Some(error) => {
+            drop(value);
+            Some(error)
+        }
+        None => value.into_first_error(),
+    }
 }
 
 #[cycle(clone)]
@@ -264,7 +279,9 @@ fn clone_pairs(
 {
     let mut copies = Items::new(alloc);
     for (key, value) in pairs.as_slice() {
-        copies.push((key.try_clone(alloc)?, value.try_clone(alloc)?))?;
+        let key = key.try_clone(alloc)?;
+        let pair = value.try_clone(alloc).map(|value| (key, value))?;
+        copies.push(pair)?;
     }
     Ok(copies)
 }
@@ -276,10 +293,7 @@ impl fmt::Debug for Value {
             Value::Okay => write!(f, "ok"),
             Value::Int(n) => write!(f, "int({n})"),
             Value::SimpleString(text) => write!(f, "simple-string({text:?})"),
-            Value::BulkString(bytes) => match std::str::from_utf8(bytes.as_slice()) {
-                Ok(text) => write!(f, "bulk-string('{text:?}')"),
-                Err(_) => write!(f, "binary-data({bytes:?})"),
-            },
+            Value::BulkString(bytes) => write_bulk_string(f, bytes),
             Value::Array(elements) => write!(f, "array({elements:?})"),
             Value::Map(pairs) => write!(f, "map({pairs:?})"),
             Value::Attribute { payload, .. } => write!(f, "attribute({payload:?})"),
@@ -293,6 +307,13 @@ impl fmt::Debug for Value {
             }
             Value::Push { kind, payload } => write!(f, "push({kind:?}, {payload:?})"),
         }
+    }
+}
+
+fn write_bulk_string<W: fmt::Write>(f: &mut fmt::Formatter<W>, bytes: &Bytes) -> fmt::Result {
+    match std::str::from_utf8(bytes.as_slice()) {
+        Ok(text) => write!(f, "bulk-string('{text:?}')"),
+        Err(_) => write!(f, "binary-data({bytes:?})"),
     }
 }
 
