@@ -106,8 +106,7 @@ impl Iterator for OwnedMapIter {
             OwnedRest::Entries(entries) => entries.next(),
             OwnedRest::Elements(elements) => {
                 let key = elements.next()?;
-                let value = elements.next()?;
-                Some((key, value))
+                elements.next().map(|value| (key, value))
             }
         }
     }

@@ -289,32 +289,47 @@ fn clone_pairs(
 impl fmt::Debug for Value {
     fn fmt<W: fmt::Write>(&self, f: &mut fmt::Formatter<W>) -> fmt::Result {
         match self {
-            Value::Nil => write!(f, "nil"),
-            Value::Okay => write!(f, "ok"),
-            Value::Int(n) => write!(f, "int({n})"),
-            Value::SimpleString(text) => write!(f, "simple-string({text:?})"),
+            Value::Nil => f.write_str("nil"),
+            Value::Okay => f.write_str("ok"),
+            Value::Int(n) => write_named(f, "int", n),
+            Value::SimpleString(text) => write_named(f, "simple-string", text),
             Value::BulkString(bytes) => write_bulk_string(f, bytes),
-            Value::Array(elements) => write!(f, "array({elements:?})"),
-            Value::Map(pairs) => write!(f, "map({pairs:?})"),
-            Value::Attribute { payload, .. } => write!(f, "attribute({payload:?})"),
+            Value::Array(elements) => write_named(f, "array", elements),
+            Value::Map(pairs) => write_named(f, "map", pairs),
+            Value::Attribute { payload, .. } => write_named(f, "attribute", payload),
             Value::ServerError(error) => write_server_error(f, error),
-            Value::Boolean(truth) => write!(f, "boolean({truth})"),
+            Value::Boolean(truth) => write_named(f, "boolean", truth),
             Value::Double(text) => write!(f, "double({text})"),
-            Value::BigNumber(bytes) => write!(f, "big-number({bytes:?})"),
-            Value::Set(elements) => write!(f, "set({elements:?})"),
-            Value::VerbatimString { format, text } => {
-                write!(f, "verbatim-string({format:?},{text:?})")
-            }
+            Value::BigNumber(bytes) => write_named(f, "big-number", bytes),
+            Value::Set(elements) => write_named(f, "set", elements),
+            Value::VerbatimString { format, text } => write_verbatim_string(f, format, text),
             Value::Push { kind, payload } => write!(f, "push({kind:?}, {payload:?})"),
         }
     }
 }
 
+/// `inner` in parentheses after `name`.
+fn write_named<W: fmt::Write, T: fmt::Debug>(
+    f: &mut fmt::Formatter<W>,
+    name: &str,
+    inner: &T,
+) -> fmt::Result {
+    write!(f, "{name}({inner:?})")
+}
+
 fn write_bulk_string<W: fmt::Write>(f: &mut fmt::Formatter<W>, bytes: &Bytes) -> fmt::Result {
     match std::str::from_utf8(bytes.as_slice()) {
         Ok(text) => write!(f, "bulk-string('{text:?}')"),
-        Err(_) => write!(f, "binary-data({bytes:?})"),
+        Err(_) => write_named(f, "binary-data", bytes),
     }
+}
+
+fn write_verbatim_string<W: fmt::Write>(
+    f: &mut fmt::Formatter<W>,
+    format: &VerbatimFormat,
+    text: &Text,
+) -> fmt::Result {
+    write!(f, "verbatim-string({format:?},{text:?})")
 }
 
 fn write_server_error<W: fmt::Write>(
