@@ -245,6 +245,7 @@ fn first_error_in_pairs(pairs: Items<(Value, Value)>) -> Option<ServerError>
     None
 }
 
+/// The first error of the key, or else that of the value.
 #[cycle(find)]
 fn first_error_in_pair(pair: (Value, Value)) -> Option<ServerError>
     ensures { result ≡ or_else (first_error pair.0) (first_error pair.1) }
@@ -317,6 +318,7 @@ fn write_named<W: fmt::Write, T: fmt::Debug>(
     write!(f, "{name}({inner:?})")
 }
 
+/// The bytes of a bulk string, as a text where they are UTF-8.
 fn write_bulk_string<W: fmt::Write>(f: &mut fmt::Formatter<W>, bytes: &Bytes) -> fmt::Result {
     match std::str::from_utf8(bytes.as_slice()) {
         Ok(text) => write!(f, "bulk-string('{text:?}')"),
@@ -324,6 +326,7 @@ fn write_bulk_string<W: fmt::Write>(f: &mut fmt::Formatter<W>, bytes: &Bytes) ->
     }
 }
 
+/// The format and the text of a verbatim string.
 fn write_verbatim_string<W: fmt::Write>(
     f: &mut fmt::Formatter<W>,
     format: &VerbatimFormat,
