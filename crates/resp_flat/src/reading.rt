@@ -169,9 +169,9 @@ impl<'a> Source<'a> {
             TokenKind::Okay => Ok(Value::Okay),
             TokenKind::Int => Ok(Value::Int(token.number)),
             TokenKind::Boolean => Ok(Value::Boolean(token.number == 1)),
-            TokenKind::Array => Ok(Value::Array(self.values(place, token.size, levels)?)),
-            TokenKind::Set => Ok(Value::Set(self.values(place, token.size, levels)?)),
-            TokenKind::Map => Ok(Value::Map(self.pairs(place, token.size, levels)?)),
+            TokenKind::Array => self.values(place, token.size, levels).map(Value::Array),
+            TokenKind::Set => self.values(place, token.size, levels).map(Value::Set),
+            TokenKind::Map => self.pairs(place, token.size, levels).map(Value::Map),
             TokenKind::Attribute => self.attribute(place, token.size, levels),
             TokenKind::Push => self.push(place, token.size.saturating_sub(1), levels),
             _ => self.leaf(token.kind, self.bytes(place, token.size)?),
@@ -203,10 +203,9 @@ impl<'a> Source<'a> {
         ensures { Reads (next_push (next_value self.now.text.now levels) self.now.text.now count)
             place.old result place.new }
     {
-        Ok(Value::Push {
-            kind: self.push_kind(place)?,
-            payload: self.values(place, count, levels)?,
-        })
+        let kind = self.push_kind(place)?;
+        self.values(place, count, levels)
+            .map(|payload| Value::Push { kind, payload })
     }
 
     /// As many values.
@@ -256,6 +255,7 @@ pub(crate) fn whole_value(alloc: Global, tokens: &[Token], text: &[u8]) -> Resul
     let mut place = Place { tokens, at: 0 };
     let value = Source { alloc, text }.value(&mut place, LEVELS)?;
     if !place.tokens.is_empty() || place.at != text.len() {
+        drop(value);
         return Err(FlatError::NotReply);
     }
     Ok(value)
