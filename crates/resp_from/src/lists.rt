@@ -1,6 +1,7 @@
 //! Replies as lists.
 
-ghost use Rattle.std.specs.Prelude.{◌≡◌, IfOk};
+ghost use Rattle.std.specs.Prelude.{◌≡◌, ◌∷◌, [], IfOk};
+ghost use Rattle.resp_value.specs.declared.value.Value.{Map};
 ghost use Rattle.resp_from.specs.Conversion.{ConvertsList};
 ghost use Rattle.resp_from.specs.Lists.{OfVec, single_maps};
 
@@ -10,14 +11,22 @@ use crate::rules::convert_each;
 use resp_value::{Items, ParsingError, Value};
 use std::alloc::{AllocError, Global};
 
+/// A map of one pair.
+fn map_of_one(alloc: Global, pair: (Value, Value)) -> Result<Value, AllocError>
+    ensures { IfOk result (λ map. map ≡ Map (pair ∷ [])) }
+{
+    let mut single = Items::new(alloc);
+    single.push(pair)?;
+    Ok(Value::Map(single))
+}
+
+/// A map of one pair for each pair.
 fn maps_of_one(alloc: Global, pairs: Items<(Value, Value)>) -> Result<Vec<Value>, AllocError>
     ensures { IfOk result (λ v. v.items ≡ single_maps pairs) }
 {
     let mut maps = Vec::new(alloc);
     for pair in pairs.into_vec() {
-        let mut single = Items::new(alloc);
-        single.push(pair)?;
-        maps.push(Value::Map(single))?;
+        maps.push(map_of_one(alloc, pair)?)?;
     }
     Ok(maps)
 }

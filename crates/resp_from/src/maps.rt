@@ -19,8 +19,9 @@ fn convert_pair<K: FromRedisValue, V: FromRedisValue>(
 ) -> Result<(K, V), ParsingError>
     ensures converts { Converts (OfPair K.of_value V.of_value pair) result }
 {
-    let key = K::from_redis_value(alloc, pair.0)?;
-    let value = V::from_redis_value(alloc, pair.1)?;
+    let (key, value) = pair;
+    let key = K::from_redis_value(alloc, key)?;
+    let value = V::from_redis_value(alloc, value)?;
     Ok((key, value))
 }
 

@@ -34,9 +34,9 @@ pub fn answer_each<T: FromRedisValue>(
     ensures answers { MatchResult result (λ v. AllZip (λ reply r. Decides (T.of_value reply) r)
         replies.items v.items) (λ e. e ≡ parsing.OutOfMemory) }
 {
-    let mut all = Vec::new(alloc);
+    let mut all = Vec::with_capacity(alloc, replies.len())?;
     for reply in replies {
-        all.push(answer_one(alloc, reply)?)?;
+        all.push_reserved(answer_one(alloc, reply)?);
     }
     Ok(all)
 }
@@ -65,9 +65,9 @@ pub fn convert_bytes<T: FromRedisValue>(
     ensures converts { ConvertsList (AllZip T.of_value (map (λ byte. Int (pos byte)) bytes.items))
         result }
 {
-    let mut all = Vec::new(alloc);
+    let mut all = Vec::with_capacity(alloc, bytes.len())?;
     for byte in bytes {
-        all.push(T::from_redis_value(alloc, Value::Int(i64::from(byte)))?)?;
+        all.push_reserved(T::from_redis_value(alloc, Value::Int(i64::from(byte)))?);
     }
     Ok(all)
 }
@@ -76,8 +76,9 @@ pub fn convert_bytes<T: FromRedisValue>(
 pub fn convert_one<T: FromRedisValue>(alloc: Global, reply: Value) -> Result<Vec<T>, ParsingError>
     ensures converts { ConvertsList (AllZip T.of_value (reply ∷ [])) result }
 {
-    let mut all = Vec::new(alloc);
-    all.push(T::from_redis_value(alloc, reply)?)?;
+    let value = T::from_redis_value(alloc, reply)?;
+    let mut all = Vec::with_capacity(alloc, 1)?;
+    all.push_reserved(value);
     Ok(all)
 }
 

@@ -1,6 +1,6 @@
 //! Replies as tuples.
 
-ghost use Rattle.std.specs.Prelude.{◌≡◌, ⊤, List, IfOk};
+ghost use Rattle.std.specs.Prelude.{◌≡◌, ◌∷◌, ◌++◌, [], ⊤, List, IfOk, OnOk};
 ghost use Rattle.std.specs.Vec.Iter.{into_iter_items};
 ghost use Rattle.resp_value.specs.declared.value.Value.{Value, out-Value};
 ghost use Rattle.resp_from.specs.Conversion.{Converts};
@@ -15,14 +15,23 @@ use resp_value::{Items, ParsingError, Value};
 use std::alloc::{AllocError, Global};
 use std::vec::IntoIter;
 
+/// Adds a key and its value.
+fn push_pair(values: &mut Vec<Value>, pair: (Value, Value)) -> Result<(), AllocError>
+    ensures { OnOk result (values.new.items ≡ (values.old.items ++ pair.0 ∷ []) ++ pair.1 ∷ []) }
+{
+    let (key, value) = pair;
+    values.push(key)?;
+    values.push(value)?;
+    Ok(())
+}
+
 /// The keys and values of a map, in turn.
 fn values_in_turn(alloc: Global, pairs: Items<(Value, Value)>) -> Result<Vec<Value>, AllocError>
     ensures { IfOk result (λ v. v.items ≡ in_turn pairs) }
 {
     let mut values = Vec::new(alloc);
-    for (key, value) in pairs.into_vec() {
-        values.push(key)?;
-        values.push(value)?;
+    for pair in pairs.into_vec() {
+        push_pair(&mut values, pair)?;
     }
     Ok(values)
 }
