@@ -48,11 +48,23 @@ impl IncrexResult {
     pub fn try_clone(&self, alloc: Global) -> Result<IncrexResult, AllocError>
         ensures { IfOk result (λ r. r ≡ self.now) }
     {
-        Ok(IncrexResult {
-            value: self.value.try_clone(alloc)?,
-            actual_increment: self.actual_increment.try_clone(alloc)?,
-        })
+        let value = self.value.try_clone(alloc)?;
+        with_increment(alloc, value, &self.actual_increment)
     }
+}
+
+/// A value, and an equal increment.
+fn with_increment(
+    alloc: Global,
+    value: Value,
+    increment: &Value,
+) -> Result<IncrexResult, AllocError>
+    ensures { IfOk result (λ r. r ≡ record { value = value; actual_increment = increment.now }) }
+{
+    Ok(IncrexResult {
+        value,
+        actual_increment: increment.try_clone(alloc)?,
+    })
 }
 
 /// An array of two, which are kept as they are.

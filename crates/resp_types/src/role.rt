@@ -1,12 +1,13 @@
 //! What a server says of its part in replication.
 
-ghost use Rattle.std.specs.Prelude.{◌≡◌, ◌∷◌, codes, IfOk, MatchOption};
+ghost use Rattle.std.specs.Prelude.{◌≡◌, ◌∷◌, ◌++◌, [], codes, IfOk, MatchOption, OnOk};
 ghost use Rattle.std.specs.Result.{IsErrAnd, IsOkAnd};
 ghost use Rattle.std.specs.Vec.Iter.{into_iter_items};
 ghost use Rattle.resp_value.specs.Views.{sequence_of};
 ghost use Rattle.resp_from.specs.Attributes.{stripped};
 ghost use Rattle.resp_from.specs.Conversion.{Converts, IsDescribed};
 ghost use Rattle.resp_types.specs.Roles.{AreRole, HasItems, HasRole};
+ghost use Rattle.resp_types.specs.declared.role.Role.TheVariants as part;
 
 use resp_from::FromRedisValue;
 use resp_from::parts::{Elements, Ignored, refuse, strip_attribute};
@@ -84,17 +85,37 @@ impl Role {
                 primary_port,
                 replication_state,
                 data_received,
-            } => Ok(Role::Replica {
-                primary_ip: primary_ip.try_clone(alloc)?,
-                primary_port: *primary_port,
-                replication_state: replication_state.try_clone(alloc)?,
-                data_received: *data_received,
-            }),
+            } => clone_replica(
+                alloc,
+                primary_ip,
+                *primary_port,
+                replication_state,
+                *data_received,
+            ),
             Role::Sentinel { primary_names } => Ok(Role::Sentinel {
                 primary_names: clone_names(alloc, primary_names)?,
             }),
         }
     }
+}
+
+/// The role of a replica, with equal texts.
+fn clone_replica(
+    alloc: Global,
+    primary_ip: &Text,
+    primary_port: u16,
+    replication_state: &Text,
+    data_received: u64,
+) -> Result<Role, AllocError>
+    ensures { IfOk result (λ role. role
+        ≡ part.Replica primary_ip.now primary_port replication_state.now data_received) }
+{
+    Ok(Role::Replica {
+        primary_ip: primary_ip.try_clone(alloc)?,
+        primary_port,
+        replication_state: replication_state.try_clone(alloc)?,
+        data_received,
+    })
 }
 
 fn clone_replicas(
@@ -105,9 +126,20 @@ fn clone_replicas(
 {
     let mut copies = Items::new(alloc);
     for replica in replicas.as_slice() {
-        copies.push(replica.try_clone(alloc)?)?;
+        push_replica(alloc, &mut copies, replica)?;
     }
     Ok(copies)
+}
+
+/// Adds an equal replica.
+fn push_replica(
+    alloc: Global,
+    replicas: &mut Items<ReplicaInfo>,
+    replica: &ReplicaInfo,
+) -> Result<(), AllocError>
+    ensures { OnOk result (replicas.new ≡ replicas.old ++ replica.now ∷ []) }
+{
+    replicas.push(replica.try_clone(alloc)?)
 }
 
 fn clone_names(alloc: Global, names: &Items<Text>) -> Result<Items<Text>, AllocError>
@@ -115,9 +147,16 @@ fn clone_names(alloc: Global, names: &Items<Text>) -> Result<Items<Text>, AllocE
 {
     let mut copies = Items::new(alloc);
     for name in names.as_slice() {
-        copies.push(name.try_clone(alloc)?)?;
+        push_name(alloc, &mut copies, name)?;
     }
     Ok(copies)
+}
+
+/// Adds an equal name.
+fn push_name(alloc: Global, names: &mut Items<Text>, name: &Text) -> Result<(), AllocError>
+    ensures { OnOk result (names.new ≡ names.old ++ name.now ∷ []) }
+{
+    names.push(name.try_clone(alloc)?)
 }
 
 /// The items of a reply that is a list.
