@@ -1,33 +1,43 @@
-//! `resp_bench`: how fast replies are parsed, commands are packed and values are encoded.
+//! `resp_bench`: how fast replies are parsed, commands packed, values encoded and queries answered.
 //!
 //! `resp_bench parse FILE PIECE ROUNDS` feeds the bytes of a file to a parser, PIECE bytes at a
 //! time (0: 16,384), takes each value and drops it; `resp_bench flat FILE PIECE ROUNDS` takes each
-//! into the same flat reply. `resp_bench pack WHAT COUNT ROUNDS` packs
-//! COUNT times: `set`, a command of three short arguments, built and packed; `set-only`, the same,
-//! packed alone into a buffer at hand; `big`, one of an argument of 1 MiB, built and packed;
-//! `big-only`, the same, packed alone; `pipe`, a pipeline of 1,000 of the first.
+//! into the same flat reply.
+//!
+//! `resp_bench pack WHAT COUNT ROUNDS` packs COUNT times: `set`, a command of three short arguments,
+//! built and packed; `set-only`, the same, packed alone into a buffer at hand; `big`, one of an
+//! argument of 1 MiB, built and packed; `big-only`, the same, packed alone; `pipe`, a pipeline of
+//! 1,000 of the first.
 //!
 //! `resp_bench encode WHAT COUNT ROUNDS` encodes a value COUNT times, each into a new buffer:
 //! `set`, the array of three bulk strings that is spelled as the command `set` is packed; `reply`,
 //! an array of 100 bulk strings of 20 bytes. `set-kept` and `reply-kept` encode them into one
 //! buffer, which is cleared each time.
 //!
+//! `resp_bench query WHAT COUNT ROUNDS` asks COUNT times over a connection in memory that holds the
+//! replies, and converts each answer: `incr` to an integer, `get` to a text, `lrange` (100 elements)
+//! to texts, `mget` (100) to integers, `hgetall` (50 pairs) to a sorted map and `hashed` to a hashed
+//! one, `zrange` (50 pairs) to pairs of a text and an integer, and `pipe`, a pipeline of 100 GET, to
+//! texts.
+//!
 //! `resp_bench hold FILE PIECE LIMIT` feeds a file to a parser of values of at most LIMIT bytes and
 //! 1,000 levels, until it refuses, and prints why: what memory that takes shows from outside.
 //!
 //! Each of the others does one round untimed and then ROUNDS timed ones, and prints how many
-//! replies, commands or values a round has, how many bytes those are, and the nanoseconds of CPU
-//! time of the best timed round, 0 if there is none. The exit status is 1 for wrong words, and 2
-//! where the file can't be read or a call is refused.
+//! replies, commands, values or queries a round has, how many bytes those are, and the nanoseconds
+//! of CPU time of the best timed round, 0 if there is none. The exit status is 1 for wrong words,
+//! and 2 where the file can't be read or a call is refused.
 #![tactic(auto)]
 
 mod encoding;
 mod packing;
 mod parsing;
+mod querying;
 
 use encoding::{Encoding, encode_round};
 use packing::{Load, Packing, pack_round};
 use parsing::{Form, parse_round};
+use querying::{Query, query_round};
 use resp_core::{Limits, RedisError, RedisResult};
 use std::alloc::Global;
 use std::process::ExitCode;
@@ -37,7 +47,7 @@ use std::{env, fs, io};
 /// What one round did.
 #[derive(Clone, Copy, Debug)]
 pub struct Round {
-    /// Replies, commands or values.
+    /// Replies, commands, values or queries.
     pub units: u64,
     /// The bytes that spell them.
     pub bytes: u64,
@@ -62,6 +72,7 @@ fn run(rt: &HostRuntime) -> u8 {
                 "hold" => hold(rt, what.as_str(), size, rounds as usize),
                 "pack" => pack(rt, what.as_str(), size, rounds),
                 "encode" => encode(rt, what.as_str(), size, rounds),
+                "query" => query(rt, what.as_str(), size, rounds),
                 _ => 1,
             }
         }
@@ -95,6 +106,11 @@ enum Work<'a> {
         encoding: &'a Encoding,
         count: usize,
     },
+    Query {
+        query: Query,
+        replies: &'a [u8],
+        count: usize,
+    },
 }
 
 impl Work<'_> {
@@ -109,6 +125,11 @@ impl Work<'_> {
                 count,
             } => pack_round(alloc, *packing, load, *count),
             Work::Encode { encoding, count } => encode_round(alloc, encoding, *count),
+            Work::Query {
+                query,
+                replies,
+                count,
+            } => query_round(alloc, *query, replies, *count),
         }
     }
 }
@@ -195,6 +216,24 @@ fn encode(rt: &HostRuntime, what: &str, count: usize, rounds: u64) -> u8 {
             time(rt, &work, rounds)
         }
         Ok(None) => 1,
+        Err(_) => 2,
+    }
+}
+
+fn query(rt: &HostRuntime, what: &str, count: usize, rounds: u64) -> u8 {
+    let Some(query) = Query::named(what) else {
+        return 1;
+    };
+    match query.replies(rt.alloc(), count) {
+        Ok(replies) => {
+            let replies = replies.as_slice();
+            let work = Work::Query {
+                query,
+                replies,
+                count,
+            };
+            time(rt, &work, rounds)
+        }
         Err(_) => 2,
     }
 }

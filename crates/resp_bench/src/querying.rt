@@ -1,0 +1,172 @@
+//! Rounds of queries over a connection in memory.
+
+use crate::Round;
+use resp_core::{ByteLink, Cmd, ConnectionLike, FromRedisValue, Pipeline, RedisResult, cmd, pipe};
+use std::alloc::Global;
+use std::collections::{BTreeMap, HashMap};
+use std::io::{self, Cursor};
+
+const KEY: &str = "key:000000001";
+
+const VALUE: &str = "value-of-twenty-byte";
+
+/// The value as a reply.
+const FOUND: &[u8] = b"$20\r\nvalue-of-twenty-byte\r\n";
+
+/// How many elements an array has, and commands the pipeline.
+const MANY: u64 = 100;
+
+/// What is asked.
+#[derive(Clone, Copy)]
+pub enum Query {
+    Incr,
+    Get,
+    Lrange,
+    Mget,
+    Hgetall,
+    Hashed,
+    Zrange,
+    Pipe,
+}
+
+impl Query {
+    /// What the word names, if it names one.
+    pub fn named(word: &str) -> Option<Query> {
+        match word {
+            "incr" => Some(Query::Incr),
+            "get" => Some(Query::Get),
+            "lrange" => Some(Query::Lrange),
+            "mget" => Some(Query::Mget),
+            "hgetall" => Some(Query::Hgetall),
+            "hashed" => Some(Query::Hashed),
+            "zrange" => Some(Query::Zrange),
+            "pipe" => Some(Query::Pipe),
+            _ => None,
+        }
+    }
+
+    /// The replies to as many of these queries.
+    pub fn replies(self, alloc: Global, count: usize) -> RedisResult<Vec<u8>> {
+        let reply = self.reply(alloc)?;
+        let mut replies = Vec::new(alloc);
+        for _ in 0..count {
+            replies.extend_from_slice(reply.as_slice())?;
+        }
+        Ok(replies)
+    }
+
+    /// What one is answered.
+    fn reply(self, alloc: Global) -> RedisResult<Vec<u8>> {
+        match self {
+            Query::Incr => Ok(Vec::from_slice(alloc, b":1234567\r\n")?),
+            Query::Get => Ok(Vec::from_slice(alloc, FOUND)?),
+            Query::Pipe => values_found(alloc),
+            _ => self.elements(alloc)?.get_packed_command(),
+        }
+    }
+
+    /// A command whose packed bytes are the array that is answered.
+    fn elements(self, alloc: Global) -> RedisResult<Cmd> {
+        let mut elements = Cmd::new(alloc);
+        for at in 0..MANY {
+            match self {
+                Query::Mget => elements.push_arg(at + 1000)?,
+                Query::Lrange => elements.push_arg(VALUE)?,
+                _ if at % 2 == 0 => {
+                    elements.push_arg(format!(in alloc; "member:{at:08}")?.as_str())?;
+                }
+                Query::Zrange => elements.push_arg(at * 17)?,
+                _ => elements.push_arg(VALUE)?,
+            }
+        }
+        Ok(elements)
+    }
+
+    /// Asks once, and drops the answer.
+    fn ask(self, alloc: Global, con: &mut dyn ConnectionLike) -> RedisResult<()> {
+        match self {
+            Query::Incr => answer::<i64>(&keyed(alloc, "INCR")?, con),
+            Query::Get => answer::<String>(&keyed(alloc, "GET")?, con),
+            Query::Lrange => answer::<Vec<String>>(&ranged(alloc, "LRANGE")?, con),
+            Query::Mget => answer::<Vec<i64>>(&keyed(alloc, "MGET")?, con),
+            Query::Hgetall => answer::<BTreeMap<String, String>>(&keyed(alloc, "HGETALL")?, con),
+            Query::Hashed => answer::<HashMap<String, String>>(&keyed(alloc, "HGETALL")?, con),
+            Query::Zrange => answer::<Vec<(String, i64)>>(&scored(alloc)?, con),
+            Query::Pipe => {
+                let values: Vec<String> = many(alloc)?.query(con)?;
+                discard(values);
+                Ok(())
+            }
+        }
+    }
+}
+
+/// Asks `count` times over a connection that holds the replies.
+#[inline(never)]
+pub fn query_round(
+    alloc: Global,
+    query: Query,
+    replies: &[u8],
+    count: usize,
+) -> RedisResult<Round> {
+    let incoming = Cursor::new(Vec::from_slice(alloc, replies)?);
+    let mut link = ByteLink::new(alloc, incoming, io::sink());
+    for _ in 0..count {
+        query.ask(alloc, &mut link)?;
+    }
+    Ok(Round {
+        units: count as u64,
+        bytes: replies.len() as u64,
+    })
+}
+
+/// Asks and drops the answer.
+#[inline(never)]
+fn answer<T: FromRedisValue + Drop>(
+    command: &Cmd,
+    con: &mut dyn ConnectionLike,
+) -> RedisResult<()> {
+    let value: T = command.query(con)?;
+    discard(value);
+    Ok(())
+}
+
+#[inline(never)]
+fn discard<T: Drop>(value: T) {
+    let _ = value;
+}
+
+fn values_found(alloc: Global) -> RedisResult<Vec<u8>> {
+    let mut replies = Vec::new(alloc);
+    for _ in 0..MANY {
+        replies.extend_from_slice(FOUND)?;
+    }
+    Ok(replies)
+}
+
+fn keyed(alloc: Global, name: &str) -> RedisResult<Cmd> {
+    let mut command = cmd(alloc, name)?;
+    command.push_arg(KEY)?;
+    Ok(command)
+}
+
+fn ranged(alloc: Global, name: &str) -> RedisResult<Cmd> {
+    let mut command = keyed(alloc, name)?;
+    command.push_arg(0)?;
+    command.push_arg(-1)?;
+    Ok(command)
+}
+
+fn scored(alloc: Global) -> RedisResult<Cmd> {
+    let mut command = ranged(alloc, "ZRANGE")?;
+    command.push_arg("WITHSCORES")?;
+    Ok(command)
+}
+
+fn many(alloc: Global) -> RedisResult<Pipeline> {
+    let mut pipeline = pipe(alloc);
+    for _ in 0..MANY {
+        pipeline.add_command(keyed(alloc, "GET")?)?;
+    }
+    Ok(pipeline)
+}
