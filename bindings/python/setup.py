@@ -1,32 +1,51 @@
-"""Builds the package with the shared library in it. The rest is in pyproject.toml."""
+"""Builds the extension module over the C library. The rest is in pyproject.toml.
 
+Of the C library it takes the files in native/, as a source package has them. In the repository it copies
+them there first: the archive from where `rt lib` leaves it or RESP_C_LIB says, the header and the
+allocation functions from bindings/c, and the licence.
+"""
+
+import os
 import pathlib
-import subprocess
+import shutil
 import sys
 
-from setuptools import Distribution, setup
-from setuptools.command.build_py import build_py
+from setuptools import Extension, setup
 
 HERE = pathlib.Path(__file__).resolve().parent
+BINDINGS = HERE.parent
+ARCHIVE = BINDINGS.parent / "crates" / "resp_c" / "out" / "libresp_c.a"
+
+# Everything in the archive is kept, for ctypes finds it here, too; and its calls stay within it.
+LINKED = ["-Wl,--whole-archive", "native/libresp_c.a", "-Wl,--no-whole-archive", "-Wl,-Bsymbolic"]
 
 
-class BuildWithLibrary(build_py):
-    """Copies the package and links the shared library beside it."""
-
-    editable_mode = False
-
-    def run(self):
-        super().run()
-        package = HERE if self.editable_mode else pathlib.Path(self.build_lib)
-        link = [sys.executable, str(HERE / "link.py"), str(package / "resp_c" / "libresp_c.so")]
-        subprocess.run(link, check=True)
-
-
-class PlatformDistribution(Distribution):
-    """A distribution whose wheel is for one platform, since it has a shared library."""
-
-    def has_ext_modules(self):
-        return True
+def fill_native():
+    """Copies the files of the C library, where this is the repository."""
+    if not (BINDINGS / "c").is_dir():
+        return
+    archive = pathlib.Path(os.environ.get("RESP_C_LIB") or ARCHIVE)
+    if not archive.is_file():
+        sys.exit(f"{archive} isn't there: `rt lib` in crates/resp_c makes it; RESP_C_LIB names another")
+    (HERE / "native").mkdir(exist_ok=True)
+    shutil.copyfile(archive, HERE / "native" / "libresp_c.a")
+    for source in [BINDINGS / "c" / "resp_c.h", BINDINGS / "c" / "resp_alloc.c", BINDINGS.parent / "LICENSE"]:
+        shutil.copyfile(source, HERE / "native" / source.name)
 
 
-setup(cmdclass={"build_py": BuildWithLibrary}, distclass=PlatformDistribution)
+def extension():
+    names = ["core", "module", "pack", "reader", "values"]
+    return Extension(
+        "resp_c._fast",
+        sources=["native/resp_alloc.c", *(f"extension/{name}.c" for name in names)],
+        include_dirs=["native"],
+        depends=["extension/fast.h", "native/resp_c.h", "native/libresp_c.a"],
+        define_macros=[("Py_LIMITED_API", "0x03090000")],
+        extra_compile_args=["-std=c11", "-O2", "-g0", "-Wall", "-Wextra"],
+        extra_link_args=LINKED,
+        py_limited_api=True,
+    )
+
+
+fill_native()
+setup(ext_modules=[extension()], options={"bdist_wheel": {"py_limited_api": "cp39"}})

@@ -15,11 +15,26 @@ True
 b'*2\\r\\n$5\\r\\nhello\\r\\n:7\\r\\n'
 """
 
+from ._core import pack, pack_pipeline, version
 from ._encoding import encode
 from ._errors import Fault, IncompleteError, ParserFailedError, ProtocolError, RespError
-from ._packing import Argument, pack, pack_pipeline, version
-from ._parser import MORE, More, Parser, State, parse_one
-from ._values import Attribute, BigNumber, Double, Pairs, Push, ServerError, Set, Value, Verbatim
+from ._packing import Argument
+from ._parser import Parser, State, parse_one
+from ._values import (
+    MORE,
+    Attribute,
+    BigNumber,
+    Double,
+    More,
+    Pairs,
+    Push,
+    ServerError,
+    Set,
+    Value,
+    Verbatim,
+)
+
+__version__ = version()
 
 __all__ = [
     "MORE",
@@ -41,6 +56,7 @@ __all__ = [
     "State",
     "Value",
     "Verbatim",
+    "__version__",
     "encode",
     "pack",
     "pack_pipeline",

@@ -15,6 +15,7 @@ from typing import (
     NamedTuple,
     Tuple,
     Union,
+    cast,
 )
 
 from ._library import Kind, Token, library
@@ -52,7 +53,7 @@ def encode(value: Value, protocol: int = 3) -> bytes:
     if protocol not in (2, 3):
         raise ValueError("protocol must be 2 or 3")
     listed, text = _flat(value)
-    tokens = (Token * len(listed))(*listed)
+    tokens = (Token * len(listed))(*cast(Any, listed))
 
     def encoder(out: Buffer, size: ctypes.c_size_t) -> int:
         status: int = library.resp_encode_reply(

@@ -3,8 +3,8 @@
 from __future__ import annotations
 
 import ctypes
+import importlib.util
 import os
-import pathlib
 from ctypes import POINTER, c_bool, c_char_p, c_int64, c_size_t, c_uint8, c_uint32, c_void_p
 
 MORE = 0
@@ -109,10 +109,19 @@ _SIGNATURES = {
 }
 
 
+def _path() -> str:
+    """The library that RESP_C_SO names, or the extension module, which has the same functions."""
+    named = os.environ.get("RESP_C_SO")
+    if named:
+        return named
+    found = importlib.util.find_spec("resp_c._fast")
+    if found is None or found.origin is None:
+        raise ImportError("resp_c has no extension module, and RESP_C_SO names no library")
+    return found.origin
+
+
 def _load() -> ctypes.CDLL:
-    """Loads the library of the package, or the one that RESP_C_SO names."""
-    beside = pathlib.Path(__file__).with_name("libresp_c.so")
-    library = ctypes.CDLL(os.environ.get("RESP_C_SO") or str(beside))
+    library = ctypes.CDLL(_path())
     for name, (result, arguments) in _SIGNATURES.items():
         function = getattr(library, name)
         function.restype = result

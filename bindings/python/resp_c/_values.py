@@ -2,12 +2,29 @@
 
 from __future__ import annotations
 
+import enum
 import re
 import struct
 from dataclasses import dataclass
 from typing import Any, Callable, Dict, Hashable, List, Optional, Tuple, Union
 
 from ._library import Kind
+
+
+class More(enum.Enum):
+    """The type of MORE."""
+
+    MORE = enum.auto()
+
+    def __bool__(self) -> bool:
+        return False
+
+    def __repr__(self) -> str:
+        return "resp_c.MORE"
+
+
+MORE = More.MORE
+"""What `Parser.next` returns where more bytes are needed. It is false, as is None, which is a value."""
 
 
 class Double(float):
@@ -165,7 +182,7 @@ def _push(made: List[Any], size: int) -> Push:
     return Push(name.decode(), data)
 
 
-def _big_number(text: bytes) -> Union[int, BigNumber]:
+def big_number(text: bytes) -> Union[int, BigNumber]:
     if not _BIG_NUMBER.fullmatch(text):
         return BigNumber(text)
     try:
@@ -193,7 +210,7 @@ _LEAVES: Dict[int, Callable[[bytes, int], Any]] = {
     Kind.SERVER_ERROR: lambda text, number: _server_error(text),
     Kind.BOOLEAN: lambda text, number: number == 1,
     Kind.DOUBLE: lambda text, number: Double(text.decode()),
-    Kind.BIG_NUMBER: lambda text, number: _big_number(text),
+    Kind.BIG_NUMBER: lambda text, number: big_number(text),
     Kind.VERBATIM_STRING: lambda text, number: _verbatim(text),
 }
 

@@ -8,7 +8,9 @@ import sys
 import textwrap
 import threading
 import unittest
+import unittest.mock
 
+import resp_c
 from resp_c import (
     MORE,
     Fault,
@@ -17,6 +19,7 @@ from resp_c import (
     ParserFailedError,
     ProtocolError,
     RespError,
+    ServerError,
     State,
     Verbatim,
     parse_one,
@@ -72,6 +75,16 @@ class Feeding(unittest.TestCase):
         for wrong in [":1\r\n", 5, None, [1]]:
             with self.assertRaises(TypeError):
                 parser.feed(wrong)
+
+    def test_the_argument_has_a_name(self):
+        parser = Parser()
+        parser.feed(data=b":1\r\n")
+        self.assertEqual(parser.next(), 1)
+        self.assertEqual(parser.first(data=b":2\r\n"), (2, 4))
+        for wrong in [{}, {"other": b""}, {"data": b"", "other": b""}]:
+            with self.assertRaises(TypeError):
+                parser.feed(**wrong)
+        self.assertRaises(TypeError, parser.feed, b"", b"")
 
     def test_what_was_taken_stays(self):
         parser = fed(b"$3\r\nabc\r\n$3\r\nxyz\r\n")
@@ -216,10 +229,15 @@ class Lives(unittest.TestCase):
             self.assertRaises(TypeError, copier, Parser())
 
     def test_a_second_call_is_refused_while_one_runs(self):
-        parser = fed(b":1\r\n")
-        with parser._lock:
-            self.assertRaises(RuntimeError, parser.next)
-        self.assertEqual(parser.next(), 1)
+        for call in ["next", "close", "_state"]:
+            parser = fed(b"-ERR\r\n:1\r\n")
+
+            def made(error, *_, parser=parser, call=call):
+                getattr(parser, call)()
+
+            with unittest.mock.patch.object(ServerError, "__init__", made):
+                self.assertRaises(RuntimeError, parser.next)
+            self.assertEqual(parser.next(), 1)
 
     def test_another_thread_may_go_on(self):
         parser, values = fed(b":1\r\n:2"), []
@@ -262,6 +280,7 @@ class Lives(unittest.TestCase):
     def test_the_version(self):
         project = pathlib.Path(__file__).resolve().parent.parent / "pyproject.toml"
         self.assertIn(f'version = "{version()}"', project.read_text("utf-8").split("\n"))
+        self.assertEqual(resp_c.__version__, version())
 
 
 if __name__ == "__main__":
