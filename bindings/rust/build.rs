@@ -1,9 +1,13 @@
 //! Links the archive of `crates/resp_c`, and the allocation functions that it wants.
 //!
-//! The allocation functions are those of `bindings/c/resp_alloc.c`, which the C and the Python
-//! bindings use too. Writing them in Rust would need no C compiler, but `rattle_dealloc` has no
-//! size, which `std::alloc` asks for, and two of the functions return a struct by value, whose
-//! layout would then be stated twice. Rust links by `cc` on Linux anyway.
+//! A package has both in its folder `native`; in the repository they stand elsewhere. `RESP_C_LIB`
+//! names another archive. Where there is none, the crate compiles, so that `cargo doc` works, and no
+//! program over it links.
+//!
+//! The allocation functions are those of `resp_alloc.c`, which the C and the Python bindings use too.
+//! Writing them in Rust would need no C compiler, but `rattle_dealloc` has no size, which `std::alloc`
+//! asks for, and two of the functions return a struct by value, whose layout would then be stated
+//! twice. Rust links by `cc` on Linux anyway.
 
 use std::env;
 use std::fs;
@@ -13,11 +17,20 @@ use std::process::Command;
 fn main() {
     let here = folder("CARGO_MANIFEST_DIR");
     let out = folder("OUT_DIR");
+    let native = here.join("native");
+    let (archive, allocator) = if native.is_dir() {
+        (native.join("libresp_c.a"), native.join("resp_alloc.c"))
+    } else {
+        let archive = here.join("../../crates/resp_c/out/libresp_c.a");
+        (archive, here.join("../c/resp_alloc.c"))
+    };
     println!("cargo:rerun-if-env-changed=RESP_C_LIB");
+    let archive = env::var_os("RESP_C_LIB").map_or(archive, PathBuf::from);
 
-    copy_archive(&archive(&here), &out.join("libresp_c.a"));
-    build_allocator(&here.join("../c/resp_alloc.c"), &out);
-
+    if !copy_archive(&archive, &out.join("libresp_c.a")) {
+        return;
+    }
+    build_allocator(&allocator, &out);
     println!("cargo:rustc-link-search=native={}", out.display());
     println!("cargo:rustc-link-lib=static=resp_c");
     println!("cargo:rustc-link-lib=static=resp_alloc");
@@ -28,22 +41,19 @@ fn folder(variable: &str) -> PathBuf {
     PathBuf::from(env::var_os(variable).expect("Cargo sets it"))
 }
 
-/// Where the archive is.
-fn archive(here: &Path) -> PathBuf {
-    match env::var_os("RESP_C_LIB") {
-        Some(path) => PathBuf::from(path),
-        None => here.join("../../crates/resp_c/out/libresp_c.a"),
-    }
-}
-
-/// Copies the archive to where Cargo looks for it, so that its name is known.
-fn copy_archive(from: &Path, to: &Path) {
+/// Copies the archive to where Cargo looks for it, so that its name is known. Whether it is there.
+fn copy_archive(from: &Path, to: &Path) -> bool {
     println!("cargo:rerun-if-changed={}", from.display());
-    if let Err(error) = fs::copy(from, to) {
-        panic!(
-            "{}: {error}. `rt lib` in crates/resp_c makes the archive; RESP_C_LIB names another.",
-            from.display()
-        );
+    match fs::copy(from, to) {
+        Ok(_) => true,
+        Err(error) => {
+            println!(
+                "cargo:warning={}: {error}. Without it no program links: `rt lib` in crates/resp_c \
+                 makes the archive; RESP_C_LIB names another.",
+                from.display()
+            );
+            false
+        }
     }
 }
 

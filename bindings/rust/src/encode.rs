@@ -322,6 +322,32 @@ impl Reply {
         encoded(self.lent(), protocol as u32)
     }
 
+    /// The reply as a view of it; `None` where it isn't exactly one value.
+    ///
+    /// ```
+    /// use resp_c::{Parser, Reply};
+    ///
+    /// # fn main() -> Result<(), resp_c::Error> {
+    /// let mut parser = Parser::new()?;
+    /// parser.feed(b"*2\r\n$1\r\na\r\n:1\r\n")?;
+    /// let kept: Reply = parser.next()?.expect("a whole value").to_reply();
+    /// drop(parser);
+    /// let view = kept.view().expect("one value");
+    /// assert_eq!(format!("{:?}", view.value()), r#"array([bulk-string('"a"'), int(1)])"#);
+    /// assert!(Reply::new().array(2).int(1).view().is_none());
+    /// # Ok(())
+    /// # }
+    /// ```
+    pub fn view(&self) -> Option<View<'_>> {
+        let mut missing = 1_usize;
+        for token in &self.tokens {
+            missing = missing
+                .checked_sub(1)?
+                .checked_add(Kind::of(token).checked_parts(token.size)?)?;
+        }
+        (missing == 0).then(|| View::of(self.lent()))
+    }
+
     fn add(&mut self, kind: Kind, size: usize, number: i64) -> &mut Reply {
         self.tokens.push(RawToken {
             kind: kind as u8,
@@ -347,6 +373,25 @@ impl Reply {
 }
 
 impl View<'_> {
+    /// A copy of this reply, which needs no parser.
+    ///
+    /// ```
+    /// # let mut parser = resp_c::Parser::new().unwrap();
+    /// # parser.feed(b"$1\r\na\r\n:2\r\n").unwrap();
+    /// let mut kept = Vec::new();
+    /// while let Some(view) = parser.next().unwrap() {
+    ///     kept.push(view.to_reply());
+    /// }
+    /// let second = kept[1].view().unwrap();
+    /// assert_eq!(second.value().int(), Some(2));
+    /// ```
+    pub fn to_reply(&self) -> Reply {
+        Reply {
+            tokens: self.lent.tokens.to_vec(),
+            text: self.lent.text.to_vec(),
+        }
+    }
+
     /// The bytes that send this reply on. In RESP3 a parser reads them as the same reply; they may
     /// differ from those that were read, as `_` for a null of another form or `-` for an error in a body.
     ///

@@ -1,6 +1,7 @@
 //! Why a call fails.
 
 use std::fmt;
+use std::io::{self, ErrorKind};
 
 /// Why a call fails.
 ///
@@ -38,6 +39,8 @@ pub enum Error {
     /// A reply can't be sent: it isn't exactly one value, or no bytes spell that value in the version
     /// of the protocol, as a simple string with CR LF in it.
     NoEncoding,
+    /// A value isn't of the type that is wanted, or out of its range.
+    OtherType,
 }
 
 impl fmt::Display for Error {
@@ -48,11 +51,34 @@ impl fmt::Display for Error {
             Error::Failed => f.write_str("the parser has failed before"),
             Error::OutOfRange => f.write_str("a limit is out of range"),
             Error::NoEncoding => f.write_str("the reply has no encoding"),
+            Error::OtherType => f.write_str("the value isn't of this type"),
         }
     }
 }
 
 impl std::error::Error for Error {}
+
+/// As an error of input, of which it is the source.
+///
+/// ```
+/// use resp_c::{Error, Fault};
+/// use std::io;
+///
+/// let error = io::Error::from(Error::Fault { fault: Fault::BodyEnd, offset: 6 });
+/// assert_eq!(error.kind(), io::ErrorKind::InvalidData);
+/// assert_eq!(error.to_string(), "BodyEnd at byte 6");
+/// ```
+impl From<Error> for io::Error {
+    fn from(error: Error) -> io::Error {
+        let kind = match error {
+            Error::Fault { .. } | Error::OtherType => ErrorKind::InvalidData,
+            Error::OutOfMemory => ErrorKind::OutOfMemory,
+            Error::OutOfRange | Error::NoEncoding => ErrorKind::InvalidInput,
+            Error::Failed => ErrorKind::Other,
+        };
+        io::Error::new(kind, error)
+    }
+}
 
 /// Why bytes can't begin a value.
 ///

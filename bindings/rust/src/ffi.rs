@@ -138,6 +138,7 @@ impl Handle {
     }
 
     /// Adds bytes.
+    #[inline]
     pub(crate) fn feed(&mut self, bytes: &[u8]) -> Result<(), Error> {
         // SAFETY: the call asks for an open handle, which `self` is since `open`; for one call at
         // a time, which the unique reference gives; and for `size` readable bytes at a pointer that
@@ -146,15 +147,40 @@ impl Handle {
     }
 
     /// Takes the next value, if it is there.
+    #[inline]
     pub(crate) fn next(&mut self) -> Result<Option<Lent<'_>>, Error> {
         let mut view = RawView::EMPTY;
+        if !self.advance(&mut view)? {
+            return Ok(None);
+        }
+        // SAFETY: `lend` asks for a view that a call of the handle showed, and for no call with the
+        // handle as long as it is lent. It was the last call, and the result borrows `self` mutably.
+        Ok(Some(unsafe { lend(&view) }))
+    }
+
+    /// The same; where it isn't there, `more` feeds bytes, and is asked again until it has none.
+    pub(crate) fn next_after<E: From<Error>>(
+        &mut self,
+        mut more: impl FnMut(&mut Handle) -> Result<bool, E>,
+    ) -> Result<Option<Lent<'_>>, E> {
+        let mut view = RawView::EMPTY;
+        while !self.advance(&mut view)? {
+            if !more(self)? {
+                return Ok(None);
+            }
+        }
+        // SAFETY: as in `next`; `advance` was the last call.
+        Ok(Some(unsafe { lend(&view) }))
+    }
+
+    /// Whether the next value is there, which the view shows then.
+    #[inline]
+    fn advance(&mut self, view: &mut RawView) -> Result<bool, Error> {
         // SAFETY: the call asks for an open handle and one call at a time, as in `feed`, and for a
-        // view that it may write, which the local one is.
-        match unsafe { resp_parser_next(self.raw.get_mut(), &mut view) } {
-            status::MORE => Ok(None),
-            // SAFETY: `lend` asks for a view that a call of the handle showed, and for no call with
-            // the handle as long as it is lent. The result borrows `self` mutably, so none is made.
-            status::DONE => Ok(Some(unsafe { lend(&view) })),
+        // view that it may write, which a unique reference gives.
+        match unsafe { resp_parser_next(self.raw.get_mut(), view) } {
+            status::DONE => Ok(true),
+            status::MORE => Ok(false),
             status::FAULT => Err(self.fault(None)),
             status => Err(failure(status)),
         }
@@ -207,6 +233,7 @@ impl Handle {
 }
 
 /// Whether a call that returns no value was done.
+#[inline]
 fn done(status: u32) -> Result<(), Error> {
     match status {
         status::DONE => Ok(()),
@@ -248,6 +275,7 @@ impl RawView {
 /// # Safety
 ///
 /// A call with a handle showed the view, and no call is made with that handle in the lifetime `'a`.
+#[inline]
 unsafe fn lend<'a>(view: &RawView) -> Lent<'a> {
     Lent {
         // SAFETY: the handle shows initialised memory that it owns, and doesn't write it before the
@@ -264,6 +292,7 @@ unsafe fn lend<'a>(view: &RawView) -> Lent<'a> {
 ///
 /// Where `count` isn't 0, `count` values at `at` can be read in the lifetime `'a`, and nothing
 /// writes them.
+#[inline]
 unsafe fn slice_of<'a, T>(at: *const T, count: usize) -> &'a [T] {
     if count == 0 {
         return &[];

@@ -30,6 +30,31 @@
 //! assert_eq!(resp_c::pack(&["GET", "key"]), b"*2\r\n$3\r\nGET\r\n$3\r\nkey\r\n");
 //! ```
 //!
+//! A [`Command`] takes arguments of several types, and [`Parser::read_next`] reads replies from a
+//! connection. A value is converted by [`TryFrom`]:
+//!
+//! ```
+//! use resp_c::{Command, Parser};
+//! use std::io::{self, Read, Write};
+//!
+//! fn visits(connection: &mut (impl Read + Write), parser: &mut Parser) -> io::Result<i64> {
+//!     connection.write_all(&Command::new("INCRBY").arg("visits").arg(2).pack())?;
+//!     let view = parser.read_next(connection)?.ok_or(io::ErrorKind::UnexpectedEof)?;
+//!     Ok(view.value().try_into()?)
+//! }
+//! # struct Peer(&'static [u8], Vec<u8>);
+//! # impl Read for Peer {
+//! #     fn read(&mut self, out: &mut [u8]) -> io::Result<usize> { self.0.read(out) }
+//! # }
+//! # impl Write for Peer {
+//! #     fn write(&mut self, bytes: &[u8]) -> io::Result<usize> { self.1.write(bytes) }
+//! #     fn flush(&mut self) -> io::Result<()> { Ok(()) }
+//! # }
+//! # let mut peer = Peer(b":7\r\n", Vec::new());
+//! # assert_eq!(visits(&mut peer, &mut Parser::new().unwrap()).unwrap(), 7);
+//! # assert_eq!(peer.1, b"*3\r\n$6\r\nINCRBY\r\n$6\r\nvisits\r\n$1\r\n2\r\n");
+//! ```
+//!
 //! A server or a mock makes a [`Reply`] and encodes it, in RESP3 or in RESP2. A proxy encodes a
 //! [`View`] again, or puts parts of it into a reply:
 //!
@@ -52,6 +77,8 @@
 #![deny(missing_docs)]
 #![deny(unsafe_code)]
 
+mod command;
+mod convert;
 mod encode;
 mod error;
 #[allow(unsafe_code)]
@@ -59,8 +86,10 @@ mod ffi;
 mod output;
 mod pack;
 mod parser;
+mod show;
 mod view;
 
+pub use command::{Argument, Command};
 pub use encode::{Protocol, Reply};
 pub use error::{Error, Fault};
 pub use pack::{pack, pack_pipeline, version};

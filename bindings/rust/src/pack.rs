@@ -17,9 +17,7 @@ use crate::output::{written, FRAME};
 pub fn pack<A: AsRef<[u8]>>(args: &[A]) -> Vec<u8> {
     let mut joined = Joined::default();
     joined.add(args);
-    packed(joined.room(0), |out| {
-        ffi::pack(&joined.bytes, &joined.sizes, out)
-    })
+    joined.packed()
 }
 
 /// The bytes of several commands, one after another; between `MULTI` and `EXEC` if `atomic`. A
@@ -66,13 +64,25 @@ pub fn version() -> (u8, u8, u8) {
 const TRANSACTION: usize = 29;
 
 /// Arguments one after another, and the size of each.
-#[derive(Default)]
-struct Joined {
+#[derive(Clone, Default)]
+pub(crate) struct Joined {
     bytes: Vec<u8>,
     sizes: Vec<usize>,
 }
 
 impl Joined {
+    /// The bytes of these arguments as one command.
+    pub(crate) fn packed(&self) -> Vec<u8> {
+        packed(self.room(0), |out| ffi::pack(&self.bytes, &self.sizes, out))
+    }
+
+    /// Adds an argument, which the function writes.
+    pub(crate) fn add_written(&mut self, write: impl FnOnce(&mut Vec<u8>)) {
+        let start = self.bytes.len();
+        write(&mut self.bytes);
+        self.sizes.push(self.bytes.len() - start);
+    }
+
     fn add<A: AsRef<[u8]>>(&mut self, args: &[A]) {
         for arg in args {
             self.bytes.extend_from_slice(arg.as_ref());

@@ -4,6 +4,7 @@ use crate::error::Error;
 use crate::ffi::Handle;
 use crate::view::View;
 use std::fmt;
+use std::io::{self, ErrorKind, Read};
 
 /// How deep a value may be, and how many bytes may spell it.
 ///
@@ -30,6 +31,12 @@ impl Default for Limits {
         }
     }
 }
+
+/// The number of [`State::InProgress`].
+const IN_PROGRESS: u32 = 2;
+
+/// How many bytes are read at once.
+const PIECE: usize = 16384;
 
 /// What a parser can do next.
 ///
@@ -155,6 +162,7 @@ impl Parser {
     /// # Ok(())
     /// # }
     /// ```
+    #[inline]
     pub fn feed(&mut self, bytes: &[u8]) -> Result<(), Error> {
         self.handle.feed(bytes)
     }
@@ -178,8 +186,50 @@ impl Parser {
     /// ```
     // `Iterator` can't be implemented: the view borrows the parser.
     #[allow(clippy::should_implement_trait)]
+    #[inline]
     pub fn next(&mut self) -> Result<Option<View<'_>>, Error> {
         Ok(self.handle.next()?.map(View::of))
+    }
+
+    /// Takes the next value, for which it reads as often as it needs; `None` where the reader ends
+    /// before one begins. What is read beyond it is kept.
+    ///
+    /// # Errors
+    ///
+    /// Those of the reader, but for an interruption, after which it reads again. The parser is as it
+    /// was then, and may go on. [`ErrorKind::UnexpectedEof`] where the reader ends within a value; and
+    /// the errors of [`next`](Parser::next) and [`feed`](Parser::feed), as [`io::Error`] has them.
+    ///
+    /// ```
+    /// # fn main() -> std::io::Result<()> {
+    /// let mut connection: &[u8] = b"+PONG\r\n:7\r\n";
+    /// let mut parser = resp_c::Parser::new()?;
+    /// let view = parser.read_next(&mut connection)?.expect("a reply");
+    /// assert_eq!(view.value().text(), Some("PONG"));
+    /// let view = parser.read_next(&mut connection)?.expect("a reply");
+    /// assert_eq!(view.value().int(), Some(7));
+    /// assert!(parser.read_next(&mut connection)?.is_none());
+    /// # Ok(())
+    /// # }
+    /// ```
+    pub fn read_next<R: Read + ?Sized>(&mut self, reader: &mut R) -> io::Result<Option<View<'_>>> {
+        let mut piece = [0; PIECE];
+        let next = self.handle.next_after(|handle| loop {
+            match reader.read(&mut piece) {
+                Ok(0) if handle.state() == IN_PROGRESS => {
+                    let within = "the reader ends within a value";
+                    return Err(io::Error::new(ErrorKind::UnexpectedEof, within));
+                }
+                Ok(0) => return Ok(false),
+                Ok(size) => {
+                    handle.feed(&piece[..size])?;
+                    return Ok(true);
+                }
+                Err(error) if error.kind() == ErrorKind::Interrupted => {}
+                Err(error) => return Err(error),
+            }
+        })?;
+        Ok(next.map(View::of))
     }
 
     /// The value at the start of bytes that are all there, and how many of them spell it; `None`
@@ -218,7 +268,7 @@ impl Parser {
     pub fn state(&self) -> State {
         match self.handle.state() {
             1 => State::BetweenValues,
-            2 => State::InProgress,
+            IN_PROGRESS => State::InProgress,
             _ => State::Failed,
         }
     }

@@ -99,11 +99,16 @@ impl Kind {
 
     /// How many values come after a token of this kind and size, as parts of its value.
     fn parts(self, size: usize) -> usize {
+        self.checked_parts(size).unwrap_or(usize::MAX)
+    }
+
+    /// The same; `None` where they are too many, as in no reply that was read.
+    pub(crate) fn checked_parts(self, size: usize) -> Option<usize> {
         match self {
-            Kind::Array | Kind::Set | Kind::Push => size,
-            Kind::Map => 2 * size,
-            Kind::Attribute => 2 * size + 1,
-            _ => 0,
+            Kind::Array | Kind::Set | Kind::Push => Some(size),
+            Kind::Map => size.checked_mul(2),
+            Kind::Attribute => size.checked_mul(2)?.checked_add(1),
+            _ => Some(0),
         }
     }
 }
@@ -128,13 +133,8 @@ pub struct View<'a> {
     pub(crate) lent: Lent<'a>,
 }
 
-impl fmt::Debug for View<'_> {
-    fn fmt(&self, f: &mut fmt::Formatter<'_>) -> fmt::Result {
-        f.debug_tuple("View").field(&self.value()).finish()
-    }
-}
-
 impl<'a> View<'a> {
+    #[inline]
     pub(crate) fn of(lent: Lent<'a>) -> View<'a> {
         View { lent }
     }
@@ -332,7 +332,7 @@ impl FusedIterator for Tokens<'_> {}
 
 /// A value of a reply, with those inside it: a place in the tokens, which is cheap to copy.
 ///
-/// `{:?}` prints it as a tree:
+/// `{:?}` prints it as the crate `redis` does:
 ///
 /// ```
 /// # fn main() -> Result<(), resp_c::Error> {
@@ -340,7 +340,7 @@ impl FusedIterator for Tokens<'_> {}
 /// parser.feed(b"*2\r\n%1\r\n+a\r\n:1\r\n$2\r\n\xFF!\r\n")?;
 /// let view = parser.next()?.expect("a value");
 /// let shown = format!("{:?}", view.value());
-/// assert_eq!(shown, r#"Array[Map{SimpleString("a"): Int(1)}, BulkString("\xff!")]"#);
+/// assert_eq!(shown, r#"array([map([(simple-string("a"), int(1))]), binary-data([255, 33])])"#);
 /// # Ok(())
 /// # }
 /// ```
@@ -366,27 +366,6 @@ impl FusedIterator for Tokens<'_> {}
 pub struct Value<'a> {
     /// Its tokens, and maybe those of values after it: never none.
     pub(crate) from: Lent<'a>,
-}
-
-impl fmt::Debug for Value<'_> {
-    fn fmt(&self, f: &mut fmt::Formatter<'_>) -> fmt::Result {
-        match self.kind() {
-            kind @ (Kind::Array | Kind::Set | Kind::Push) => {
-                write!(f, "{kind:?}")?;
-                self.elements().fmt(f)
-            }
-            Kind::Map => {
-                f.write_str("Map")?;
-                self.pairs().fmt(f)
-            }
-            Kind::Attribute => {
-                write!(f, "Attribute{:?}", self.pairs())?;
-                self.described()
-                    .map_or(Ok(()), |value| write!(f, "({value:?})"))
-            }
-            _ => self.token().fmt(f),
-        }
-    }
 }
 
 impl<'a> Value<'a> {

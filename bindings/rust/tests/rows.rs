@@ -124,71 +124,7 @@ fn number(digits: &[u8]) -> u64 {
 
 /// A value as the rows show it, which is how the Rust crate `redis` prints it.
 fn shown(value: Value) -> String {
-    let text = value.text();
-    match value.kind() {
-        Kind::Nil => "nil".into(),
-        Kind::Okay => "ok".into(),
-        Kind::Int => format!("int({})", value.int().expect("a number")),
-        Kind::SimpleString => format!("simple-string({:?})", text.expect("UTF-8")),
-        Kind::BulkString => match text {
-            Some(text) => format!("bulk-string('{text:?}')"),
-            None => format!("binary-data({:?})", value.bytes().expect("bytes")),
-        },
-        Kind::Array => format!("array([{}])", all_shown(value.elements())),
-        Kind::Map => format!("map([{}])", pairs_shown(value)),
-        Kind::Attribute => format!("attribute({})", shown(value.described().expect("a value"))),
-        Kind::ServerError => error_shown(value),
-        Kind::Boolean => format!("boolean({})", value.boolean().expect("a truth value")),
-        Kind::Double => format!("double({})", text.expect("UTF-8")),
-        Kind::BigNumber => format!("big-number({:?})", value.bytes().expect("bytes")),
-        Kind::Set => format!("set([{}])", all_shown(value.elements())),
-        Kind::VerbatimString => verbatim_shown(value),
-        Kind::Push => push_shown(value),
-    }
-}
-
-fn all_shown<'a>(values: impl Iterator<Item = Value<'a>>) -> String {
-    values.map(shown).collect::<Vec<_>>().join(", ")
-}
-
-fn pairs_shown(map: Value) -> String {
-    let pair = |(key, value)| format!("({}, {})", shown(key), shown(value));
-    map.pairs().map(pair).collect::<Vec<_>>().join(", ")
-}
-
-fn error_shown(error: Value) -> String {
-    match error.server_error().expect("an error") {
-        (code, Some(detail)) => format!("Server error: `{code}: {detail}`"),
-        (code, None) => format!("Server error: `{code}`"),
-    }
-}
-
-fn verbatim_shown(value: Value) -> String {
-    let (format, text) = value.verbatim().expect("a format");
-    let format = match format {
-        "txt" => "Text".into(),
-        "mkd" => "Markdown".into(),
-        other => format!("Unknown({other:?})"),
-    };
-    format!("verbatim-string({format},{text:?})")
-}
-
-fn push_shown(value: Value) -> String {
-    let (kind, data) = value.push().expect("a kind");
-    let kind = match kind {
-        "invalidate" => "Invalidate".into(),
-        "message" => "Message".into(),
-        "pmessage" => "PMessage".into(),
-        "smessage" => "SMessage".into(),
-        "unsubscribe" => "Unsubscribe".into(),
-        "punsubscribe" => "PUnsubscribe".into(),
-        "sunsubscribe" => "SUnsubscribe".into(),
-        "subscribe" => "Subscribe".into(),
-        "psubscribe" => "PSubscribe".into(),
-        "ssubscribe" => "SSubscribe".into(),
-        other => format!("Other({other:?})"),
-    };
-    format!("push({kind}, [{}])", all_shown(data))
+    format!("{value:?}")
 }
 
 /// A text with its ASCII control characters as escapes.
