@@ -18,10 +18,10 @@
  *   8. It uses what a view shows until the next call with the same handle, whichever that is, and
  *      doesn't write it. To keep a value for longer, it copies the tokens and the text.
  *
- * Memory comes from rattle_alloc, rattle_realloc and rattle_dealloc, which the program links:
- * resp_alloc.c defines them over malloc. Calls for different handles may run in different threads
- * at once where these functions may. Memory that one thread asked for may be freed by another, where
- * a handle went there. The library has no global state, and makes no other call to
+ * Memory comes from rattle_alloc, rattle_realloc and rattle_dealloc: resp_alloc.c defines them over
+ * malloc, and the libraries of a release have it. Calls for different handles may run in different
+ * threads at once where these functions may. Memory that one thread asked for may be freed by
+ * another, where a handle went there. The library has no global state, and makes no other call to
  * the system. The layout of the structs is that of x86-64 Linux, for which the library is built.
  */
 #ifndef RESP_C_H
