@@ -1,7 +1,7 @@
 //! Rounds of parsing.
 
 use crate::Round;
-use resp_core::{FlatReply, Limits, Parser, RedisResult, Value};
+use resp_core::{FlatReply, Limits, Parser, RedisResult};
 use std::alloc::Global;
 
 /// How many bytes are fed at a time where nothing is said of it.
@@ -68,7 +68,8 @@ fn take_all_flat(parser: &mut Parser, reply: &mut FlatReply) -> RedisResult<u64>
     Ok(taken)
 }
 
+/// Drops a value where no optimizer sees what it was made for.
 #[inline(never)]
-fn discard(value: Value) {
+pub fn discard<T: Drop>(value: T) {
     let _ = value;
 }

@@ -1,6 +1,7 @@
 //! Rounds of queries over a connection in memory.
 
 use crate::Round;
+use crate::parsing::discard;
 use resp_core::{ByteLink, Cmd, ConnectionLike, FromRedisValue, Pipeline, RedisResult, cmd, pipe};
 use std::alloc::Global;
 use std::collections::{BTreeMap, HashMap};
@@ -129,11 +130,6 @@ fn answer<T: FromRedisValue + Drop>(
     let value: T = command.query(con)?;
     discard(value);
     Ok(())
-}
-
-#[inline(never)]
-fn discard<T: Drop>(value: T) {
-    let _ = value;
 }
 
 fn values_found(alloc: Global) -> RedisResult<Vec<u8>> {
