@@ -1,7 +1,9 @@
 //! Rounds of parsing.
 
+ghost use Rattle.std.specs.Prelude.{◌<◌};
+
 use crate::Round;
-use resp_core::{FlatReply, Limits, Parser, RedisResult};
+use resp_core::{FlatParser, FlatReply, Limits, Parser, RedisResult};
 use std::alloc::Global;
 
 /// How many bytes are fed at a time where nothing is said of it.
@@ -26,21 +28,46 @@ pub fn parse_round(
     piece: usize,
 ) -> RedisResult<Round> {
     let piece = if piece == 0 { PIECE } else { piece };
-    let mut parser = Parser::with_limits(alloc, limits)?;
-    let mut reply = FlatReply::new(alloc);
-    let mut units: u64 = 0;
-    for part in bytes.chunks(piece) {
-        parser.feed(part)?;
-        let taken = match form {
-            Form::Tree => take_all(&mut parser)?,
-            Form::Flat => take_all_flat(&mut parser, &mut reply)?,
-        };
-        units = units.saturating_add(taken);
-    }
+    let units = match form {
+        Form::Tree => parse_trees(Parser::with_limits(alloc, limits)?, bytes, piece)?,
+        Form::Flat => {
+            let parser = FlatParser::with_limits(alloc, limits)?;
+            parse_flat(parser, FlatReply::new(alloc), bytes, piece)?
+        }
+    };
     Ok(Round {
         units,
         bytes: bytes.len() as u64,
     })
+}
+
+/// How many values the bytes spell, which come in pieces.
+fn parse_trees(mut parser: Parser, bytes: &[u8], piece: usize) -> RedisResult<u64>
+    requires some { 0 < piece }
+{
+    let mut units: u64 = 0;
+    for part in bytes.chunks(piece) {
+        parser.feed(part)?;
+        units = units.saturating_add(take_all(&mut parser)?);
+    }
+    Ok(units)
+}
+
+/// The same, as flat replies.
+fn parse_flat(
+    mut parser: FlatParser,
+    mut reply: FlatReply,
+    bytes: &[u8],
+    piece: usize,
+) -> RedisResult<u64>
+    requires some { 0 < piece }
+{
+    let mut units: u64 = 0;
+    for part in bytes.chunks(piece) {
+        parser.feed(part)?;
+        units = units.saturating_add(take_all_flat(&mut parser, &mut reply)?);
+    }
+    Ok(units)
 }
 
 /// Takes the values that are whole, drops them, and counts them.
@@ -57,10 +84,10 @@ fn take_all(parser: &mut Parser) -> RedisResult<u64> {
 }
 
 /// Takes the values that are whole into the reply, and counts them.
-fn take_all_flat(parser: &mut Parser, reply: &mut FlatReply) -> RedisResult<u64> {
+fn take_all_flat(parser: &mut FlatParser, reply: &mut FlatReply) -> RedisResult<u64> {
     let mut taken: u64 = 0;
     for _ in 0..u64::MAX {
-        if !parser.take_flat(reply)? {
+        if !parser.take_reply(reply)? {
             break;
         }
         taken = taken.saturating_add(1);

@@ -8,13 +8,13 @@ ghost use Rattle.resp_c.specs.Sessions.{number_of, status_of, with_fault};
 
 use crate::status::{BETWEEN_VALUES, DONE, FAILED, FAULT, HAS_FAILED, IN_PROGRESS, MEMORY, MORE};
 use resp_flat::FlatReply;
-use resp_parse::{Limits, Parser};
+use resp_parse::{FlatParser, Limits};
 use resp_value::{FrameFault, ParsingError, RedisError, RedisResult};
 use std::alloc::Global;
 
 /// A parser, and the reply that it gave last.
 pub struct Session {
-    pub parser: Parser,
+    pub parser: FlatParser,
     pub reply: FlatReply,
     /// The number of the fault that was met last; 0 before one was.
     pub fault: u32,
@@ -44,7 +44,7 @@ impl Session {
         ensures accepts { IfErr result (λ e. AreLimits limits → ⊥) }
     {
         Ok(Session {
-            parser: Parser::with_limits(alloc, limits)?,
+            parser: FlatParser::with_limits(alloc, limits)?,
             reply: FlatReply::new(alloc),
             fault: 0,
             place: 0,
@@ -91,7 +91,7 @@ impl Session {
         if self.parser.is_failed() {
             return FAILED;
         }
-        match self.parser.take_flat(&mut self.reply) {
+        match self.parser.take_reply(&mut self.reply) {
             Ok(true) => DONE,
             Ok(false) => MORE,
             Err(error) => {
@@ -115,7 +115,7 @@ impl Session {
         let Ok(mut parser) = parser_over(alloc, self.parser.limits(), bytes) else {
             return MEMORY;
         };
-        match parser.take_flat(&mut self.reply) {
+        match parser.take_reply(&mut self.reply) {
             Ok(true) => {
                 *taken = bytes.len() - parser.unparsed_len();
                 DONE
@@ -145,11 +145,11 @@ impl Session {
 }
 
 /// A parser that holds these bytes.
-fn parser_over(alloc: Global, limits: Limits, bytes: &[u8]) -> RedisResult<Parser>
+fn parser_over(alloc: Global, limits: Limits, bytes: &[u8]) -> RedisResult<FlatParser>
     ensures limits { IfOk result (λ p. p.limits ≡ limits) }
     ensures stands { IfOk result (λ p. StandsAfter p bytes.now) }
 {
-    let mut parser = Parser::with_limits(alloc, limits)?;
+    let mut parser = FlatParser::with_limits(alloc, limits)?;
     parser.feed(bytes)?;
     Ok(parser)
 }

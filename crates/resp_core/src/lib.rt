@@ -30,7 +30,7 @@ pub use resp_flat::{FlatElements, FlatPairs, FlatReply, FlatValue, Token, TokenK
 pub use resp_from::{FromRedisValue, from_redis_value, from_redis_value_by, from_redis_value_ref};
 pub use resp_link::{ByteLink, CommandSink, Writing, send_all};
 pub use resp_parse::{
-    History, Limits, Parser, Reading, ReplySource, is_double_text, parse_redis_value,
+    FlatParser, History, Limits, Parser, Reading, ReplySource, is_double_text, parse_redis_value,
 };
 pub use resp_pipeline::{Attempt, Pipeline, pipe, retrying};
 pub use resp_types::{

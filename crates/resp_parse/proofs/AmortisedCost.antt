@@ -9,7 +9,7 @@ use Rattle.resp_parse.specs.Costs.{least_bytes, BuiltWithin, StepBuiltWithin, pr
 use Rattle.resp_parse.proofs.SameCounts.{SameButIterations, SameButExamined, examined-iterations, examined-looks, examined-take, examined-both}
 
 -- a header of len + 3 bytes was looked at, of which some had been before, and begun
-module _ (m new : Machine) (c d e f : Counts) (len looked : ℕ) (bytes : List ℕ) (looked_is : looked ≡ m.scanned - 1) (looks : LooksAt looked bytes c d (Some len))
+module _ {B : Type 0} (m new : Machine B) (c d e f : Counts) (len looked : ℕ) (bytes : List ℕ) (looked_is : looked ≡ m.scanned - 1) (looks : LooksAt looked bytes c d (Some len))
     (take : e ≡ record d { examined = d.examined + (len + 3 - m.scanned) }) (begun : SameButIterations e f) where
   iterations-looked : e.iterations ≡ d.iterations
   iterations-looked = ap (λ (t : Counts). t.iterations) take
@@ -44,33 +44,33 @@ module _ (m new : Machine) (c d e f : Counts) (len looked : ℕ) (bytes : List �
       omega (arith, p, z, l, looked_is, iterations-looked, examined-now)
 
 -- a machine that was `old` has taken n bytes
-pub record CostSoFar (old m : Machine) (c d : Counts) (n : ℕ) : Type 0 where
+pub record CostSoFar {B : Type 0} (old m : Machine B) (c d : Counts) (n : ℕ) : Type 0 where
   pub looks : Looks old m c d n
   pub cost : 3 * d.iterations + potential m + 4 * c.examined ≤ 3 * c.iterations + potential old + 4 * d.examined
   pub built_within : least_bytes m ≤ least_bytes old + n
 
-pub CostSoFar-start : (m : Machine) (c : Counts) → CostSoFar m m c c 0
+pub CostSoFar-start : {B : Type 0} (m : Machine B) (c : Counts) → CostSoFar m m c c 0
 CostSoFar-start m c = record { looks = record { same = refl; once = omega arith; examined = omega arith }; cost = omega arith; built_within = omega arith }
 
-module _ (old m : Machine) (c d : Counts) (at : ℕ) (h : CostSoFar old m c d at) where
-  looks-on : (new : Machine) (e : Counts) (n : ℕ) → Looks m new d e n → Looks old new c e (at + n)
+module _ {B : Type 0} (old m : Machine B) (c d : Counts) (at : ℕ) (h : CostSoFar old m c d at) where
+  looks-on : (new : Machine B) (e : Counts) (n : ℕ) → Looks m new d e n → Looks old new c e (at + n)
   looks-on new e n l = record { same = examined-both c d e h.looks.same l.same; once = omega (arith, h.looks.once, l.once); examined = omega (arith, h.looks.examined, l.examined) }
 
   -- what a step looked at, counted with its own iteration
-  of-step : (new : Machine) (e : Counts) (n : ℕ) → Looks m new (record d { iterations = d.iterations + 1 }) e n → Looks m new d e n
+  of-step : (new : Machine B) (e : Counts) (n : ℕ) → Looks m new (record d { iterations = d.iterations + 1 }) e n → Looks m new d e n
   of-step new e n l = record { same = l.same; once = l.once; examined = l.examined }
 
   pub CostSoFar-end : (bytes : List ℕ) → Spent old m c d at
   CostSoFar-end bytes = (h.looks, omega (arith, h.cost))
 
-  pub CostSoFar-waits : (new : Machine) (e : Counts) (rest bytes : List ℕ) (n : ℕ) → StepCost m new rest d e (Ok (step.Waits n)) → Spent old new c e (at + n)
+  pub CostSoFar-waits : (new : Machine B) (e : Counts) (rest bytes : List ℕ) (n : ℕ) → StepCost {M = Unit {0}} m new rest d e (Ok (step.Waits n)) → Spent old new c e (at + n)
   CostSoFar-waits new e rest bytes n s = (looks-on new e n (of-step new e n s.0), omega (arith, h.cost, s.1))
 
-  pub CostSoFar-goes : (new : Machine) (e : Counts) (rest : List ℕ) (n : ℕ) → StepCost m new rest d e (Ok (step.Goes n)) → StepBuiltWithin m new (Ok (step.Goes n)) → CostSoFar old new c e (at + n)
+  pub CostSoFar-goes : (new : Machine B) (e : Counts) (rest : List ℕ) (n : ℕ) → StepCost {M = Unit {0}} m new rest d e (Ok (step.Goes n)) → StepBuiltWithin {M = Unit {0}} m new (Ok (step.Goes n)) → CostSoFar old new c e (at + n)
   CostSoFar-goes new e rest n s w = record { looks = looks-on new e n (of-step new e n s.0); cost = omega (arith, h.cost, s.1); built_within = omega (arith, h.built_within, w) }
 
   -- a value is whole, and was put where it belongs
-  module _ (mid new : Machine) (e f : Counts) (rest : List ℕ) (n : ℕ) (v : Whole) (s : StepCost m mid rest d e (Ok (step.Whole n v))) (w : StepBuiltWithin m mid (Ok (step.Whole n v))) (iterations : SameButIterations e f) where
+  module _ {M : Type 0} (mid new : Machine B) (e f : Counts) (rest : List ℕ) (n : ℕ) (v : Whole M) (s : StepCost m mid rest d e (Ok (step.Whole n v))) (w : StepBuiltWithin m mid (Ok (step.Whole n v))) (iterations : SameButIterations e f) where
     examined-same : f.examined ≡ e.examined
     examined-same = ap (λ (t : Counts). t.examined) iterations
 
@@ -80,11 +80,11 @@ module _ (old m : Machine) (c d : Counts) (at : ℕ) (h : CostSoFar old m c d at
     looks-attached : new.scanned ≡ mid.scanned → Looks old new c f (at + n)
     looks-attached z = record { same = examined-both c d f h.looks.same (examined-both d e f s.0.same (examined-iterations e f iterations)); once = once-attached; examined = omega (arith, h.looks.examined, s.0.examined, examined-same, z) }
 
-    pub CostSoFar-attaches : Places {X = Unit {0}} mid new e f (Ok tt) → BuiltWithin new (least_bytes mid + 3 * built v.seen) (Ok None) → new.scanned ≡ mid.scanned → CostSoFar old new c f (at + n)
+    pub CostSoFar-attaches : Places {X = Unit {0}} mid new e f (Ok tt) → BuiltWithin {M = Unit {0}} new (least_bytes mid + 3 * built v.seen) (Ok None) → new.scanned ≡ mid.scanned → CostSoFar old new c f (at + n)
     CostSoFar-attaches p k z = record { looks = looks-attached z; cost = omega (arith, h.cost, s.1, p, examined-same, z); built_within = omega (arith, h.built_within, w, k) }
 
-    pub CostSoFar-reads : (u : Whole) (bytes : List ℕ) → Places {X = Unit {0}} mid new e f (Ok tt) → new.scanned ≡ mid.scanned → Spent old new c f (at + n)
+    pub CostSoFar-reads : (u : Whole M) (bytes : List ℕ) → Places {X = Unit {0}} mid new e f (Ok tt) → new.scanned ≡ mid.scanned → Spent old new c f (at + n)
     CostSoFar-reads u bytes p z = (looks-attached z, omega (arith, h.cost, s.1, p, examined-same, z))
 
-    pub CostSoFar-built_within : (u : Whole) → BuiltWithin new (least_bytes mid + 3 * built v.seen) (Ok (Some u)) → least_bytes new + 3 * built u.seen ≤ least_bytes old + (at + n)
+    pub CostSoFar-built_within : (u : Whole M) → BuiltWithin new (least_bytes mid + 3 * built v.seen) (Ok (Some u)) → least_bytes new + 3 * built u.seen ≤ least_bytes old + (at + n)
     CostSoFar-built_within u k = omega (arith, h.built_within, w, k)

@@ -29,21 +29,21 @@ module _ (d : ℕ) (fs : List OpenAggregate) (a : Announcement) where
   abbrev begins : List ℕ → ReadOutcome Value
   begins more = then (read_announced (read (depth_below d fs)) a more) (place d fs)
 
-  pub announced-stops : (m : Machine) (e : ReadError) → Announces (Err e) a → Goes begins m (Err e)
+  pub announced-stops : {B : Type 0} (m : Machine B) (e : ReadError) → Announces (Err e) a → Goes {M = Unit {0}} begins m (Err e)
   announced-stops m Memory h = tt
   announced-stops m (Fault f) h = λ more. rw h refl
 
-  pub announced-whole : (m : Machine) (v : Value) (w : Whole) → a ≡ complete v → w.seen ≡ v → m.depth ≡ d → m.open_aggregates ≡ fs → m.body ≡ None → Goes begins m (Ok (Some w))
+  pub announced-whole : {B M : Type 0} (m : Machine B) (v : Value) (w : Whole M) → a ≡ complete v → w.seen ≡ v → m.depth ≡ d → m.open_aggregates ≡ fs → m.body ≡ None → Goes begins m (Ok (Some w))
   announced-whole m v w h s l e b = ((λ more. rw (h, s, l, e) refl), b)
 
-  pub announced-line : (m : Machine) (r : Result Value FrameFault) (w : Whole) → a ≡ with_valid r complete → ComputesSeen (Ok w) r → m.depth ≡ d → m.open_aggregates ≡ fs → m.body ≡ None → Goes begins m (Ok (Some w))
+  pub announced-line : {B M : Type 0} (m : Machine B) (r : Result Value FrameFault) (w : Whole M) → a ≡ with_valid r complete → ComputesSeen (Ok w) r → m.depth ≡ d → m.open_aggregates ≡ fs → m.body ≡ None → Goes begins m (Ok (Some w))
   announced-line m r w h c l e b = announced-whole m w.seen w (h ∙ rw c refl) refl l e b
 
-  pub announced-no_line : (m : Machine) (r : Result Value FrameFault) (e : ReadError) → a ≡ with_valid r complete → ComputesSeen (Err e) r → Goes begins m (Err e)
+  pub announced-no_line : {B : Type 0} (m : Machine B) (r : Result Value FrameFault) (e : ReadError) → a ≡ with_valid r complete → ComputesSeen {M = Unit {0}} (Err e) r → Goes {M = Unit {0}} begins m (Err e)
   announced-no_line m r Memory h c = tt
   announced-no_line m r (Fault f) h c = λ more. rw h (rw c refl)
 
-  pub announced-body : (m : Machine) (kind : BodyKind) (n : ℕ) (body : Body) → Announces (Ok (shape.Body kind n)) a → m.depth ≡ d → m.open_aggregates ≡ fs → m.body ≡ Some body → BeginsBody kind n body → Goes begins m (Ok None)
+  pub announced-body : {B : Type 0} (m : Machine B) (kind : BodyKind) (n : ℕ) (body : Body) → Announces (Ok (shape.Body kind n)) a → m.depth ≡ d → m.open_aggregates ≡ fs → m.body ≡ Some body → BeginsBody kind n body → Goes {M = Unit {0}} begins m (Ok None)
   announced-body m kind n body h l e b i = ((λ more. rw (h, l, e, b) (rw (i.kind_is, i.missing_is, i.none) refl)), rw b refl)
 
 -- a header of elements
@@ -51,15 +51,15 @@ module _ (d : ℕ) (fs : List OpenAggregate) (kind : ElementsKind) where
   abbrev begins_elements : ℕ → List ℕ → ReadOutcome Value
   begins_elements n more = then (read_announced (read (depth_below d fs)) (elements n (elements_value kind)) more) (place d fs)
 
-  pub elements-empty : (m : Machine) (n : ℕ) (v : Value) (w : Whole) → n ≡ 0 → w.seen ≡ v → m.depth ≡ d → m.open_aggregates ≡ fs → m.body ≡ None → Computes (Ok v) (elements_value kind []) → Goes (begins_elements n) m (Ok (Some w))
+  pub elements-empty : {B M : Type 0} (m : Machine B) (n : ℕ) (v : Value) (w : Whole M) → n ≡ 0 → w.seen ≡ v → m.depth ≡ d → m.open_aggregates ≡ fs → m.body ≡ None → Computes (Ok v) (elements_value kind []) → Goes (begins_elements n) m (Ok (Some w))
   elements-empty m n v w z s l e b c = ((λ more. rw (z, s, l, e) (rw c refl)), b)
 
-  pub elements-refused : (m : Machine) (n : ℕ) (e : ReadError) → n ≡ 0 → Computes (Err e) (elements_value kind []) → Goes (begins_elements n) m (Err e)
+  pub elements-refused : {B : Type 0} (m : Machine B) (n : ℕ) (e : ReadError) → n ≡ 0 → Computes (Err e) (elements_value kind []) → Goes {M = Unit {0}} (begins_elements n) m (Err e)
   elements-refused m n Memory z c = tt
   elements-refused m n (Fault f) z c = λ more. rw z (rw c refl)
 
-  pub elements-opened : (m : Machine) (n k : ℕ) (f : OpenAggregate) → n ≡ suc k → BeginsAggregate kind k f → m.depth ≡ d → m.open_aggregates ≡ f ∷ fs → m.body ≡ None → Goes (begins_elements n) m (Ok None)
-  elements-opened m n k f z i l e b = (
+  pub elements-opened : {B : Type 0} (m : Machine B) (n k : ℕ) (size : ℕ) (f : OpenAggregate) → n ≡ suc k → BeginsAggregate kind size k f → m.depth ≡ d → m.open_aggregates ≡ f ∷ fs → m.body ≡ None → Goes {M = Unit {0}} (begins_elements n) m (Ok None)
+  elements-opened m n k size f z i l e b = (
     (λ more. rw (z, l, e, b) (opens d k kind f fs more i.kind_is i.after_is i.none)),
     rw (e, b) refl,
   )

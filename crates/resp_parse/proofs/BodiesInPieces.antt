@@ -97,7 +97,7 @@ module _ (old new : Body) (bytes : List ℕ) (n : ℕ) (n_is : n ≡ min (length
       ∙ ap (λ s. fault BodyEnd (s ++ more)) (drop-drop n j bytes)
 
 -- a machine in a body that took n bytes
-module _ (m : Machine) (old new : Body) (bytes : List ℕ) (n : ℕ) (body_is : m.body ≡ Some old) (h : FillsBody {E = Unit {0}} old bytes new (Ok n)) where
+module _ {B : Type 0} (m : Machine B) (old new : Body) (bytes : List ℕ) (n : ℕ) (body_is : m.body ≡ Some old) (h : FillsBody {E = Unit {0}} old bytes new (Ok n)) where
   pub resumes : (more : List ℕ) → resume m (bytes ++ more) ≡ then (value_of (depth_left m.depth m.open_aggregates) (Some new) (drop n bytes ++ more)) (place m.depth m.open_aggregates)
   resumes more =
       ap (λ o. then (value_of (depth_left m.depth m.open_aggregates) o (bytes ++ more)) (place m.depth m.open_aggregates)) body_is
@@ -106,7 +106,7 @@ module _ (m : Machine) (old new : Body) (bytes : List ℕ) (n : ℕ) (body_is : 
   within : n ≤ length bytes
   within = omega (arith, h.0)
 
-  pub body-waits : m.scanned ≡ 0 → EndsBody (drop n bytes) (Ok false) → (m' : Machine) → m' ≡ record m { builder = m'.builder; body = Some new } → Steps m bytes m' (Ok (step.Waits n))
+  pub body-waits : m.scanned ≡ 0 → EndsBody (drop n bytes) (Ok false) → (m' : Machine B) → m' ≡ record m { builder = m'.builder; body = Some new } → Steps {M = Unit {0}} m bytes m' (Ok (step.Waits n))
   body-waits s e m' i = rw i (record {
     within = within;
     same = resumes;
@@ -116,7 +116,7 @@ module _ (m : Machine) (old new : Body) (bytes : List ℕ) (n : ℕ) (body_is : 
     begun = λ _. rw body_is refl;
   })
 
-  pub body-malformed : (m' : Machine) (j : ℕ) → m'.shown ≡ n + j → EndsBody (drop n bytes) (Err j) → Steps m bytes m' (Err (Fault BodyEnd))
+  pub body-malformed : (m' : Machine B) (j : ℕ) → m'.shown ≡ n + j → EndsBody (drop n bytes) (Err j) → Steps {M = Unit {0}} m bytes m' (Err (Fault BodyEnd))
   body-malformed m' j i e =
       let r : length (drop n bytes) ≡ length bytes - n = grind (arith, common_steps) in
       let l : j ≤ length (drop n bytes) = e.0 in
@@ -125,7 +125,7 @@ module _ (m : Machine) (old new : Body) (bytes : List ℕ) (n : ℕ) (body_is : 
   ended : EndsBody (drop n bytes) (Ok true) → (more : List ℕ) → resume m (bytes ++ more) ≡ then (made (body_value new.kind new.seen) (drop 2 (drop n bytes) ++ more)) (place m.depth m.open_aggregates)
   ended e more = resumes more ∙ ap (λ o. then o (place m.depth m.open_aggregates)) (whole old new bytes n h.0 h.1 (depth_left m.depth m.open_aggregates) more e.0 (e.1 more))
 
-  pub body-refused : EndsBody (drop n bytes) (Ok true) → (m' : Machine) (e : ReadError) → m'.shown ≡ n + 2 → ComputesSeen (Err e) (body_value new.kind new.seen) → Steps m bytes m' (Err e)
+  pub body-refused : EndsBody (drop n bytes) (Ok true) → (m' : Machine B) (e : ReadError) → m'.shown ≡ n + 2 → ComputesSeen {M = Unit {0}} (Err e) (body_value new.kind new.seen) → Steps {M = Unit {0}} m bytes m' (Err e)
   body-refused e m' Memory i c = tt
   body-refused e m' (Fault f) i c =
       let r : length (drop n bytes) ≡ length bytes - n = grind (arith, common_steps) in
@@ -133,7 +133,7 @@ module _ (m : Machine) (old new : Body) (bytes : List ℕ) (n : ℕ) (body_is : 
       let d : drop 2 (drop n bytes) ≡ drop (n + 2) bytes = drop-drop n 2 bytes in
       rw i (omega (arith, r, l, within), λ more. ended e more ∙ rw (c, d) refl)
 
-  pub body-whole : m.scanned ≡ 0 → EndsBody (drop n bytes) (Ok true) → (m' : Machine) → m' ≡ record m { builder = m'.builder; body = None } → (w : Whole) → ComputesSeen (Ok w) (body_value new.kind new.seen) → Steps m bytes m' (Ok (step.Whole (n + 2) w))
+  pub body-whole : {M : Type 0} → m.scanned ≡ 0 → EndsBody (drop n bytes) (Ok true) → (m' : Machine B) → m' ≡ record m { builder = m'.builder; body = None } → (w : Whole M) → ComputesSeen (Ok w) (body_value new.kind new.seen) → Steps m bytes m' (Ok (step.Whole (n + 2) w))
   body-whole s e m' i w c =
       let r : length (drop n bytes) ≡ length bytes - n = grind (arith, common_steps) in
       let l : 2 ≤ length (drop n bytes) = e.0 in
@@ -149,5 +149,5 @@ module _ (m : Machine) (old new : Body) (bytes : List ℕ) (n : ℕ) (body_is : 
       )
 
 -- no line is looked at while a body is open
-pub IsScanned-body : (m : Machine) (b : Body) (bytes : List ℕ) → m.body ≡ Some b → IsScanned m.body m.scanned bytes → m.scanned ≡ 0
+pub IsScanned-body : {B : Type 0} (m : Machine B) (b : Body) (bytes : List ℕ) → m.body ≡ Some b → IsScanned m.body m.scanned bytes → m.scanned ≡ 0
 IsScanned-body m b bytes e h = let k : IsScanned (Some b) m.scanned bytes = subst (λ (o : Option Body). IsScanned o m.scanned bytes) e h in k

@@ -4,13 +4,11 @@ use Rattle.std.proofs.lemmas.Grind.{common_steps}
 use Rattle.std.proofs.lemmas.List.{length-append}
 use Rattle.resp_parse.specs.declared.body.Body.{Body}
 use Rattle.resp_parse.specs.declared.machine.Machine.{Machine}
-use Rattle.resp_parse.specs.Building.{BuildsIn}
-use Rattle.resp_parse.proofs.InMemory.{values-within, tokens-within}
 use Rattle.resp_parse.specs.Counts.{Counts, nothing_done}
 use Rattle.resp_parse.specs.State.{State}
 use Rattle.resp_parse.specs.Bounds.{Bounded, OneCall}
 use Rattle.resp_parse.specs.Resume.{fresh_of, IsScanned}
-use Rattle.resp_parse.specs.Costs.{values_in, tokens_kept, potential, Spent, SpentAtStop}
+use Rattle.resp_parse.specs.Costs.{PaidFor, potential, Spent, SpentAtStop}
 use Rattle.resp_parse.specs.Invariant.{Counted, Holds, CountsTaken, limits_of}
 use Rattle.resp_parse.proofs.Holding.{nothing_open}
 
@@ -37,7 +35,7 @@ begun c t e i s =
     }
 
 -- a call was counted, and the machine went on
-module _ (m new : Machine) (u : List ℕ) (c t e : Counts) (failed : Bool) where
+module _ {B : Type 0} (m new : Machine B) (u : List ℕ) (c t e : Counts) (failed : Bool) where
   pub Counted-taken : (n : ℕ) → n ≤ length u → new.scanned ≤ length (drop n u) → Counted m u c failed → failed ≡ false → t ≡ record c { calls = c.calls + 1 } → Spent m new t e n → Counted new (drop n u) e failed
   Counted-taken n l s k w i p =
       let b = k.works w in
@@ -61,18 +59,18 @@ module _ (m new : Machine) (u : List ℕ) (c t e : Counts) (failed : Bool) where
         works = λ z. absurd (let y : true ≡ false = z in cc);
       }
 
-potential-fresh : (m : Machine) → fresh_of m.body m.open_aggregates ≡ true → m.scanned ≡ 0 → potential m ≡ 0
+potential-fresh : {B : Type 0} (m : Machine B) → fresh_of m.body m.open_aggregates ≡ true → m.scanned ≡ 0 → potential m ≡ 0
 potential-fresh m f s = let n = nothing_open m.body m.open_aggregates f in rw (n.no_body, n.no_frame, s) (omega arith)
 
-pub depth-fresh : (m : Machine) → fresh_of m.body m.open_aggregates ≡ true → length m.open_aggregates ≤ m.depth
+pub depth-fresh : {B : Type 0} (m : Machine B) → fresh_of m.body m.open_aggregates ≡ true → length m.open_aggregates ≤ m.depth
 depth-fresh m f = let n = nothing_open m.body m.open_aggregates f in rw n.no_frame (omega arith)
 
 -- nothing was done
-pub Counted-new : (m : Machine) (u : List ℕ) (c : Counts) → c ≡ nothing_done → fresh_of m.body m.open_aggregates ≡ true → m.scanned ≡ 0 → u ≡ [] → Counted m u c false
+pub Counted-new : {B : Type 0} (m : Machine B) (u : List ℕ) (c : Counts) → c ≡ nothing_done → fresh_of m.body m.open_aggregates ≡ true → m.scanned ≡ 0 → u ≡ [] → Counted m u c false
 Counted-new m u c e f s n = rw (e, n) (record { iterations = omega arith; looks = omega arith; examined = omega arith; works = λ _. record { cost = omega (arith, potential-fresh m f s); accounted = omega (arith, s) } })
 
 -- bytes came by a call
-pub Counted-fed : (m : Machine) (u v : List ℕ) (n : ℕ) (c d : Counts) (failed : Bool) → Counted m u c failed → d ≡ record c { received = c.received + n; calls = c.calls + 1 } → length v ≡ length u + n → Counted m v d failed
+pub Counted-fed : {B : Type 0} (m : Machine B) (u v : List ℕ) (n : ℕ) (c d : Counts) (failed : Bool) → Counted m u c failed → d ≡ record c { received = c.received + n; calls = c.calls + 1 } → length v ≡ length u + n → Counted m v d failed
 Counted-fed m u v n c d failed k e l =
     rw e (record {
       iterations = omega (arith, k.iterations);
@@ -82,7 +80,7 @@ Counted-fed m u v n c d failed k e l =
     })
 
 -- bytes came from a source
-pub Counted-asked : (m : Machine) (u v : List ℕ) (n : ℕ) (c d : Counts) (failed : Bool) → Counted m u c failed → d ≡ record c { received = c.received + n } → length v ≡ length u + n → Counted m v d failed
+pub Counted-asked : {B : Type 0} (m : Machine B) (u v : List ℕ) (n : ℕ) (c d : Counts) (failed : Bool) → Counted m u c failed → d ≡ record c { received = c.received + n } → length v ≡ length u + n → Counted m v d failed
 Counted-asked m u v n c d failed k e l =
     rw e (record {
       iterations = omega (arith, k.iterations);
@@ -91,7 +89,7 @@ Counted-asked m u v n c d failed k e l =
       works = λ w. let b = k.works w in record { cost = omega (arith, b.cost); accounted = omega (arith, b.accounted, l) };
     })
 
-pub Counted-failing : (m : Machine) (u : List ℕ) (c : Counts) (failed : Bool) → Counted m u c failed → Counted m u c true
+pub Counted-failing : {B : Type 0} (m : Machine B) (u : List ℕ) (c : Counts) (failed : Bool) → Counted m u c failed → Counted m u c true
 Counted-failing m u c failed k = record { iterations = k.iterations; looks = k.looks; examined = k.examined; works = λ e. absurd (let z : true ≡ false = e in cc) }
 
 pub scanned-within : (b : Option Body) (n : ℕ) (u : List ℕ) → IsScanned b n u → n ≤ length u
@@ -99,9 +97,9 @@ scanned-within None n u h = h.within
 scanned-within (Some b) n u h = omega (arith, h)
 
 -- what is kept bounds what was done
-pub Bounded-from_kept : {offset : Option ℕ} (most : ℕ) (m : Machine) (u since : List ℕ) (failed : Bool) (c : Counts) (n : ℕ) → length m.open_aggregates ≤ m.depth → Holds m u since failed → Counted m u c failed → (failed ≡ false → CountsTaken most m u since n) → (failed ≡ false → BuildsIn m.builder m.open_aggregates m.body) →
-    Bounded (record { limits = limits_of m most; unparsed = u; looked = m.scanned; since = since; failed = failed; fault_offset = offset; open_aggregates = length m.open_aggregates; values = values_in m; tokens = tokens_kept m; counts = c })
-Bounded-from_kept most m u since failed c n l h k p o = record {
+pub Bounded-from_kept : {B : Type 0} {offset : Option ℕ} (most : ℕ) (m : Machine B) (u since : List ℕ) (failed : Bool) (c : Counts) (n : ℕ) → length m.open_aggregates ≤ m.depth → Holds m u since failed → Counted m u c failed → (failed ≡ false → CountsTaken most m u since n) → (values tokens : ℕ) → (failed ≡ false → PaidFor values tokens m.open_aggregates) →
+    Bounded (record { limits = limits_of m most; unparsed = u; looked = m.scanned; since = since; failed = failed; fault_offset = offset; open_aggregates = length m.open_aggregates; values = values; tokens = tokens; counts = c })
+Bounded-from_kept most m u since failed c n l h k p values tokens o = record {
   iterations = omega (arith, k.iterations);
   looks = k.looks;
   examined = k.examined;
@@ -113,8 +111,8 @@ Bounded-from_kept most m u since failed c n l h k p o = record {
       let d : length (drop m.scanned u) ≡ length u - m.scanned = grind (arith, common_steps) in
       record {
         accounted = omega (arith, b.accounted, s, d);
-        values = omega (arith, r.built_within, values-within m (o w), s, d);
-        tokens = omega (arith, r.built_within, tokens-within m (o w), s, d);
+        values = omega (arith, r.built_within, (o w).values, s, d);
+        tokens = omega (arith, r.built_within, (o w).tokens, s, d);
         size = (let z = p w in
             let j : m.scanned ≤ length z.kept = scanned-within m.body m.scanned z.kept z.resumes.scanned in
             let x : length u ≡ length z.kept + length z.later = ap length z.unparsed_is ∙ length-append z.kept z.later in

@@ -13,7 +13,7 @@ use Rattle.resp_parse.proofs.Holding.{Resumes-fresh, Resumes-fed, Resumes-waits}
 use Rattle.resp_parse.proofs.FilledBodies.{Resumes-filled, apart-taken, apart-none}
 
 -- nothing of a value was looked at
-pub CountsTaken-fresh : (most : ℕ) (m : Machine) (u since : List ℕ) → fresh_of m.body m.open_aggregates ≡ true → m.scanned ≡ 0 → u ≡ since → CountsTaken most m u since 0
+pub CountsTaken-fresh : {B : Type 0} (most : ℕ) (m : Machine B) (u since : List ℕ) → fresh_of m.body m.open_aggregates ≡ true → m.scanned ≡ 0 → u ≡ since → CountsTaken most m u since 0
 CountsTaken-fresh most m u since f s e = record {
   counted = omega (arith, ap length e);
   kept = [];
@@ -26,7 +26,7 @@ CountsTaken-fresh most m u since f s e = record {
 }
 
 -- bytes came to the buffer
-pub CountsTaken-asked : (most : ℕ) (m : Machine) (u u' since since' bytes : List ℕ) (n : ℕ) → CountsTaken most m u since n → u' ≡ u ++ bytes → since' ≡ since ++ bytes → CountsTaken most m u' since' n
+pub CountsTaken-asked : {B : Type 0} (most : ℕ) (m : Machine B) (u u' since since' bytes : List ℕ) (n : ℕ) → CountsTaken most m u since n → u' ≡ u ++ bytes → since' ≡ since ++ bytes → CountsTaken most m u' since' n
 CountsTaken-asked most m u u' since since' bytes n h l e =
     let k : length since' ≡ length since + length bytes = ap length e ∙ length-append since bytes in
     let j : length u' ≡ length u + length bytes = ap length l ∙ length-append u bytes in
@@ -42,7 +42,7 @@ CountsTaken-asked most m u u' since since' bytes n h l e =
     }
 
 -- bytes were fed, the first straight to the open body
-module _ (most : ℕ) (m new : Machine) (c d : Counts) (u u' since since' bytes direct rest : List ℕ) (n : ℕ) (h : CountsTaken most m u since n) (f : FilledOpenBody m direct new c d) (few : n + length direct ≤ most) (joined : direct ++ rest ≡ bytes)
+module _ {B : Type 0} (most : ℕ) (m new : Machine B) (c d : Counts) (u u' since since' bytes direct rest : List ℕ) (n : ℕ) (h : CountsTaken most m u since n) (f : FilledOpenBody m direct new c d) (few : n + length direct ≤ most) (joined : direct ++ rest ≡ bytes)
     (unparsed : u' ≡ u ++ rest) (received : since' ≡ since ++ bytes) where
   counted : n + length direct + length u' ≡ length since'
   counted =
@@ -93,7 +93,7 @@ module _ (most : ℕ) (m new : Machine) (c d : Counts) (u u' since since' bytes 
   CountsTaken-fed (inr e) = fed-none e
 
 -- of the unparsed bytes and of those since the last value, the ones that the value may have
-module _ (most : ℕ) (m : Machine) (u since : List ℕ) (n : ℕ) (h : CountsTaken most m u since n) where
+module _ {B : Type 0} (most : ℕ) (m : Machine B) (u since : List ℕ) (n : ℕ) (h : CountsTaken most m u since n) where
   before-size : n + length h.kept ≡ length h.before
   before-size =
       let a : length u ≡ length h.kept + length h.later = ap length h.unparsed_is ∙ length-append h.kept h.later in
@@ -130,7 +130,7 @@ module _ (most : ℕ) (m : Machine) (u since : List ℕ) (n : ℕ) (h : CountsTa
       omega (arith, before-size, a, b)
 
 -- the machine went on in all bytes since the last value, and more are awaited
-pub CountsTaken-waits : (most : ℕ) (m new : Machine) (u since : List ℕ) (n k : ℕ) → Resumes m u since → n + length u ≡ length since → length since ≤ most → Waits m u new k → new.depth ≡ m.depth → least_bytes new ≤ least_bytes m + k → CountsTaken most new (drop k u) since (n + k)
+pub CountsTaken-waits : {B : Type 0} (most : ℕ) (m new : Machine B) (u since : List ℕ) (n k : ℕ) → Resumes m u since → n + length u ≡ length since → length since ≤ most → Waits m u new k → new.depth ≡ m.depth → least_bytes new ≤ least_bytes m + k → CountsTaken most new (drop k u) since (n + k)
 CountsTaken-waits most m new u since n k h size few d same w = record {
   counted = (let l : k ≤ length u = d.within in let r : length (drop k u) ≡ length u - k = grind (arith, common_steps) in omega (arith, size, l, r));
   kept = drop k u;

@@ -3,8 +3,8 @@ use Rattle.std.proofs.Common.{◌≡◌, ℕ, ◌+◌, ◌≤◌, ◌<◌, Bool,
 use Rattle.std.proofs.lemmas.List.{append-nil}
 use Rattle.std.proofs.lemmas.Grind.{common_steps}
 use Rattle.resp_parse.specs.declared.body.Body.{Body}
-use Rattle.resp_parse.specs.declared.builder.Builder.{Builder}
 use Rattle.resp_parse.specs.declared.machine.Machine.{Machine}
+use Rattle.resp_parse.specs.Building.{Stands, filling, progress_of}
 use Rattle.resp_parse.specs.Counts.{Counts}
 use Rattle.resp_parse.specs.PlainReading.{then, read}
 use Rattle.resp_parse.specs.Resume.{depth_left, value_of, place, resume, fresh_of, IsScanned, FillsBody}
@@ -17,7 +17,7 @@ use Rattle.resp_parse.proofs.Holding.{Holds-working, Resumes-fed}
 length-zero : (xs : List ℕ) → length xs ≤ 0 → xs ≡ []
 length-zero xs l = drop-all 0 xs l
 
-pub FilledOpenBody-none : (m : Machine) (bytes : List ℕ) (c : Counts) → m.body ≡ None → length bytes ≤ lacks_of m.body → FilledOpenBody m bytes m c c
+pub FilledOpenBody-none : {B : Type 0} (m : Machine B) (bytes : List ℕ) (c : Counts) → m.body ≡ None → length bytes ≤ lacks_of m.body → FilledOpenBody m bytes m c c
 FilledOpenBody-none m bytes c b l =
     let z : lacks_of m.body ≡ 0 = ap lacks_of b in
     let none : bytes ≡ [] = length-zero bytes (omega (arith, z, l)) in
@@ -35,15 +35,19 @@ FilledOpenBody-none m bytes c b l =
       iterations = omega arith;
     }
 
+-- what was built stands for the open body
+pub builds-body : {B M : Type 0} (S : Stands B M) (m : Machine B) (b : Body) → m.body ≡ Some b → S m.builder m.open_aggregates (progress_of m.body) → S m.builder m.open_aggregates (filling b.seen)
+builds-body S m b e h = subst (λ (o : Option Body). S m.builder m.open_aggregates (progress_of o)) e h
+
 -- the open body took all bytes
-module _ (m : Machine) (old new : Body) (bytes : List ℕ) (n : ℕ) (body_is : m.body ≡ Some old) (h : FillsBody {E = Unit {0}} old bytes new (Ok n)) (l : length bytes ≤ lacks_of m.body) where
+module _ {B : Type 0} (m : Machine B) (old new : Body) (bytes : List ℕ) (n : ℕ) (body_is : m.body ≡ Some old) (h : FillsBody {E = Unit {0}} old bytes new (Ok n)) (l : length bytes ≤ lacks_of m.body) where
   all-taken : n ≡ length bytes
   all-taken = let z : lacks_of m.body ≡ old.missing = ap lacks_of body_is in omega (arith, h.0, l, z)
 
   none-left : drop n bytes ≡ []
   none-left = drop-all n bytes (omega (arith, all-taken))
 
-  pub FilledOpenBody-body : (c t d : Counts) (b : Builder) → t ≡ record c { iterations = c.iterations + 1 } → d ≡ record t { examined = t.examined + n } → FilledOpenBody m bytes (record m { builder = b; body = Some new }) c d
+  pub FilledOpenBody-body : (c t d : Counts) (b : B) → t ≡ record c { iterations = c.iterations + 1 } → d ≡ record t { examined = t.examined + n } → FilledOpenBody m bytes (record m { builder = b; body = Some new }) c d
   FilledOpenBody-body c t d b e k =
       let whole : d ≡ record c { iterations = c.iterations + 1; examined = c.examined + n } = k ∙ ap (λ (x : Counts). record x { examined = x.examined + n }) e in
       record {
@@ -61,7 +65,7 @@ module _ (m : Machine) (old new : Body) (bytes : List ℕ) (n : ℕ) (body_is : 
       }
 
 -- a parser whose open body took the first bytes that were fed, all before them being taken
-module _ (m new : Machine) (c d : Counts) (u since bytes : List ℕ) (h : Resumes m u since) (f : FilledOpenBody m bytes new c d) (apart : (more : List ℕ) → u ++ (bytes ++ more) ≡ bytes ++ (u ++ more)) where
+module _ {B : Type 0} (m new : Machine B) (c d : Counts) (u since bytes : List ℕ) (h : Resumes m u since) (f : FilledOpenBody m bytes new c d) (apart : (more : List ℕ) → u ++ (bytes ++ more) ≡ bytes ++ (u ++ more)) where
   pub Resumes-filled : Resumes new u (since ++ bytes)
   Resumes-filled = record {
     scanned = f.scanned u h.scanned;
@@ -79,7 +83,7 @@ pub apart-none : (u bytes : List ℕ) → bytes ≡ [] → (more : List ℕ) →
 apart-none u bytes e more = rw e refl
 
 -- bytes were fed: the first straight to the open body, the others to the buffer
-module _ (m new : Machine) (c d e : Counts) (buffer buffer' since since' bytes direct rest : List ℕ) (consumed : ℕ) (failed : Bool) (within : consumed ≤ length buffer) (w : failed ≡ false)
+module _ {B : Type 0} (m new : Machine B) (c d e : Counts) (buffer buffer' since since' bytes direct rest : List ℕ) (consumed : ℕ) (failed : Bool) (within : consumed ≤ length buffer) (w : failed ≡ false)
     (h : Holds m (drop consumed buffer) since failed) (k : Counted m (drop consumed buffer) c failed) (f : FilledOpenBody m direct new c d)
     (apart : (more : List ℕ) → drop consumed buffer ++ (direct ++ more) ≡ direct ++ (drop consumed buffer ++ more)) (joined : direct ++ rest ≡ bytes)
     (buffered : buffer' ≡ buffer ++ rest) (came_since : since' ≡ since ++ bytes) (counted : e ≡ record d { received = d.received + length bytes; calls = d.calls + 1 }) where

@@ -22,7 +22,7 @@ use Rattle.resp_parse.specs.declared.shape.ElementsKind.TheVariants as elements_
 use Rattle.resp_parse.specs.declared.open_aggregates.OpenAggregate.{OpenAggregate}
 use Rattle.resp_parse.specs.Grammar.{push_kind, push}
 use Rattle.resp_parse.specs.Shapes.{count_of, token_kind}
-use Rattle.resp_parse.specs.Building.{opening, tokens_in, text_in, HoldsFlat, HoldsAll, names_kind, name_token, with_name}
+use Rattle.resp_parse.specs.FlatBuilders.{opening, tokens_in, text_in, HoldsFlat, HoldsAll, names_kind, name_token, with_name}
 use Rattle.resp_parse.proofs.FlatTokens.{in-total, opening-empty}
 use Rattle.resp_flat.proofs.ReadsOnly.{name-kind_named}
 
@@ -205,23 +205,23 @@ named-first = ind-Value Names (λ x layer e. names-form x)
 
 -- ---- a push is closed
 
-module _ (r : FlatReply) (fs : List OpenAggregate) (f : OpenAggregate) (h : HoldsAll r fs f) where
-  at-first : drop (suc f.token) r.tokens.items ≡ placed (length (text_in fs)) (joined (map tokens_of f.seen))
+module _ (r : FlatReply) (opens : List ℕ) (at : ℕ) (fs : List OpenAggregate) (f : OpenAggregate) (h : HoldsAll r opens at fs f) where
+  at-first : drop (suc at) r.tokens.items ≡ placed (length (text_in fs)) (joined (map tokens_of f.seen))
   at-first =
-      ap (λ (n : ℕ). drop (suc n) r.tokens.items) h.token ∙ ap (drop (suc (length (tokens_in fs)))) h.tokens
+      ap (λ (n : ℕ). drop (suc n) r.tokens.items) h.place_is ∙ ap (drop (suc (length (tokens_in fs)))) h.tokens
       ∙ after-more 0 (tokens_in fs) (opening f) (joined (map tokens_of f.seen))
       ∙ ap (λ (n : ℕ). placed (0 + total (tokens_in fs) + n) (joined (map tokens_of f.seen))) (opening-empty f)
       ∙ ap (λ (n : ℕ). placed n (joined (map tokens_of f.seen))) (omega (arith, in-total fs))
 
   -- the first of the tokens after that of the push names its kind where the first element does
-  pub push-names : names_kind (drop (suc f.token) r.tokens.items) r.text.items ≡ names_first f.seen
+  pub push-names : names_kind (drop (suc at) r.tokens.items) r.text.items ≡ names_first f.seen
   push-names = ap (λ (ts : Tokens). names_kind ts r.text.items) at-first ∙ ap (names_kind (placed (length (text_in fs)) (joined (map tokens_of f.seen)))) h.text ∙ by_seen f.seen
     where
       by_seen : (vs : List Value) → names_kind (placed (length (text_in fs)) (joined (map tokens_of vs))) (text_in fs ++ joined (map text_of vs)) ≡ names_first vs
       by_seen [] = refl
       by_seen (v ∷ vs) = tells v (text_in fs) (joined (map text_of vs)) (joined (map tokens_of vs))
 
-  pub push-refused : names_kind (drop (suc f.token) r.tokens.items) r.text.items ≡ false → push f.seen ≡ Err BadPushKind
+  pub push-refused : names_kind (drop (suc at) r.tokens.items) r.text.items ≡ false → push f.seen ≡ Err BadPushKind
   push-refused e = by_seen f.seen (sym push-names ∙ e)
     where
       by_kind : (v : Value) (vs : List Value) (o : Option PushKind) → push_kind v ≡ o → names o ≡ false → push (v ∷ vs) ≡ Err BadPushKind
@@ -232,17 +232,17 @@ module _ (r : FlatReply) (fs : List OpenAggregate) (f : OpenAggregate) (h : Hold
       by_seen [] z = refl
       by_seen (v ∷ vs) z = by_kind v vs (push_kind v) refl z
 
-  module _ (s : FlatReply) (kind : f.kind ≡ elements_kind.Push) (renamed : s.tokens.items ≡ take (suc f.token) r.tokens.items ++ with_name (drop (suc f.token) r.tokens.items)) (same : s.text.items ≡ r.text.items) where
+  module _ (s : FlatReply) (kind : f.kind ≡ elements_kind.Push) (renamed : s.tokens.items ≡ take (suc at) r.tokens.items ++ with_name (drop (suc at) r.tokens.items)) (same : s.text.items ≡ r.text.items) where
     renamed-tokens : (ts : Tokens) → joined (map tokens_of f.seen) ≡ ts → s.tokens.items ≡ placed 0 (tokens_in fs ++ (sized token.Push (length f.seen) ∷ with_name ts))
     renamed-tokens ts e =
-        renamed ∙ ap (λ (n : ℕ). take (suc n) r.tokens.items ++ with_name (drop (suc n) r.tokens.items)) h.token
+        renamed ∙ ap (λ (n : ℕ). take (suc n) r.tokens.items ++ with_name (drop (suc n) r.tokens.items)) h.place_is
         ∙ ap (λ (us : Tokens). take (suc (length (tokens_in fs))) us ++ with_name (drop (suc (length (tokens_in fs))) us)) h.tokens
         ∙ named-at 0 (tokens_in fs) (opening f) (joined (map tokens_of f.seen))
         ∙ ap (λ (us : Tokens). placed 0 (tokens_in fs ++ (opening f ∷ with_name us))) e
         ∙ ap (λ (k : ElementsKind). placed 0 (tokens_in fs ++ (sized (token_kind k) f.size ∷ with_name ts))) kind
         ∙ ap (λ (n : ℕ). placed 0 (tokens_in fs ++ (sized token.Push n ∷ with_name ts))) (sym (ap (λ (k : ElementsKind). count_of k f.size) kind) ∙ h.count)
 
-    push-held : (v : Value) (vs : List Value) (k : PushKind) → f.seen ≡ v ∷ vs → push_kind v ≡ Some k → HoldsFlat s fs (tokens_of (Push k vs)) (text_of (Push k vs))
+    push-held : (v : Value) (vs : List Value) (k : PushKind) → f.seen ≡ v ∷ vs → push_kind v ≡ Some k → HoldsFlat s opens fs (tokens_of (Push k vs)) (text_of (Push k vs))
     push-held v vs k e p =
         let n = named-first v k p (joined (map tokens_of vs)) in
         record {
@@ -251,16 +251,17 @@ module _ (r : FlatReply) (fs : List OpenAggregate) (f : OpenAggregate) (h : Hold
               ∙ ap (λ (us : Tokens). placed 0 (tokens_in fs ++ (sized token.Push (suc (length vs)) ∷ us))) n.0 ∙ ap (λ (us : Tokens). placed 0 (tokens_in fs ++ us)) (sym (tokens_of_push k vs));
           text = same ∙ h.text ∙ ap (λ us. text_in fs ++ joined (map text_of us)) e ∙ ap (λ (x : List ℕ). text_in fs ++ (x ++ joined (map text_of vs))) n.1
               ∙ ap (λ (x : List ℕ). text_in fs ++ x) (sym (ap text_of (sym (rolls-Push k vs)) ∙ fold-roll-Value (List ℕ) text_step (Value-F.Push k vs)));
-          aggregates = h.aggregates;
+          places = h.places;
+          counts = h.counts;
         }
 
-    pub push-closed : names_kind (drop (suc f.token) r.tokens.items) r.text.items ≡ true → (u : Value) × ((push f.seen ≡ Ok u) × HoldsFlat s fs (tokens_of u) (text_of u))
+    pub push-closed : names_kind (drop (suc at) r.tokens.items) r.text.items ≡ true → (u : Value) × ((push f.seen ≡ Ok u) × HoldsFlat s opens fs (tokens_of u) (text_of u))
     push-closed e = by_seen f.seen refl (sym push-names ∙ e)
       where
-        by_seen : (vs : List Value) → f.seen ≡ vs → names_first vs ≡ true → (u : Value) × ((push f.seen ≡ Ok u) × HoldsFlat s fs (tokens_of u) (text_of u))
+        by_seen : (vs : List Value) → f.seen ≡ vs → names_first vs ≡ true → (u : Value) × ((push f.seen ≡ Ok u) × HoldsFlat s opens fs (tokens_of u) (text_of u))
         by_seen [] i z = absurd (let y : false ≡ true = z in cc)
         by_seen (v ∷ vs) i z = by_kind (push_kind v) refl z
           where
-            by_kind : (o : Option PushKind) → push_kind v ≡ o → names o ≡ true → (u : Value) × ((push f.seen ≡ Ok u) × HoldsFlat s fs (tokens_of u) (text_of u))
+            by_kind : (o : Option PushKind) → push_kind v ≡ o → names o ≡ true → (u : Value) × ((push f.seen ≡ Ok u) × HoldsFlat s opens fs (tokens_of u) (text_of u))
             by_kind None p y = absurd (let x : false ≡ true = y in cc)
             by_kind (Some k) p y = (Push k vs, (ap push i ∙ rw (p, push) refl, push-held v vs k i p))

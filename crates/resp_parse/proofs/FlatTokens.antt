@@ -11,7 +11,7 @@ use Rattle.resp_parse.specs.declared.shape.ElementsKind.TheVariants.{Array, Set,
 use Rattle.resp_parse.specs.declared.open_aggregates.OpenAggregate.{OpenAggregate}
 use Rattle.resp_parse.specs.Grammar.{last_element}
 use Rattle.resp_parse.specs.Shapes.{token_kind}
-use Rattle.resp_parse.specs.Building.{opening, tokens_in, text_in}
+use Rattle.resp_parse.specs.FlatBuilders.{opening, tokens_in, text_in}
 
 -- of elements, in order
 elements-total : (vs : List Value) → total (joined (map tokens_of vs)) ≡ length (joined (map text_of vs))

@@ -28,7 +28,7 @@ value-nothing : (d : ℕ) (b : Option Body) → value_of d b [] ≡ incomplete
 value-nothing d None = refl
 value-nothing d (Some b) = rw (body-nothing b.missing) refl
 
-pub resume-nothing : (m : Machine) → resume m [] ≡ incomplete
+pub resume-nothing : {B : Type 0} (m : Machine B) → resume m [] ≡ incomplete
 resume-nothing m = rw (value-nothing (depth_left m.depth m.open_aggregates) m.body) refl
 
 pub Scanned-none : (bs : List ℕ) → Scanned bs 0
@@ -39,7 +39,7 @@ IsScanned-zero None n bs e = rw e (record { within = omega arith; rest = Scanned
 IsScanned-zero (Some b) n bs e = e
 
 -- a step that takes no byte and opens nothing
-pub empty-waits : (m : Machine) (bytes : List ℕ) → bytes ≡ [] → IsScanned m.body m.scanned bytes → Steps m bytes m (Ok (step.Waits 0))
+pub empty-waits : {B : Type 0} (m : Machine B) (bytes : List ℕ) → bytes ≡ [] → IsScanned m.body m.scanned bytes → Steps {M = Unit {0}} m bytes m (Ok (step.Waits 0))
 empty-waits m bytes e s = record {
   within = omega arith;
   same = λ more. refl;
@@ -64,11 +64,11 @@ line-announces P kind text bs = by_test (is_utf8 text)
     by_test false = refl
 
 -- a machine before a value, whose type byte is c
-module _ (m : Machine) (c : ℕ) (after : List ℕ) (body_is : m.body ≡ None) where
+module _ {B : Type 0} (m : Machine B) (c : ℕ) (after : List ℕ) (body_is : m.body ≡ None) where
   before : (bs : List ℕ) → resume m bs ≡ then (read (depth_left m.depth m.open_aggregates) bs) (place m.depth m.open_aggregates)
   before bs = ap (λ o. then (value_of (depth_left m.depth m.open_aggregates) o bs) (place m.depth m.open_aggregates)) body_is
 
-  pub too_deep : (m' : Machine) → m'.shown ≡ 1 → length m.open_aggregates ≡ m.depth → Steps m (c ∷ after) m' (Err (Fault TooDeep))
+  pub too_deep : (m' : Machine B) → m'.shown ≡ 1 → length m.open_aggregates ≡ m.depth → Steps {M = Unit {0}} m (c ∷ after) m' (Err (Fault TooDeep))
   too_deep m' i l =
       let z : depth_left m.depth m.open_aggregates ≡ 0 = omega arith in
       rw i (omega arith, λ more. before (c ∷ (after ++ more)) ∙ ap (λ d. then (read d (c ∷ (after ++ more))) (place m.depth m.open_aggregates)) z)
@@ -80,11 +80,11 @@ module _ (m : Machine) (c : ℕ) (after : List ℕ) (body_is : m.body ≡ None) 
     leveled : (bs : List ℕ) → resume m bs ≡ then (read (suc (depth_below m.depth m.open_aggregates)) bs) (place m.depth m.open_aggregates)
     leveled bs = before bs ∙ ap (λ d. then (read d bs) (place m.depth m.open_aggregates)) level
 
-    pub unknown_type : (m' : Machine) → m'.shown ≡ 1 → type_of c ≡ None → Steps m (c ∷ after) m' (Err (Fault UnknownType))
+    pub unknown_type : (m' : Machine B) → m'.shown ≡ 1 → type_of c ≡ None → Steps {M = Unit {0}} m (c ∷ after) m' (Err (Fault UnknownType))
     unknown_type m' i k = rw i (omega arith, λ more. leveled (c ∷ (after ++ more)) ∙ rw k refl)
 
     module _ (kind : TypeByte) (kind_is : type_of c ≡ Some kind) where
-      pub line-waits : FindsLine after None → (m' : Machine) → m' ≡ record m { scanned = suc (length after) } → Steps m (c ∷ after) m' (Ok (step.Waits 0))
+      pub line-waits : FindsLine after None → (m' : Machine B) → m' ≡ record m { scanned = suc (length after) } → Steps {M = Unit {0}} m (c ∷ after) m' (Ok (step.Waits 0))
       line-waits none m' i = rw i (record {
         within = omega arith;
         same = λ more. refl;
@@ -116,11 +116,11 @@ module _ (m : Machine) (c : ℕ) (after : List ℕ) (body_is : m.body ≡ None) 
         abbrev begins : List ℕ → ReadOutcome Value
         begins more = then (read_announced (read (depth_below m.depth m.open_aggregates)) (announced_in_line kind (take len after)) more) (place m.depth m.open_aggregates)
 
-        pub header-stops : (m' end : Machine) (e : ReadError) → end.shown ≡ len + 3 → Goes begins m' (Err e) → Steps m (c ∷ after) end (Err e)
+        pub header-stops : (m' end : Machine B) (e : ReadError) → end.shown ≡ len + 3 → Goes {M = Unit {0}} begins m' (Err e) → Steps {M = Unit {0}} m (c ∷ after) end (Err e)
         header-stops m' end Memory i g = tt
         header-stops m' end (Fault f) i g = rw i (within, λ more. announced-reads more ∙ g (drop (len + 2) after ++ more) ∙ ap (λ x. fault f (x ++ more)) (sym dropped))
 
-        pub header-goes : (m' : Machine) → m'.scanned ≡ 0 → Goes begins m' (Ok None) → Steps m (c ∷ after) m' (Ok (step.Goes (len + 3)))
+        pub header-goes : (m' : Machine B) → m'.scanned ≡ 0 → Goes {M = Unit {0}} begins m' (Ok None) → Steps {M = Unit {0}} m (c ∷ after) m' (Ok (step.Goes (len + 3)))
         header-goes m' s g = (
           record {
             some = omega arith;
@@ -131,7 +131,7 @@ module _ (m : Machine) (c : ℕ) (after : List ℕ) (body_is : m.body ≡ None) 
           g.1,
         )
 
-        pub header-whole : (m' : Machine) (w : Whole) → m'.scanned ≡ 0 → Goes begins m' (Ok (Some w)) → Steps m (c ∷ after) m' (Ok (step.Whole (len + 3) w))
+        pub header-whole : {M : Type 0} (m' : Machine B) (w : Whole M) → m'.scanned ≡ 0 → Goes begins m' (Ok (Some w)) → Steps m (c ∷ after) m' (Ok (step.Whole (len + 3) w))
         header-whole m' w s g = (
           record {
             some = omega arith;

@@ -33,14 +33,14 @@ nothing_open None [] e = record { no_body = refl; no_frame = refl }
 nothing_open None (f ∷ fs) e = absurd (cc)
 nothing_open (Some b) fs e = absurd (cc)
 
-resume-fresh : (m : Machine) → fresh_of m.body m.open_aggregates ≡ true → (bs : List ℕ) → read m.depth bs ≡ resume m bs
+resume-fresh : {B : Type 0} (m : Machine B) → fresh_of m.body m.open_aggregates ≡ true → (bs : List ℕ) → read m.depth bs ≡ resume m bs
 resume-fresh m e bs =
     let n = nothing_open m.body m.open_aggregates e in
     let z : m.depth - 0 ≡ m.depth = omega arith in
     rw (n.no_body, n.no_frame, z) (then-nothing m.depth (read m.depth bs))
 
 -- a machine that has read nothing
-pub Resumes-fresh : (m : Machine) (u : List ℕ) → fresh_of m.body m.open_aggregates ≡ true → m.scanned ≡ 0 → Resumes m u u
+pub Resumes-fresh : {B : Type 0} (m : Machine B) (u : List ℕ) → fresh_of m.body m.open_aggregates ≡ true → m.scanned ≡ 0 → Resumes m u u
 Resumes-fresh m u e s = record {
   scanned = IsScanned-zero m.body m.scanned u s;
   reads = λ more. resume-fresh m e (u ++ more);
@@ -58,7 +58,7 @@ IsScanned-longer None n (c ∷ u) more h = let w : n ≤ length (c ∷ u) = h.wi
 IsScanned-longer (Some b) n u more h = h
 
 -- bytes were added
-pub Resumes-fed : (m : Machine) (u since bytes : List ℕ) → Resumes m u since → Resumes m (u ++ bytes) (since ++ bytes)
+pub Resumes-fed : {B : Type 0} (m : Machine B) (u since bytes : List ℕ) → Resumes m u since → Resumes m (u ++ bytes) (since ++ bytes)
 Resumes-fed m u since bytes h = record {
   scanned = IsScanned-longer m.body m.scanned u bytes h.scanned;
   reads = λ more. ap (read m.depth) (append_assoc since bytes more) ∙ h.reads (bytes ++ more) ∙ ap (resume m) (sym (append_assoc u bytes more));
@@ -72,7 +72,7 @@ length-zero [] e = refl
 length-zero (x ∷ xs) e = absurd (omega arith)
 
 -- a parser that reads on can tell whether bytes stand after the last value
-progress : (m : Machine) (u since : List ℕ) → Resumes m u since → (since ≡ []) ↔ Rests m u
+progress : {B : Type 0} (m : Machine B) (u since : List ℕ) → Resumes m u since → (since ≡ []) ↔ Rests m u
 progress m u since h = (
   (λ e. by_fresh e (fresh_of m.body m.open_aggregates) refl),
   (λ r. h.fresh r.fresh ∙ r.none),
@@ -82,15 +82,15 @@ progress m u since h = (
     by_fresh e true k = record { fresh = k; none = sym (h.fresh k) ∙ e }
     by_fresh e false k = absurd (let l : length u < length since = h.begun k in let z : length since ≡ 0 = ap length e in omega arith)
 
-pub Holds-working : (m : Machine) (u since : List ℕ) (failed : Bool) → Resumes m u since → Holds m u since failed
+pub Holds-working : {B : Type 0} (m : Machine B) (u since : List ℕ) (failed : Bool) → Resumes m u since → Holds m u since failed
 Holds-working m u since failed h = record { resumes = λ _. h; progress = progress m u since h }
 
 -- from here on the parser has failed
-pub Holds-failing : (m : Machine) (u since : List ℕ) (failed : Bool) → Holds m u since failed → Holds m u since true
+pub Holds-failing : {B : Type 0} (m : Machine B) (u since : List ℕ) (failed : Bool) → Holds m u since failed → Holds m u since true
 Holds-failing m u since failed h = record { resumes = λ e. absurd (let z : true ≡ false = e in cc); progress = h.progress }
 
 -- it failed at bytes that it has kept
-pub Holds-failed : (m m' : Machine) (u since : List ℕ) (failed : Bool) → Holds m u since failed → 0 < length u → Holds m' u since true
+pub Holds-failed : {B : Type 0} (m m' : Machine B) (u since : List ℕ) (failed : Bool) → Holds m u since failed → 0 < length u → Holds m' u since true
 Holds-failed m m' u since failed h l = record {
   resumes = λ e. absurd (let z : true ≡ false = e in cc);
   progress = (
@@ -100,14 +100,14 @@ Holds-failed m m' u since failed h l = record {
 }
 
 -- bytes are unparsed: some stand after the last value
-pub in_progress-unparsed : (m : Machine) (buffer since : List ℕ) (consumed : ℕ) (failed : Bool) → Holds m (drop consumed buffer) since failed → consumed < length buffer → (b : List ℕ) → b ≡ since → b ≢ []
+pub in_progress-unparsed : {B : Type 0} (m : Machine B) (buffer since : List ℕ) (consumed : ℕ) (failed : Bool) → Holds m (drop consumed buffer) since failed → consumed < length buffer → (b : List ℕ) → b ≡ since → b ≢ []
 in_progress-unparsed m buffer since consumed failed h l b u e =
     let r = h.progress.0 (sym u ∙ e) in
     let z : length (drop consumed buffer) ≡ 0 = ap length r.none in
     grind (arith, common_steps)
 
 -- none are: some stand after it where the machine isn't fresh
-pub in_progress-machine : (m : Machine) (buffer since : List ℕ) (consumed : ℕ) (failed : Bool) → Holds m (drop consumed buffer) since failed → length buffer ≡ consumed → (b : List ℕ) → b ≡ since → (fresh : Bool) →
+pub in_progress-machine : {B : Type 0} (m : Machine B) (buffer since : List ℕ) (consumed : ℕ) (failed : Bool) → Holds m (drop consumed buffer) since failed → length buffer ≡ consumed → (b : List ℕ) → b ≡ since → (fresh : Bool) →
     fresh ≡ fresh_of m.body m.open_aggregates → IsTrue (not fresh) ↔ (b ≢ [])
 in_progress-machine m buffer since consumed failed h l b u true e = (
   (λ t n. let z : false ≡ true = t in cc),
@@ -119,20 +119,20 @@ in_progress-machine m buffer since consumed failed h l b u false e = (
 )
 
 -- a machine that went on in the unparsed bytes
-module _ (m new : Machine) (u since : List ℕ) (h : Resumes m u since) where
+module _ {B : Type 0} (m new : Machine B) (u since : List ℕ) (h : Resumes m u since) where
   at_end : read m.depth since ≡ resume m (u ++ [])
   at_end = ap (read m.depth) (sym (append-nil since)) ∙ h.reads []
 
   pub well_formed-from_reads : (n : ℕ) (v : Value) → Completes m u new n v → HasWellFormedPrefix m.depth since v (drop n u)
   well_formed-from_reads n v d = HasWellFormedPrefix-from_read m.depth since (drop n u) v (at_end ∙ d.same [] ∙ ap (λ r. got v r) (append-nil (drop n u)))
 
-  read-fault : (f : FrameFault) → Runs m u new (Err (Fault f)) → read m.depth since ≡ fault f (drop new.shown u)
+  read-fault : (f : FrameFault) → Runs {M = Unit {0}} m u new (Err (Fault f)) → read m.depth since ≡ fault f (drop new.shown u)
   read-fault f d = at_end ∙ d.0.1 [] ∙ ap (λ r. fault f r) (append-nil (drop new.shown u))
 
-  pub malformed-from_runs : (f : FrameFault) → Runs m u new (Err (Fault f)) → HasMalformedPrefix m.depth since f
+  pub malformed-from_runs : (f : FrameFault) → Runs {M = Unit {0}} m u new (Err (Fault f)) → HasMalformedPrefix m.depth since f
   malformed-from_runs f d = HasMalformedPrefix-from_read m.depth since (drop new.shown u) f (read-fault f d)
 
-  pub shown-from_runs : (f : FrameFault) (count : ℕ) → Runs m u new (Err (Fault f)) → count + length u ≡ length since → FaultShownBy m.depth since (count + new.shown)
+  pub shown-from_runs : (f : FrameFault) (count : ℕ) → Runs {M = Unit {0}} m u new (Err (Fault f)) → count + length u ≡ length since → FaultShownBy m.depth since (count + new.shown)
   shown-from_runs f count d l =
       let w : new.shown ≤ length u = d.0.0 in
       let r : length (drop new.shown u) ≡ length u - new.shown = grind (arith, common_steps) in
@@ -157,11 +157,11 @@ module _ (m new : Machine) (u since : List ℕ) (h : Resumes m u since) where
       longer (suc n) d e false k = let w : suc n ≤ length u = d.within in let s : length u < length since = h.begun k in let r : length (drop (suc n) u) ≡ length u - suc n = grind (arith, common_steps) in omega arith
 
 -- nothing is buffered
-pub Holds-new : (m : Machine) (buffer since : List ℕ) → buffer ≡ [] → since ≡ [] → fresh_of m.body m.open_aggregates ≡ true → m.scanned ≡ 0 → Holds m (drop 0 buffer) since false
+pub Holds-new : {B : Type 0} (m : Machine B) (buffer since : List ℕ) → buffer ≡ [] → since ≡ [] → fresh_of m.body m.open_aggregates ≡ true → m.scanned ≡ 0 → Holds m (drop 0 buffer) since false
 Holds-new m buffer since e k f s = rw (e, k) (Holds-working m [] [] false (Resumes-fresh m [] f s))
 
 -- bytes were added to the buffer
-pub Holds-fed : (m : Machine) (buffer buffer' since since' bytes : List ℕ) (consumed : ℕ) (failed : Bool) → consumed ≤ length buffer → failed ≡ false → Holds m (drop consumed buffer) since failed →
+pub Holds-fed : {B : Type 0} (m : Machine B) (buffer buffer' since since' bytes : List ℕ) (consumed : ℕ) (failed : Bool) → consumed ≤ length buffer → failed ≡ false → Holds m (drop consumed buffer) since failed →
     buffer' ≡ buffer ++ bytes → since' ≡ since ++ bytes → Holds m (drop consumed buffer') since' failed
 Holds-fed m buffer buffer' since since' bytes consumed failed l w h e k =
     let d : drop consumed (buffer ++ bytes) ≡ drop consumed buffer ++ bytes = grind (arith, common_steps) in
@@ -171,7 +171,7 @@ pub fed-fits : (buffer buffer' bytes : List ℕ) (consumed : ℕ) → consumed �
 fed-fits buffer buffer' bytes consumed l e = rw e (grind (arith, common_steps))
 
 -- some bytes were added, by a parser that may have failed
-pub Holds-asked : (m : Machine) (buffer buffer' since since' bytes : List ℕ) (consumed : ℕ) (failed : Bool) → consumed ≤ length buffer → 0 < length bytes → Holds m (drop consumed buffer) since failed →
+pub Holds-asked : {B : Type 0} (m : Machine B) (buffer buffer' since since' bytes : List ℕ) (consumed : ℕ) (failed : Bool) → consumed ≤ length buffer → 0 < length bytes → Holds m (drop consumed buffer) since failed →
     buffer' ≡ buffer ++ bytes → since' ≡ since ++ bytes → Holds m (drop consumed buffer') since' failed
 Holds-asked m buffer buffer' since since' bytes consumed failed l some h e k =
     let d : drop consumed (buffer ++ bytes) ≡ drop consumed buffer ++ bytes = grind (arith, common_steps) in

@@ -39,10 +39,12 @@ pub mod SameCounts
 pub mod TypeBytes
 pub mod FlatTokens
 pub mod FlatBuilding
-pub mod BuiltSoFar
+pub mod FlatClosing
 pub mod FlatPushes
 pub mod ReadableValues
 pub mod ReadableLayers
 pub mod TrimmedTexts
 pub mod LossyTexts
 pub mod SameMachine
+pub mod LastElements
+pub mod TreeLists

@@ -1,5 +1,5 @@
 -- A value that was read can be read back from its tokens and its text.
-use Rattle.std.proofs.Common.{◌≡◌, ℕ, zero, suc, List, [], ◌∷◌, ◌++◌, ◌≤◌, sym, ap, subst, ◌∙◌}
+use Rattle.std.proofs.Common.{◌≡◌, ℕ, zero, suc, List, [], ◌∷◌, sym, ap, subst, ◌∙◌}
 use Rattle.std.proofs.lemmas.List.Elements.{All-nil, All-cons}
 use Rattle.std.specs.List.{All}
 use Rattle.std.specs.Str.{IsUtf8}
@@ -8,11 +8,7 @@ use Rattle.resp_value.specs.declared.value.Value.TheVariants.{rolls-SimpleString
 use Rattle.resp_value.specs.declared.value.Value.TheOpen.{Value-F}
 use Rattle.resp_flat.specs.Readable.{IsReadableLayer, IsReadable}
 use Rattle.resp_parse.specs.Grammar.{Announcement, complete, body, elements, invalid, announced, Joined, Follows, WellFormed}
-use Rattle.resp_parse.specs.declared.machine.Machine.{Machine}
 use Rattle.resp_parse.specs.PlainReading.{got, read}
-use Rattle.resp_parse.specs.Resume.{ReadsReadable}
-use Rattle.resp_parse.specs.Invariant.{Resumes}
-use Rattle.resp_parse.proofs.MoreLevels.{law_of_levels}
 use Rattle.resp_parse.proofs.ReadableLayers.{Layer, Readable, announced-readable}
 use Rattle.resp_parse.proofs.ReadingMeetsGrammar.{read-well_formed}
 
@@ -46,9 +42,3 @@ spelled-readable (suc d) b v g =
 
 pub read-readable : (d : ℕ) (bs : List ℕ) (v : Value) (rest : List ℕ) → read d bs ≡ got v rest → IsReadable d v
 read-readable d bs v rest e = let p = read-well_formed d bs rest v e in spelled-readable d p.prefix v p.is
-
--- a machine that reads on down to levels of which so many are read
-pub Resumes-readable : (m : Machine) (u since : List ℕ) → Resumes m u since → m.depth ≤ 1000 → ReadsReadable m u
-Resumes-readable m u since h l = λ more v rest e.
-    let p = read-well_formed m.depth (since ++ more) rest v (h.reads more ∙ e) in
-    spelled-readable 1000 p.prefix v ((law_of_levels m.depth 1000 p.prefix l).well_formed v p.is)

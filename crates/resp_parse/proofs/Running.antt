@@ -14,7 +14,7 @@ use Rattle.resp_parse.proofs.BodiesInPieces.{drop-all, drop-drop}
 use Rattle.resp_parse.proofs.HeadersInPieces.{resume-nothing, IsScanned-zero}
 
 -- a machine that was `old` has taken the first bytes up to `at`
-pub record Ran (old m : Machine) (bytes : List ℕ) (at : ℕ) : Type 0 where
+pub record Ran {B : Type 0} (old m : Machine B) (bytes : List ℕ) (at : ℕ) : Type 0 where
   pub within : at ≤ length bytes
   pub same : (more : List ℕ) → resume old (bytes ++ more) ≡ resume m (drop at bytes ++ more)
   pub limit : m.depth ≡ old.depth
@@ -23,11 +23,11 @@ pub record Ran (old m : Machine) (bytes : List ℕ) (at : ℕ) : Type 0 where
   pub fresh : fresh_of m.body m.open_aggregates ≡ true → at ≡ 0
   pub begun : at ≡ 0 → fresh_of m.body m.open_aggregates ≡ fresh_of old.body old.open_aggregates
 
-pub Ran-start : (m : Machine) (bytes : List ℕ) → length m.open_aggregates ≤ m.depth → IsScanned m.body m.scanned bytes → Ran m m bytes 0
+pub Ran-start : {B : Type 0} (m : Machine B) (bytes : List ℕ) → length m.open_aggregates ≤ m.depth → IsScanned m.body m.scanned bytes → Ran m m bytes 0
 Ran-start m bytes l s = record { within = omega arith; same = λ more. refl; limit = refl; depth = l; scanned = s; fresh = λ _. refl; begun = λ _. refl }
 
 -- all bytes were taken
-pub Ran-end : (old m : Machine) (bytes : List ℕ) (at : ℕ) → Ran old m bytes at → length bytes ≤ at → Runs old bytes m (Ok (at, None))
+pub Ran-end : {B : Type 0} (old m : Machine B) (bytes : List ℕ) (at : ℕ) → Ran old m bytes at → length bytes ≤ at → Runs {M = Unit {0}} old bytes m (Ok (at, None))
 Ran-end old m bytes at h l = record {
   within = h.within;
   same = h.same;
@@ -37,17 +37,17 @@ Ran-end old m bytes at h l = record {
   begun = h.begun;
 }
 
-module _ (old m : Machine) (bytes : List ℕ) (at : ℕ) (h : Ran old m bytes at) where
+module _ {B : Type 0} (old m : Machine B) (bytes : List ℕ) (at : ℕ) (h : Ran old m bytes at) where
   dropped : (n : ℕ) → drop n (drop at bytes) ≡ drop (at + n) bytes
   dropped n = drop-drop at n bytes
 
   within : (n : ℕ) → n ≤ length (drop at bytes) → at + n ≤ length bytes
   within n l = let w : at ≤ length bytes = h.within in grind (arith, common_steps)
 
-  pub Ran-malformed : (new end : Machine) (f : FrameFault) → end.shown ≡ at + new.shown → at < length bytes → Steps m (drop at bytes) new (Err (Fault f)) → Runs old bytes end (Err (Fault f))
+  pub Ran-malformed : (new end : Machine B) (f : FrameFault) → end.shown ≡ at + new.shown → at < length bytes → Steps {M = Unit {0}} m (drop at bytes) new (Err (Fault f)) → Runs {M = Unit {0}} old bytes end (Err (Fault f))
   Ran-malformed new end f e l s = (rw e (within new.shown s.0, λ more. h.same more ∙ s.1 more ∙ ap (λ x. fault f (x ++ more)) (dropped new.shown)), omega arith)
 
-  pub Ran-waits : (new : Machine) (n : ℕ) → Steps m (drop at bytes) new (Ok (step.Waits n)) → Runs old bytes new (Ok (at + n, None))
+  pub Ran-waits : (new : Machine B) (n : ℕ) → Steps {M = Unit {0}} m (drop at bytes) new (Ok (step.Waits n)) → Runs {M = Unit {0}} old bytes new (Ok (at + n, None))
   Ran-waits new n s = record {
     within = within n s.within;
     same = λ more. h.same more ∙ s.same more ∙ ap (λ x. resume new (x ++ more)) (dropped n);
@@ -58,7 +58,7 @@ module _ (old m : Machine) (bytes : List ℕ) (at : ℕ) (h : Ran old m bytes at
   }
 
   -- bytes were taken, and something is open
-  Ran-takes : (new : Machine) (n : ℕ) → 0 < n → n ≤ length (drop at bytes) → ((more : List ℕ) → resume m (drop at bytes ++ more) ≡ resume new (drop n (drop at bytes) ++ more)) →
+  Ran-takes : (new : Machine B) (n : ℕ) → 0 < n → n ≤ length (drop at bytes) → ((more : List ℕ) → resume m (drop at bytes ++ more) ≡ resume new (drop n (drop at bytes) ++ more)) →
       new.scanned ≡ 0 → fresh_of new.body new.open_aggregates ≡ false → new.depth ≡ m.depth → length new.open_aggregates ≤ new.depth → Ran old new bytes (at + n)
   Ran-takes new n some w same z f k l = record {
     within = within n w;
@@ -70,16 +70,16 @@ module _ (old m : Machine) (bytes : List ℕ) (at : ℕ) (h : Ran old m bytes at
     begun = λ e. absurd (omega arith);
   }
 
-  pub Ran-goes : (new : Machine) (n : ℕ) → Steps m (drop at bytes) new (Ok (step.Goes n)) → new.depth ≡ m.depth → length new.open_aggregates ≤ new.depth → Ran old new bytes (at + n)
+  pub Ran-goes : (new : Machine B) (n : ℕ) → Steps {M = Unit {0}} m (drop at bytes) new (Ok (step.Goes n)) → new.depth ≡ m.depth → length new.open_aggregates ≤ new.depth → Ran old new bytes (at + n)
   Ran-goes new n s k l = Ran-takes new n s.0.some s.0.within s.0.same s.0.scanned s.1 k l
 
   -- a value is whole, and was put where it belongs
-  module _ (mid new : Machine) (n : ℕ) (v : Whole) (s : Steps m (drop at bytes) mid (Ok (step.Whole n v))) where
-    pub Ran-attaches : Ends (place mid.depth mid.open_aggregates v.seen) new (Ok None) → new.scanned ≡ mid.scanned → new.depth ≡ m.depth → length new.open_aggregates ≤ new.depth → Ran old new bytes (at + n)
+  module _ {M : Type 0} (mid new : Machine B) (n : ℕ) (v : Whole M) (s : Steps m (drop at bytes) mid (Ok (step.Whole n v))) where
+    pub Ran-attaches : Ends {M = Unit {0}} (place mid.depth mid.open_aggregates v.seen) new (Ok None) → new.scanned ≡ mid.scanned → new.depth ≡ m.depth → length new.open_aggregates ≤ new.depth → Ran old new bytes (at + n)
     Ran-attaches e z k l =
         Ran-takes new n s.0.some s.0.within (λ more. s.0.same more ∙ e.0 (drop n (drop at bytes) ++ more)) (z ∙ s.0.scanned) e.1 k l
 
-    pub Ran-reads : (w : Whole) → Ends (place mid.depth mid.open_aggregates v.seen) new (Ok (Some w)) → new.scanned ≡ mid.scanned → Runs old bytes new (Ok (at + n, Some w))
+    pub Ran-reads : (w : Whole M) → Ends (place mid.depth mid.open_aggregates v.seen) new (Ok (Some w)) → new.scanned ≡ mid.scanned → Runs old bytes new (Ok (at + n, Some w))
     Ran-reads w e z = record {
       within = within n s.0.within;
       same = λ more. h.same more ∙ s.0.same more ∙ e.0 (drop n (drop at bytes) ++ more) ∙ ap (λ x. got w.seen (x ++ more)) (dropped n);
@@ -87,7 +87,7 @@ module _ (old m : Machine) (bytes : List ℕ) (at : ℕ) (h : Ran old m bytes at
       scanned = z ∙ s.0.scanned;
     }
 
-    pub Ran-refused : (end : Machine) (e : ReadError) → end.shown ≡ at + n → at < length bytes → Ends (place mid.depth mid.open_aggregates v.seen) new (Err e) → Runs old bytes end (Err e)
+    pub Ran-refused : (end : Machine B) (e : ReadError) → end.shown ≡ at + n → at < length bytes → Ends {M = Unit {0}} (place mid.depth mid.open_aggregates v.seen) new (Err e) → Runs {M = Unit {0}} old bytes end (Err e)
     Ran-refused end Memory i l k = (tt, omega arith)
     Ran-refused end (Fault f) i l k = (
       rw i (within n s.0.within, λ more. h.same more ∙ s.0.same more ∙ k (drop n (drop at bytes) ++ more) ∙ ap (λ x. fault f (x ++ more)) (dropped n)),
@@ -95,6 +95,6 @@ module _ (old m : Machine) (bytes : List ℕ) (at : ℕ) (h : Ran old m bytes at
     )
 
 -- a value isn't read of no bytes
-pub Completes-some : (old : Machine) (bytes : List ℕ) (new : Machine) (n : ℕ) (v : Value) → Completes old bytes new n v → 0 < length bytes
+pub Completes-some : {B : Type 0} (old : Machine B) (bytes : List ℕ) (new : Machine B) (n : ℕ) (v : Value) → Completes old bytes new n v → 0 < length bytes
 Completes-some old [] new n v d = absurd (let e : incomplete ≡ got v (drop n [] ++ []) = sym (resume-nothing old) ∙ d.same [] in cc)
 Completes-some old (b ∷ bytes) new n v d = omega arith

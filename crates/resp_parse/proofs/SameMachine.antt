@@ -1,16 +1,15 @@
--- What a parser keeps of itself doesn't depend on the memory that a flat reply is built in.
+-- What a parser keeps of itself doesn't depend on the memory that its builder has.
 use Rattle.std.proofs.Common.{◌≡◌, ℕ, ◌≤◌, List, length, drop, Bool, false, sym, subst}
 use Rattle.std.specs.declared.vec.Vec.{Vec}
 use Rattle.std.specs.declared.alloc.Global.{Global}
-use Rattle.resp_parse.specs.declared.builder.Builder.{Builder}
 use Rattle.resp_parse.specs.declared.machine.Machine.{Machine}
-use Rattle.resp_parse.specs.declared.parser.Parser.TheInside.{Inside}
+use Rattle.resp_parse.specs.declared.decoder.Decoder.TheInside.{Inside}
 use Rattle.resp_parse.specs.Counts.{Counts}
-use Rattle.resp_parse.specs.Building.{BuildsIn}
+use Rattle.resp_parse.specs.Building.{Stands, progress_of}
 use Rattle.resp_parse.specs.Invariant.{Resumes, Holds, Counted, CountsTaken, Invariant}
 
-module _ (m : Machine) (b : Builder) where
-  abbrev rebuilt : Machine
+module _ {B : Type 0} (m : Machine B) (b : B) where
+  abbrev rebuilt : Machine B
   rebuilt = record m { builder = b }
 
   resumes : (u since : List ℕ) → Resumes m u since → Resumes rebuilt u since
@@ -45,33 +44,34 @@ module _ (m : Machine) (b : Builder) where
     few = h.few;
   }
 
-pub Invariant-rebuilt : (p : Inside) (b : Builder) → (p.failed ≡ false → BuildsIn b p.machine.open_aggregates p.machine.body) → Invariant p → Invariant (record p { machine = record p.machine { builder = b } })
-Invariant-rebuilt p b k h = record {
-  consumed = h.consumed;
-  limits = h.limits;
-  depth = h.depth;
-  holds = holds p.machine b _ p.since p.failed h.holds;
-  counted = counted p.machine b _ p.counts p.failed h.counted;
-  taken = λ w. taken p.machine b p.size_limit _ p.since p.taken (h.taken w);
-  builds = k;
-  placed = h.placed;
-}
+module _ {B M R : Type 0} (S : Stands B M) (p : Inside B M R) where
+  Invariant-rebuilt : (b : B) → (p.failed ≡ false → S b p.machine.open_aggregates (progress_of p.machine.body)) → Invariant S p → Invariant S (record p { machine = record p.machine { builder = b } })
+  Invariant-rebuilt b k h = record {
+    consumed = h.consumed;
+    limits = h.limits;
+    depth = h.depth;
+    holds = holds p.machine b _ p.since p.failed h.holds;
+    counted = counted p.machine b _ p.counts p.failed h.counted;
+    taken = λ w. taken p.machine b p.size_limit _ p.since p.taken (h.taken w);
+    builds = k;
+    placed = h.placed;
+  }
 
-pub Invariant-same : (p : Inside) (m : Machine) → m ≡ record p.machine { builder = m.builder } → (BuildsIn p.machine.builder p.machine.open_aggregates p.machine.body → BuildsIn m.builder m.open_aggregates m.body) → Invariant p → Invariant (record p { machine = m })
-Invariant-same p m e k h =
-    let b : BuildsIn p.machine.builder p.machine.open_aggregates p.machine.body → BuildsIn m.builder p.machine.open_aggregates p.machine.body =
-    subst (λ (n : Machine). BuildsIn p.machine.builder p.machine.open_aggregates p.machine.body → BuildsIn m.builder n.open_aggregates n.body) e k in
-    subst (λ (n : Machine). Invariant (record p { machine = n })) (sym e) (Invariant-rebuilt p m.builder (λ w. b (h.builds w)) h)
+  pub Invariant-same : (m : Machine B) → m ≡ record p.machine { builder = m.builder } → (S p.machine.builder p.machine.open_aggregates (progress_of p.machine.body) → S m.builder m.open_aggregates (progress_of m.body)) → Invariant S p → Invariant S (record p { machine = m })
+  Invariant-same m e k h =
+      let b : S p.machine.builder p.machine.open_aggregates (progress_of p.machine.body) → S m.builder p.machine.open_aggregates (progress_of p.machine.body) =
+      subst (λ (n : Machine B). S p.machine.builder p.machine.open_aggregates (progress_of p.machine.body) → S m.builder n.open_aggregates (progress_of n.body)) e k in
+      subst (λ (n : Machine B). Invariant S (record p { machine = n })) (sym e) (Invariant-rebuilt m.builder (λ w. b (h.builds w)) h)
 
--- nor on the room that the buffer has
-pub Invariant-roomier : (p : Inside) (buffer : Vec ℕ Global) → buffer.items ≡ p.buffer.items → Invariant p → Invariant (record p { buffer = buffer })
-Invariant-roomier p buffer e h = record {
-  consumed = subst (λ x. p.consumed ≤ length x) (sym e) h.consumed;
-  limits = h.limits;
-  depth = h.depth;
-  holds = subst (λ x. Holds p.machine (drop p.consumed x) p.since p.failed) (sym e) h.holds;
-  counted = subst (λ x. Counted p.machine (drop p.consumed x) p.counts p.failed) (sym e) h.counted;
-  taken = λ w. subst (λ x. CountsTaken p.size_limit p.machine (drop p.consumed x) p.since p.taken) (sym e) (h.taken w);
-  builds = h.builds;
-  placed = h.placed;
-}
+  -- nor on the room that the buffer has
+  pub Invariant-roomier : (buffer : Vec ℕ Global) → buffer.items ≡ p.buffer.items → Invariant S p → Invariant S (record p { buffer = buffer })
+  Invariant-roomier buffer e h = record {
+    consumed = subst (λ x. p.consumed ≤ length x) (sym e) h.consumed;
+    limits = h.limits;
+    depth = h.depth;
+    holds = subst (λ x. Holds p.machine (drop p.consumed x) p.since p.failed) (sym e) h.holds;
+    counted = subst (λ x. Counted p.machine (drop p.consumed x) p.counts p.failed) (sym e) h.counted;
+    taken = λ w. subst (λ x. CountsTaken p.size_limit p.machine (drop p.consumed x) p.since p.taken) (sym e) (h.taken w);
+    builds = h.builds;
+    placed = h.placed;
+  }

@@ -13,7 +13,7 @@ use Rattle.resp_parse.specs.declared.machine.Machine.{Machine}
 use Rattle.resp_parse.specs.Limited.{HasFault, HasValue, Awaits, PassesSize, within, too_long}
 use Rattle.resp_parse.specs.State.{State}
 use Rattle.resp_parse.specs.Calls.{Takes, CannotTake}
-use Rattle.resp_parse.specs.Resume.{Runs, Completes, ReadsReadable, IsScanned, Waits}
+use Rattle.resp_parse.specs.Resume.{Runs, Completes, IsScanned, Waits}
 use Rattle.resp_parse.specs.Counts.{Counts}
 use Rattle.resp_parse.specs.Costs.{least_bytes, Spent, SpentAtStop}
 use Rattle.resp_parse.specs.Invariant.{Resumes, Holds, Counted, CountsTaken, Placed, PassesLimit, limits_of}
@@ -21,13 +21,12 @@ use Rattle.resp_parse.proofs.Counting.{Counted-taken, Counted-stopped, scanned-w
 use Rattle.resp_parse.proofs.BodiesInPieces.{drop-drop}
 use Rattle.resp_parse.proofs.Holding.{Resumes-fresh, Resumes-waits, Holds-working, Holds-failed, well_formed-from_reads, malformed-from_runs, shown-from_runs, incomplete-from_waits}
 use Rattle.resp_parse.proofs.LimitedReadings.{first-value}
-use Rattle.resp_parse.proofs.ReadableValues.{Resumes-readable}
 use Rattle.resp_parse.proofs.CountingTaken.{CountsTaken-waits, CountsTaken-fresh, Resumes-front, same-later, front-size}
 use Rattle.resp_parse.proofs.FaultOffsets.{Placed-passes}
 use Rattle.resp_parse.proofs.ParserStates.{IsBetweenValues-from_same, StandsAfter-from_since, FailedAfter-from_since}
 
 -- the machine was in the front of these unparsed bytes, and is now `new`
-module _ (most count : ℕ) (buffer since : List ℕ) (consumed : ℕ) (failed : Bool) (m new : Machine) (within_buffer : consumed ≤ length buffer) (h : Holds m (drop consumed buffer) since failed) (w : failed ≡ false)
+module _ {B : Type 0} (most count : ℕ) (buffer since : List ℕ) (consumed : ℕ) (failed : Bool) (m new : Machine B) (within_buffer : consumed ≤ length buffer) (h : Holds m (drop consumed buffer) since failed) (w : failed ≡ false)
     (spelled : CountsTaken most m (drop consumed buffer) since count) (u front later : List ℕ) (u_is : u ≡ drop consumed buffer) (front_is : front ≡ take (most - count) u) (later_is : later ≡ drop (most - count) u) (same : new.depth ≡ m.depth) where
   parts : u ≡ front ++ later
   parts = sym (take-append-drop (most - count) u) ∙ ap (λ x. x ++ drop (most - count) u) (sym front_is) ∙ ap (λ x. front ++ x) (sym later_is)
@@ -59,11 +58,8 @@ module _ (most count : ℕ) (buffer since : List ℕ) (consumed : ℕ) (failed :
   pub scanned-front : IsScanned m.body m.scanned front
   scanned-front = resumes-front.scanned
 
-  pub readable-front : m.depth ≤ 1000 → ReadsReadable m front
-  readable-front l = Resumes-readable m front (take most since) resumes-front l
-
   -- the value may have all bytes, and more are needed
-  module _ (n : ℕ) (none : later ≡ []) (d : Runs m front new (Ok (n, None))) where
+  module _ (n : ℕ) (none : later ≡ []) (d : Runs {M = Unit {0}} m front new (Ok (n, None))) where
     all : front ≡ u
     all = sym (parts ∙ ap (λ x. front ++ x) none ∙ append-nil front)
 
@@ -125,7 +121,7 @@ module _ (most count : ℕ) (buffer since : List ℕ) (consumed : ℕ) (failed :
         )
 
   -- no value can be read
-  module _ (e : ReadError) (d : Runs m front new (Err e)) where
+  module _ (e : ReadError) (d : Runs {M = Unit {0}} m front new (Err e)) where
     pub stops-holds : Holds new (drop consumed buffer) since true
     stops-holds = let l : 0 < length front = d.1 in Holds-failed m new (drop consumed buffer) since failed h (subst (λ (x : List ℕ). 0 < length x) u_is (omega (arith, l, u-size)))
 
@@ -134,12 +130,12 @@ module _ (most count : ℕ) (buffer since : List ℕ) (consumed : ℕ) (failed :
         let most-looked : e'.examined + m.scanned ≤ t.examined + length u = (let z = p.0.most in omega (arith, z, u-size)) in
         Counted-stopped m new u c t e' failed (subst (λ y. Counted m y c failed) (sym u_is) k) w i (record { same = p.0.same; once = p.0.once; most = most-looked }, p.1) (drop consumed buffer)
 
-  pub stops-fault : (s : State) → s.limits ≡ limits_of new most → s.failed ≡ true → s.since ≡ since → (f : FrameFault) → Runs m front new (Err (record_fault.Fault f)) → (b : List ℕ) → b ≡ since → Takes b s (Err (form.Parse (parsing.Fault f)))
+  pub stops-fault : (s : State) → s.limits ≡ limits_of new most → s.failed ≡ true → s.since ≡ since → (f : FrameFault) → Runs {M = Unit {0}} m front new (Err (record_fault.Fault f)) → (b : List ℕ) → b ≡ since → Takes b s (Err (form.Parse (parsing.Fault f)))
   stops-fault s l k y f d b e =
       let here : HasFault (limits_of m most) since f = within (malformed-from_runs m new front (take most since) resumes-front f d) in
       (CannotTake.malformed f refl (rw (l ∙ ap (λ x. record { depth = x; bytes = most }) same) (subst (λ x. HasFault (limits_of m most) x f) (sym e) here)), FailedAfter-from_since s b k (e ∙ sym y))
 
-  pub stops-placed : (f : FrameFault) → Runs m front new (Err (record_fault.Fault f)) → Placed (limits_of new most) (Some (count + new.shown)) since true
+  pub stops-placed : (f : FrameFault) → Runs {M = Unit {0}} m front new (Err (record_fault.Fault f)) → Placed (limits_of new most) (Some (count + new.shown)) since true
   stops-placed f d = rw same (record {
     works = λ z. absurd (let y : true ≡ false = z in cc);
     shows = within (shown-from_runs m new front (take most since) resumes-front f count d size);
@@ -149,7 +145,7 @@ module _ (most count : ℕ) (buffer since : List ℕ) (consumed : ℕ) (failed :
   stops-memory s k y b e = (CannotTake.out_of_memory refl, FailedAfter-from_since s b k (e ∙ sym y))
 
   -- the value in progress is longer than one may be
-  module _ (n : ℕ) (some : later ≢ []) (d : Runs m front new (Ok (n, None))) where
+  module _ (n : ℕ) (some : later ≢ []) (d : Runs {M = Unit {0}} m front new (Ok (n, None))) where
     later-size : 0 < length later
     later-size = by_length later some
       where

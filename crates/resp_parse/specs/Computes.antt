@@ -14,12 +14,7 @@ Computes (Err Memory) r = Unit {0}
 Computes (Err (Fault f)) r = r ≡ Err f
 
 -- the same of a value that is whole
-abbrev pub ComputesSeen : Result Whole ReadError → Result Value FrameFault → Type 0
+abbrev pub ComputesSeen : {M : Type 0} → Result (Whole M) ReadError → Result Value FrameFault → Type 0
 ComputesSeen (Ok w) r = r ≡ Ok w.seen
 ComputesSeen (Err Memory) r = Unit {0}
 ComputesSeen (Err (Fault f)) r = r ≡ Err f
-
--- the same where memory isn't asked for
-abbrev pub MakesSeen : Result Whole FrameFault → Result Value FrameFault → Type 0
-MakesSeen (Ok w) r = r ≡ Ok w.seen
-MakesSeen (Err f) r = r ≡ Err f

@@ -23,53 +23,42 @@ abbrev pub built_in : List OpenAggregate → ℕ
 built_in [] = 0
 built_in (f ∷ fs) = built_of f.seen + built_in fs
 
--- the values of a tree that stand in memory: in the aggregates, and beside them, where nil is none
-abbrev pub elements_in : List OpenAggregate → ℕ
-elements_in [] = 0
-elements_in (f ∷ fs) = built_of f.elements + elements_in fs
-
-abbrev pub values_in : Machine → ℕ
-values_in m = elements_in m.open_aggregates + (built m.builder.value - 1)
-
--- the tokens of a flat reply that do
-abbrev pub tokens_kept : Machine → ℕ
-tokens_kept m = length m.builder.reply.tokens.items
-
--- as many values and tokens as before
-pub record TakesNoMore (old new : Machine) : Type 0 where
-  pub values : values_in new ≡ values_in old
-  pub tokens : tokens_kept new ≡ tokens_kept old
-
 -- the bytes that the open aggregates have taken, at least: three for a header and for each value
 abbrev pub aggregates_least_bytes : List OpenAggregate → ℕ
 aggregates_least_bytes [] = 0
 aggregates_least_bytes (f ∷ fs) = 3 + 3 * built_of f.seen + aggregates_least_bytes fs
 
+-- of the value in progress, v values of a tree and t tokens of a flat reply are paid for: one value
+-- for three of these bytes, or two tokens
+pub record PaidFor (v t : ℕ) (fs : List OpenAggregate) : Type 0 where
+  pub values : 3 * v ≤ aggregates_least_bytes fs
+  pub tokens : 3 * t ≤ 2 * aggregates_least_bytes fs
+
 abbrev pub body_least_bytes : Option Body → ℕ
 body_least_bytes None = 0
 body_least_bytes (Some b) = 3
 
-abbrev pub least_bytes : Machine → ℕ
+abbrev pub least_bytes : {B : Type 0} → Machine B → ℕ
 least_bytes m = body_least_bytes m.body + aggregates_least_bytes m.open_aggregates
 
 -- the machine and a whole value are built within n bytes
-abbrev pub BuiltWithin : Machine → ℕ → Result (Option Whole) ReadError → Type 0
+abbrev pub BuiltWithin : {B M : Type 0} → Machine B → ℕ → Result (Option (Whole M)) ReadError → Type 0
 BuiltWithin new n (Ok None) = least_bytes new ≤ n
 BuiltWithin new n (Ok (Some w)) = least_bytes new + 3 * built w.seen ≤ n
 BuiltWithin new n (Err e) = Unit {0}
 
-abbrev pub StepBuiltWithin : Machine → Machine → Result Step ReadError → Type 0
+abbrev pub StepBuiltWithin : {B M : Type 0} → Machine B → Machine B → Result (Step M) ReadError → Type 0
 StepBuiltWithin old new (Ok (step.Waits n)) = least_bytes new ≤ least_bytes old + n
 StepBuiltWithin old new (Ok (step.Goes n)) = least_bytes new ≤ least_bytes old + n
 StepBuiltWithin old new (Ok (step.Whole n w)) = least_bytes new + 3 * built w.seen ≤ least_bytes old + n
 StepBuiltWithin old new (Err e) = Unit {0}
 
-abbrev pub RunBuiltWithin : Machine → Machine → Result (ℕ × Option Whole) ReadError → Type 0
+abbrev pub RunBuiltWithin : {B M : Type 0} → Machine B → Machine B → Result (ℕ × Option (Whole M)) ReadError → Type 0
 RunBuiltWithin old new (Ok (n, o)) = BuiltWithin new (least_bytes old + n) (Ok o)
 RunBuiltWithin old new (Err e) = Unit {0}
 
 -- the same where a whole value is handed out
-abbrev pub ReadBuiltWithin : {A : Type 0} → Machine → Machine → Result (ℕ × A) ReadError → Type 0
+abbrev pub ReadBuiltWithin : {B : Type 0} {A : Type 0} → Machine B → Machine B → Result (ℕ × A) ReadError → Type 0
 ReadBuiltWithin old new (Ok (n, o)) = least_bytes new ≤ least_bytes old + n
 ReadBuiltWithin old new (Err e) = Unit {0}
 
@@ -83,13 +72,13 @@ abbrev pub body_potential : Option Body → ℕ
 body_potential None = 0
 body_potential (Some b) = 2
 
-abbrev pub prepaid : Machine → ℕ
+abbrev pub prepaid : {B : Type 0} → Machine B → ℕ
 prepaid m = body_potential m.body + aggregates_potential m.open_aggregates
 
 -- thirds of an iteration that are paid for and not spent: three for each of those; and of the line
 -- in progress four for each byte, less three for each that an iteration looked at, all but the
 -- first two
-abbrev pub potential : Machine → ℕ
+abbrev pub potential : {B : Type 0} → Machine B → ℕ
 potential m = 3 * prepaid m + (4 * m.scanned - 3 * (m.scanned - 2))
 
 -- only iterations were counted, at most n
@@ -116,31 +105,31 @@ LooksForNumeral bytes c d (Ok l) = LooksAt 0 bytes c d (Some l.len)
 LooksForNumeral bytes c d (Err n) = LooksAlone c d × (d.iterations ≤ c.iterations + (n - 1))
 
 -- a value is begun: one that is whole makes no iteration, another prepays two
-abbrev pub Begins : Machine → Machine → Counts → Counts → Result (Option Whole) ReadError → Type 0
+abbrev pub Begins : {B M : Type 0} → Machine B → Machine B → Counts → Counts → Result (Option (Whole M)) ReadError → Type 0
 Begins old new c d (Ok (Some v)) = d.iterations + prepaid new ≤ c.iterations + prepaid old
 Begins old new c d (Ok None) = d.iterations + prepaid new ≤ c.iterations + prepaid old + 2
 Begins old new c d (Err e) = d.iterations ≤ c.iterations + prepaid old
 
 -- a value is placed: the iterations made are among those prepaid and two for the value
-abbrev pub Places : {X : Type 0} → Machine → Machine → Counts → Counts → Result X ReadError → Type 0
+abbrev pub Places : {B : Type 0} {X : Type 0} → Machine B → Machine B → Counts → Counts → Result X ReadError → Type 0
 Places old new c d (Ok x) = d.iterations + prepaid new ≤ c.iterations + prepaid old + 2
 Places old new c d (Err e) = d.iterations ≤ c.iterations + prepaid old + 2
 
 -- bytes were looked at, and all came before; those of lines one look each
-pub record Looks (old new : Machine) (c d : Counts) (n : ℕ) : Type 0 where
+pub record Looks {B : Type 0} (old new : Machine B) (c d : Counts) (n : ℕ) : Type 0 where
   pub same : d ≡ record c { iterations = d.iterations; looks = d.looks; examined = d.examined }
   pub once : d.looks + c.examined ≤ c.looks + d.examined
   pub examined : d.examined + old.scanned ≡ c.examined + n + new.scanned
 
 -- of n bytes some were looked at, those of lines one look each
-pub record Stopped (old : Machine) (c d : Counts) (n : ℕ) : Type 0 where
+pub record Stopped {B : Type 0} (old : Machine B) (c d : Counts) (n : ℕ) : Type 0 where
   pub same : d ≡ record c { iterations = d.iterations; looks = d.looks; examined = d.examined }
   pub once : d.looks + c.examined ≤ c.looks + d.examined
   pub most : d.examined + old.scanned ≤ c.examined + n
 
 -- four thirds of an iteration for each byte examined pay for reading a header; what it begins keeps
 -- one iteration more, and a whole value three
-abbrev pub HeaderCost : Machine → Machine → List ℕ → Counts → Counts → Result Step ReadError → Type 0
+abbrev pub HeaderCost : {B M : Type 0} → Machine B → Machine B → List ℕ → Counts → Counts → Result (Step M) ReadError → Type 0
 HeaderCost old new bytes c d (Ok (step.Waits n)) = Looks old new c d n
     × (3 * d.iterations + potential new + 4 * c.examined ≤ 3 * c.iterations + potential old + 4 * d.examined)
 HeaderCost old new bytes c d (Ok (step.Goes n)) = Looks old new c d n
@@ -151,21 +140,21 @@ HeaderCost old new bytes c d (Err e) = Stopped old c d (length bytes)
     × (3 * d.iterations + 4 * c.examined ≤ 3 * c.iterations + potential old + 4 * d.examined)
 
 -- a step costs as much, after its own iteration
-abbrev pub StepCost : Machine → Machine → List ℕ → Counts → Counts → Result Step ReadError → Type 0
+abbrev pub StepCost : {B M : Type 0} → Machine B → Machine B → List ℕ → Counts → Counts → Result (Step M) ReadError → Type 0
 StepCost old new bytes c d r =
     HeaderCost old new bytes (record c { iterations = c.iterations + 1 }) d r
 
 -- n bytes were taken, which pay for what was done and one iteration more
-abbrev pub Spent : Machine → Machine → Counts → Counts → ℕ → Type 0
+abbrev pub Spent : {B : Type 0} → Machine B → Machine B → Counts → Counts → ℕ → Type 0
 Spent old new c d n = Looks old new c d n
     × (3 * d.iterations + potential new + 4 * c.examined ≤ 3 * c.iterations + potential old + 4 * d.examined + 3)
 
 -- or the machine stopped in these
-abbrev pub SpentAtStop : Machine → List ℕ → Counts → Counts → Type 0
+abbrev pub SpentAtStop : {B : Type 0} → Machine B → List ℕ → Counts → Counts → Type 0
 SpentAtStop old bytes c d = Stopped old c d (length bytes)
     × (3 * d.iterations + 4 * c.examined ≤ 3 * c.iterations + potential old + 4 * d.examined + 3)
 
-abbrev pub RunCost : {A : Type 0} → Machine → Machine → List ℕ → Counts → Counts →
+abbrev pub RunCost : {B : Type 0} {A : Type 0} → Machine B → Machine B → List ℕ → Counts → Counts →
     Result (ℕ × A) ReadError → Type 0
 RunCost old new bytes c d (Ok (n, o)) = Spent old new c d n
 RunCost old new bytes c d (Err e) = SpentAtStop old bytes c d

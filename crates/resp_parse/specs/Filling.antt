@@ -12,7 +12,7 @@ lacks_of None = 0
 lacks_of (Some b) = b.missing
 
 -- the bytes were taken into the open body, in one iteration at most
-pub record FilledOpenBody (old : Machine) (bytes : List ℕ) (new : Machine) (c d : Counts) : Type 0 where
+pub record FilledOpenBody {B : Type 0} (old : Machine B) (bytes : List ℕ) (new : Machine B) (c d : Counts) : Type 0 where
   pub same : (more : List ℕ) → resume old (bytes ++ more) ≡ resume new more
   pub depth : new.depth ≡ old.depth
   pub open_aggregates : new.open_aggregates ≡ old.open_aggregates
@@ -27,7 +27,7 @@ pub record FilledOpenBody (old : Machine) (bytes : List ℕ) (new : Machine) (c 
   pub iterations : d.iterations ≤ c.iterations + 1
 
 -- or memory ran out, and nothing else changed
-abbrev pub FillsOpenBody : {E : Type 0} → Machine → List ℕ → Machine → Counts → Counts →
+abbrev pub FillsOpenBody : {B : Type 0} {E : Type 0} → Machine B → List ℕ → Machine B → Counts → Counts →
     Result (Unit {0}) E → Type 0
 FillsOpenBody old bytes new c d (Ok u) = FilledOpenBody old bytes new c d
 FillsOpenBody old bytes new c d (Err e) = (new ≡ record old { builder = new.builder }) × (d ≡ c)

@@ -21,6 +21,8 @@ pub mod Filling
 pub mod State
 pub mod Bounds
 pub mod Building
+pub mod TreeBuilders
+pub mod FlatBuilders
 pub mod Invariant
 pub mod Source
 pub mod Calls

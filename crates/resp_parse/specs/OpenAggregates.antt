@@ -1,7 +1,6 @@
 -- The aggregates that are open, and what becomes of a value that is put in the innermost.
-use Rattle.std.specs.Prelude.{◌≡◌, ℕ, zero, suc, Bool, cond, List, [], ◌∷◌, ◌++◌, length, reverse, Result, Ok, Err}
-use Rattle.resp_value.specs.declared.value.Value.{Value, Nil}
-use Rattle.resp_parse.specs.declared.whole.Whole.{Whole}
+use Rattle.std.specs.Prelude.{◌≡◌, ℕ, zero, suc, List, [], ◌∷◌, ◌++◌, length, reverse}
+use Rattle.resp_value.specs.declared.value.Value.{Value}
 use Rattle.resp_parse.specs.declared.open_aggregates.OpenAggregate.{OpenAggregate}
 use Rattle.resp_parse.specs.declared.open_aggregates.Added.{Added}
 use Rattle.resp_parse.specs.declared.open_aggregates.Added.TheVariants as added
@@ -20,37 +19,31 @@ abbrev pub ClosesInnermost : List OpenAggregate → List OpenAggregate → OpenA
 ClosesInnermost [] new closed = new ≡ []
 ClosesInnermost (f ∷ fs) new closed = (new ≡ fs) × (closed ≡ f)
 
--- with one element more, which a flat reply has itself
-abbrev pub with_element : Bool → OpenAggregate → Value → Whole → OpenAggregate
-with_element flat f v w = record f {
-  elements = cond flat f.elements (f.elements ++ (v ∷ []));
-  seen = f.seen ++ (w.seen ∷ []);
-}
+-- with one element more, and as many to come
+abbrev pub with_element : OpenAggregate → Value → OpenAggregate
+with_element f v = record f { seen = f.seen ++ (v ∷ []) }
 
--- what is left of the value: in a tree it is an element, where an aggregate is open
-abbrev pub left_of : Bool → List OpenAggregate → Value → Value
-left_of flat [] v = v
-left_of flat (f ∷ fs) v = cond flat v Nil
+abbrev pub counted_down : ℕ → OpenAggregate → OpenAggregate
+counted_down k f = record f { after = k }
 
 -- more elements are to come
-pub record KeptIn (flat : Bool) (old : List OpenAggregate) (v : Value) (w : Whole) (new : List OpenAggregate) : Type 0 where
+pub record KeptIn (old : List OpenAggregate) (v : Value) (new : List OpenAggregate) : Type 0 where
   pub aggregate : OpenAggregate
   pub outer : List OpenAggregate
   pub after : ℕ
   pub old_is : old ≡ aggregate ∷ outer
   pub after_is : aggregate.after ≡ suc after
-  pub new_is : new ≡ record (with_element flat aggregate v w) { after = after } ∷ outer
+  pub new_is : new ≡ counted_down after (with_element aggregate v) ∷ outer
 
 -- all elements are there
-pub record ClosedBy (flat : Bool) (old : List OpenAggregate) (v : Value) (w : Whole) (new : List OpenAggregate)
+pub record ClosedBy (old : List OpenAggregate) (v : Value) (new : List OpenAggregate)
     (closed : OpenAggregate) : Type 0 where
   pub aggregate : OpenAggregate
   pub old_is : old ≡ aggregate ∷ new
   pub last : aggregate.after ≡ 0
-  pub closed_is : closed ≡ with_element flat aggregate v w
+  pub closed_is : closed ≡ with_element aggregate v
 
-abbrev pub Adds : {E : Type 0} → Bool → List OpenAggregate → Value → Whole → List OpenAggregate → Result Added E → Type 0
-Adds flat old v w new (Ok (added.Outermost u)) = (old ≡ []) × (new ≡ []) × (u ≡ w)
-Adds flat old v w new (Ok added.StillOpen) = KeptIn flat old v w new
-Adds flat old v w new (Ok (added.Closed closed)) = ClosedBy flat old v w new closed
-Adds flat old v w new (Err e) = Unit {0}
+abbrev pub Adds : List OpenAggregate → Value → List OpenAggregate → Added → Type 0
+Adds old v new added.Outermost = (old ≡ []) × (new ≡ [])
+Adds old v new added.StillOpen = KeptIn old v new
+Adds old v new (added.Closed closed) = ClosedBy old v new closed

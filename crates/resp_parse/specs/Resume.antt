@@ -12,8 +12,7 @@ use Rattle.resp_parse.specs.declared.machine.Machine.{Machine}
 use Rattle.resp_parse.specs.declared.whole.Whole.{Whole}
 use Rattle.resp_parse.specs.declared.machine.Step.{Step}
 use Rattle.resp_parse.specs.declared.machine.Step.TheVariants as step
-use Rattle.resp_flat.specs.Readable.{IsReadable}
-use Rattle.resp_parse.specs.Building.{BuildsIn, BuildsWhole}
+use Rattle.resp_parse.specs.Building.{Stands, whole, progress_of}
 use Rattle.resp_parse.specs.Lines.{NoneBefore, Scanned}
 use Rattle.resp_parse.specs.Number.{IsNumeral}
 use Rattle.resp_parse.specs.Shapes.{body_value, elements_value}
@@ -41,7 +40,7 @@ value_of d None more = read d more
 value_of d (Some b) more =
     then (read_body b.missing more) (λ x rest. made (body_value b.kind (b.seen ++ x)) rest)
 
-abbrev pub resume : Machine → List ℕ → ReadOutcome Value
+abbrev pub resume : {B : Type 0} → Machine B → List ℕ → ReadOutcome Value
 resume m more =
     then (value_of (depth_left m.depth m.open_aggregates) m.body more) (place m.depth m.open_aggregates)
 
@@ -73,7 +72,7 @@ FaultsWithin before bytes n (Fault f) = (n ≤ length bytes)
 
 -- from `before`, by the bytes that come, the machine has come to `new`, and a body or an aggregate
 -- is open; with Some, the value in progress is whole
-abbrev pub Goes : (List ℕ → ReadOutcome Value) → Machine → Result (Option Whole) ReadError → Type 0
+abbrev pub Goes : {B M : Type 0} → (List ℕ → ReadOutcome Value) → Machine B → Result (Option (Whole M)) ReadError → Type 0
 Goes before new (Ok None) =
     ((more : List ℕ) → before more ≡ resume new more) × (fresh_of new.body new.open_aggregates ≡ false)
 Goes before new (Ok (Some w)) =
@@ -81,7 +80,7 @@ Goes before new (Ok (Some w)) =
 Goes before new (Err e) = FaultsAtOnce before e
 
 -- the same, with Some where the outermost value is whole
-abbrev pub Ends : (List ℕ → ReadOutcome Value) → Machine → Result (Option Whole) ReadError → Type 0
+abbrev pub Ends : {B M : Type 0} → (List ℕ → ReadOutcome Value) → Machine B → Result (Option (Whole M)) ReadError → Type 0
 Ends before new (Ok None) =
     ((more : List ℕ) → before more ≡ resume new more) × (fresh_of new.body new.open_aggregates ≡ false)
 Ends before new (Ok (Some w)) =
@@ -119,7 +118,7 @@ FillsBody old bytes new (Ok n) = (n ≡ min (length bytes) old.missing)
 FillsBody old bytes new (Err e) = new ≡ old
 
 -- n bytes were taken, and no more can be before more bytes come
-pub record Waits (old : Machine) (bytes : List ℕ) (new : Machine) (n : ℕ) : Type 0 where
+pub record Waits {B : Type 0} (old : Machine B) (bytes : List ℕ) (new : Machine B) (n : ℕ) : Type 0 where
   pub within : n ≤ length bytes
   pub same : (more : List ℕ) → resume old (bytes ++ more) ≡ resume new (drop n bytes ++ more)
   pub waits : resume new (drop n bytes) ≡ incomplete
@@ -128,7 +127,7 @@ pub record Waits (old : Machine) (bytes : List ℕ) (new : Machine) (n : ℕ) : 
   pub begun : n ≡ 0 → fresh_of new.body new.open_aggregates ≡ fresh_of old.body old.open_aggregates
 
 -- n bytes were taken, one at least
-pub record Consumes (old : Machine) (bytes : List ℕ) (new : Machine)
+pub record Consumes {B : Type 0} (old : Machine B) (bytes : List ℕ) (new : Machine B)
     (after : List ℕ → ReadOutcome Value) (n : ℕ) : Type 0 where
   pub some : 0 < n
   pub within : n ≤ length bytes
@@ -136,7 +135,7 @@ pub record Consumes (old : Machine) (bytes : List ℕ) (new : Machine)
   pub scanned : new.scanned ≡ 0
 
 -- what one step does
-abbrev pub Steps : Machine → List ℕ → Machine → Result Step ReadError → Type 0
+abbrev pub Steps : {B M : Type 0} → Machine B → List ℕ → Machine B → Result (Step M) ReadError → Type 0
 Steps old bytes new (Ok (step.Waits n)) = Waits old bytes new n
 Steps old bytes new (Ok (step.Goes n)) =
     Consumes old bytes new (resume new) n × (fresh_of new.body new.open_aggregates ≡ false)
@@ -145,43 +144,38 @@ Steps old bytes new (Ok (step.Whole n w)) =
 Steps old bytes new (Err e) = FaultsWithin (resume old) bytes new.shown e
 
 -- a value was read, and n bytes taken
-pub record Completes (old : Machine) (bytes : List ℕ) (new : Machine) (n : ℕ) (v : Value) : Type 0 where
+pub record Completes {B : Type 0} (old : Machine B) (bytes : List ℕ) (new : Machine B) (n : ℕ) (v : Value) : Type 0 where
   pub within : n ≤ length bytes
   pub same : (more : List ℕ) → resume old (bytes ++ more) ≡ got v (drop n bytes ++ more)
   pub fresh : fresh_of new.body new.open_aggregates ≡ true
   pub scanned : new.scanned ≡ 0
 
 -- what all steps do until a value is whole or more bytes are needed
-abbrev pub Runs : Machine → List ℕ → Machine → Result (ℕ × Option Whole) ReadError → Type 0
+abbrev pub Runs : {B M : Type 0} → Machine B → List ℕ → Machine B → Result (ℕ × Option (Whole M)) ReadError → Type 0
 Runs old bytes new (Ok (n, Some w)) = Completes old bytes new n w.seen
 Runs old bytes new (Ok (n, None)) = Waits old bytes new n
 Runs old bytes new (Err e) =
     FaultsWithin (resume old) bytes new.shown e × (0 < length bytes)
 
--- what is read from there, from these bytes on, can be read back from its tokens and its text
-abbrev pub ReadsReadable : Machine → List ℕ → Type 0
-ReadsReadable m bytes =
-    (more : List ℕ) (v : Value) (rest : List ℕ) → resume m (bytes ++ more) ≡ got v rest → IsReadable 1000 v
-
 -- the same in a place for what shows a value, which is as it was where no value is read
-abbrev pub ReadsInto : {T : Type 0} → (T → Value → Type 0) → Machine → List ℕ → Machine → T → T → Result (ℕ × Bool) ReadError → Type 0
+abbrev pub ReadsInto : {B : Type 0} {T : Type 0} → (T → Value → Type 0) → Machine B → List ℕ → Machine B → T → T → Result (ℕ × Bool) ReadError → Type 0
 ReadsInto shows old bytes new before after (Ok (n, true)) = (v : Value) × (shows after v × Completes old bytes new n v)
 ReadsInto shows old bytes new before after (Ok (n, false)) = Waits old bytes new n × (after ≡ before)
 ReadsInto shows old bytes new before after (Err e) =
     (FaultsWithin (resume old) bytes new.shown e × (0 < length bytes)) × (after ≡ before)
 
 -- what is built then, where memory doesn't run out and no fault is met
-abbrev pub BuildsThen : Machine → Result (Option Whole) ReadError → Type 0
-BuildsThen m (Ok None) = BuildsIn m.builder m.open_aggregates m.body
-BuildsThen m (Ok (Some w)) = BuildsWhole m.builder m.open_aggregates w
-BuildsThen m (Err e) = Unit {0}
+abbrev pub BuildsThen : {B M : Type 0} → Stands B M → Machine B → Result (Option (Whole M)) ReadError → Type 0
+BuildsThen S m (Ok None) = S m.builder m.open_aggregates (progress_of m.body)
+BuildsThen S m (Ok (Some w)) = S m.builder m.open_aggregates (whole w)
+BuildsThen S m (Err e) = Unit {0}
 
-abbrev pub StepBuilds : Machine → Result Step ReadError → Type 0
-StepBuilds m (Ok (step.Waits n)) = BuildsIn m.builder m.open_aggregates m.body
-StepBuilds m (Ok (step.Goes n)) = BuildsIn m.builder m.open_aggregates m.body
-StepBuilds m (Ok (step.Whole n w)) = BuildsWhole m.builder m.open_aggregates w
-StepBuilds m (Err e) = Unit {0}
+abbrev pub StepBuilds : {B M : Type 0} → Stands B M → Machine B → Result (Step M) ReadError → Type 0
+StepBuilds S m (Ok (step.Waits n)) = BuildsThen S m (Ok None)
+StepBuilds S m (Ok (step.Goes n)) = BuildsThen S m (Ok None)
+StepBuilds S m (Ok (step.Whole n w)) = BuildsThen S m (Ok (Some w))
+StepBuilds S m (Err e) = Unit {0}
 
-abbrev pub RunBuilds : Machine → Result (ℕ × Option Whole) ReadError → Type 0
-RunBuilds m (Ok (n, o)) = BuildsThen m (Ok o)
-RunBuilds m (Err e) = Unit {0}
+abbrev pub RunBuilds : {B M : Type 0} → Stands B M → Machine B → Result (ℕ × Option (Whole M)) ReadError → Type 0
+RunBuilds S m (Ok (n, o)) = BuildsThen S m (Ok o)
+RunBuilds S m (Err e) = Unit {0}

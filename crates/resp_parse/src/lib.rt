@@ -3,8 +3,10 @@
 
 mod body;
 mod builder;
+mod decoder;
 mod double;
-mod form;
+mod flat_builder;
+mod flat_parser;
 mod history;
 pub mod laws;
 mod limits;
@@ -18,13 +20,16 @@ mod reader_source;
 mod seen;
 mod shape;
 mod source;
+mod tree_builder;
 mod type_byte;
 mod value_of;
 mod whole;
 
+pub use decoder::parse_redis_value;
 pub use double::is_double_text;
+pub use flat_parser::FlatParser;
 pub use history::History;
 pub use limits::Limits;
-pub use parser::{Parser, parse_redis_value};
+pub use parser::Parser;
 pub use reader_source::Reading;
 pub use source::ReplySource;

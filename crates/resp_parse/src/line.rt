@@ -6,7 +6,7 @@ ghost use Rattle.resp_parse.specs.Number.{IsNumeral};
 ghost use Rattle.resp_parse.specs.Resume.{FindsLine, FindsNumeral, EndsBody, len_of};
 ghost use Rattle.resp_parse.specs.Costs.{LooksAt, LooksForNumeral};
 
-use crate::parser::Counter;
+use crate::decoder::Counter;
 
 /// The least number that has one digit too many to be read with its line.
 const LARGE: u64 = 100_000_000_000_000_000;

@@ -1,7 +1,7 @@
 //! The reading of a value, which stops where the bytes end and goes on from there.
 
 ghost use Rattle.std.specs.Prelude.{◌≡◌, ◌<◌, ◌≤◌, ◌+◌, ◌*◌, ◌^◌, length, true, None, IfOk, IfSome, OnOk};
-ghost use Rattle.resp_parse.specs.Building.{Builds, BuildsIn, BuildsWhole};
+ghost use Rattle.resp_parse.specs.Building.{nothing, whole, progress_of};
 ghost use Rattle.resp_parse.specs.Resume.{BuildsThen, StepBuilds, RunBuilds};
 ghost use Rattle.resp_parse.specs.Computes.{ComputesSeen};
 ghost use Rattle.resp_parse.specs.Grammar.{elements};
@@ -9,43 +9,43 @@ ghost use Rattle.resp_parse.specs.Number.{IsNumeral};
 ghost use Rattle.resp_parse.specs.PlainReading.{then, read_announced, read};
 ghost use Rattle.resp_parse.specs.Shapes.{announced_in_line, line_value, elements_value, count_of};
 ghost use Rattle.resp_parse.specs.Resume.{place, resume, fresh_of, IsScanned, Goes, Ends, Steps};
-ghost use Rattle.resp_parse.specs.Resume.{Runs, ReadsInto, ReadsReadable, depth_below};
+ghost use Rattle.resp_parse.specs.Resume.{Runs, ReadsInto, depth_below};
 ghost use Rattle.resp_parse.specs.Filling.{lacks_of, FillsOpenBody};
 ghost use Rattle.resp_parse.specs.Built.{built};
-ghost use Rattle.resp_parse.specs.Costs.{TakesNoMore, least_bytes, BuiltWithin, StepBuiltWithin, RunBuiltWithin, Places, Begins};
+ghost use Rattle.resp_parse.specs.Costs.{least_bytes, BuiltWithin, StepBuiltWithin, RunBuiltWithin, Places, Begins};
 ghost use Rattle.resp_parse.specs.Costs.{HeaderCost, StepCost, RunCost, ReadBuiltWithin};
 
 use crate::body::Body;
 use crate::builder::Builder;
-use crate::form::Form;
+use crate::decoder::Counter;
+use crate::history::History;
 use crate::line::{Line, body_ends, first_line};
-use crate::open_aggregates::{Added, OpenAggregates};
-use crate::parser::Counter;
+use crate::open_aggregates::{Added, OpenAggregate, OpenAggregates};
 use crate::read_error::ReadError;
+use crate::seen::SeenValues;
 use crate::shape::{ElementsKind, LineKind, Shape, shape_of};
 use crate::type_byte::TypeByte;
 use crate::whole::Whole;
-use resp_flat::FlatReply;
 use resp_value::{FrameFault, Items, Value};
 use std::alloc::{AllocError, Global};
 
 /// How many bytes one step took, and what came of it.
 #[derive(Drop)]
-pub(crate) enum Step {
+pub(crate) enum Step<M> {
     /// No more can be taken before more bytes come.
     Waits(usize),
     /// A body or elements follow.
     Goes(usize),
     /// A value is whole.
-    Whole(usize, Whole),
+    Whole(usize, Whole<M>),
 }
 
 /// What was read of a value that isn't whole.
 #[derive(Drop)]
-pub(crate) struct Machine {
+pub(crate) struct Machine<B> {
     /// How many levels of values inside values are read.
     pub(crate) depth: usize,
-    pub(crate) builder: Builder,
+    pub(crate) builder: B,
     pub(crate) open_aggregates: OpenAggregates,
     pub(crate) body: Option<Body>,
     /// How many bytes of the line in progress were looked at; they hold no CR LF.
@@ -54,17 +54,17 @@ pub(crate) struct Machine {
     pub(crate) shown: usize,
 }
 
-impl Machine {
+impl<B: Builder> Machine<B> {
     /// Nothing was read. Takes no memory.
-    pub(crate) fn new(alloc: Global, depth: usize) -> Machine
+    pub(crate) fn new(alloc: Global, depth: usize) -> Machine<B>
         ensures limit { result.depth ≡ depth }
         ensures fresh { fresh_of result.body result.open_aggregates ≡ true }
         ensures scanned { result.scanned ≡ 0 }
-        ensures builds { BuildsIn result.builder result.open_aggregates result.body }
+        ensures builds { B.stands result.builder result.open_aggregates (progress_of result.body) }
     {
         Machine {
             depth,
-            builder: Builder::new(alloc),
+            builder: B::new(alloc),
             open_aggregates: OpenAggregates::new(alloc),
             body: None,
             scanned: 0,
@@ -98,10 +98,10 @@ impl Machine {
         number: Option<u64>,
         at_hand: usize,
         counts: &mut Counter,
-    ) -> Result<Option<Whole>, ReadError>
+    ) -> Result<Option<Whole<B::Made>>, ReadError>
         requires no_body { self.old.body ≡ None }
         requires level { length self.old.open_aggregates < self.old.depth }
-        requires builds { Builds self.old.builder self.old.open_aggregates }
+        requires builds { B.stands self.old.builder self.old.open_aggregates nothing }
         requires number { IfSome number (IsNumeral line.now) }
         ensures goes { Goes (λ more. then (read_announced
             (read (depth_below self.old.depth self.old.open_aggregates))
@@ -110,7 +110,7 @@ impl Machine {
         ensures limit { self.new.depth ≡ self.old.depth }
         ensures depth { length self.new.open_aggregates ≤ self.new.depth }
         ensures scanned { self.new.scanned ≡ self.old.scanned }
-        ensures builds { BuildsThen self.new result }
+        ensures builds { BuildsThen B.stands self.new result }
         ensures built_within { BuiltWithin self.new (3 + least_bytes self.old) result }
         ensures begins { Begins self.old self.new counts.old counts.new result }
         ensures iterations { counts.new ≡ record counts.old { iterations = counts.new.iterations } }
@@ -121,7 +121,12 @@ impl Machine {
             Shape::Line(kind, text) => Ok(Some(self.begin_line(alloc, kind, text)?)),
             Shape::Simple(text) => Ok(Some(self.builder.simple(alloc, text)?)),
             Shape::Body(kind, missing) => {
-                self.body = Some(self.builder.body(alloc, kind, missing)?);
+                self.builder.begin_body(alloc, missing)?;
+                self.body = Some(Body {
+                    kind,
+                    missing,
+                    seen: History::new(),
+                });
                 Ok(None)
             }
             Shape::Elements(kind, size) => self.begin_elements(alloc, kind, size, at_hand, counts),
@@ -130,12 +135,17 @@ impl Machine {
 
     /// A value that is read from its line.
     #[inline(never)]
-    fn begin_line(&mut self, alloc: Global, kind: LineKind, text: &str) -> Result<Whole, ReadError>
-        requires builds { Builds self.old.builder self.old.open_aggregates }
+    fn begin_line(
+        &mut self,
+        alloc: Global,
+        kind: LineKind,
+        text: &str,
+    ) -> Result<Whole<B::Made>, ReadError>
+        requires builds { B.stands self.old.builder self.old.open_aggregates nothing }
         ensures same { self.new ≡ record self.old { builder = self.new.builder } }
         ensures value { ComputesSeen result (line_value kind text.now) }
         ensures builds { IfOk result
-            (BuildsWhole self.new.builder self.new.open_aggregates) }
+            (λ w. B.stands self.new.builder self.new.open_aggregates (whole w)) }
     {
         let value = kind.value(alloc, text)?;
         Ok(self.builder.leaf(value)?)
@@ -149,10 +159,10 @@ impl Machine {
         size: usize,
         at_hand: usize,
         counts: &mut Counter,
-    ) -> Result<Option<Whole>, ReadError>
+    ) -> Result<Option<Whole<B::Made>>, ReadError>
         requires no_body { self.old.body ≡ None }
         requires level { length self.old.open_aggregates < self.old.depth }
-        requires builds { Builds self.old.builder self.old.open_aggregates }
+        requires builds { B.stands self.old.builder self.old.open_aggregates nothing }
         requires small { size < 2 ^ 63 }
         ensures goes { Goes (λ more. then (read_announced
             (read (depth_below self.old.depth self.old.open_aggregates))
@@ -161,7 +171,7 @@ impl Machine {
         ensures limit { self.new.depth ≡ self.old.depth }
         ensures depth { length self.new.open_aggregates ≤ self.new.depth }
         ensures scanned { self.new.scanned ≡ self.old.scanned }
-        ensures builds { BuildsThen self.new result }
+        ensures builds { BuildsThen B.stands self.new result }
         ensures built_within { BuiltWithin self.new (3 + least_bytes self.old) result }
         ensures begins { Begins self.old self.new counts.old counts.new result }
         ensures iterations { counts.new ≡ record counts.old { iterations = counts.new.iterations } }
@@ -171,8 +181,13 @@ impl Machine {
             let value = kind.value(alloc, Items::new(alloc), counts)?;
             return Ok(Some(self.builder.leaf(value)?));
         }
-        let opened = self.builder.open(alloc, kind, size, count - 1, at_hand)?;
-        self.open_aggregates.push(opened)?;
+        self.builder.open(alloc, kind, size, count - 1, at_hand)?;
+        self.open_aggregates.push(OpenAggregate {
+            kind,
+            size,
+            after: count - 1,
+            seen: SeenValues::new(),
+        })?;
         Ok(None)
     }
 
@@ -182,15 +197,16 @@ impl Machine {
         alloc: Global,
         bytes: &[u8],
         counts: &mut Counter,
-    ) -> Result<Step, ReadError>
+    ) -> Result<Step<B::Made>, ReadError>
         requires no_body { self.old.body ≡ None }
         requires depth { length self.old.open_aggregates ≤ self.old.depth }
         requires scanned { IsScanned self.old.body self.old.scanned bytes.now }
-        requires builds { BuildsIn self.old.builder self.old.open_aggregates self.old.body }
+        requires builds { B.stands self.old.builder self.old.open_aggregates
+            (progress_of self.old.body) }
         ensures steps { Steps self.old bytes.now self.new result }
         ensures limit { self.new.depth ≡ self.old.depth }
         ensures depth { length self.new.open_aggregates ≤ self.new.depth }
-        ensures builds { StepBuilds self.new result }
+        ensures builds { StepBuilds B.stands self.new result }
         ensures built_within { StepBuiltWithin self.old self.new result }
         ensures cost { HeaderCost self.old self.new bytes.now counts.old counts.new result }
     {
@@ -220,14 +236,20 @@ impl Machine {
     }
 
     /// Takes a header, or goes on in a body.
-    fn step(&mut self, alloc: Global, bytes: &[u8], counts: &mut Counter) -> Result<Step, ReadError>
+    fn step(
+        &mut self,
+        alloc: Global,
+        bytes: &[u8],
+        counts: &mut Counter,
+    ) -> Result<Step<B::Made>, ReadError>
         requires depth { length self.old.open_aggregates ≤ self.old.depth }
         requires scanned { IsScanned self.old.body self.old.scanned bytes.now }
-        requires builds { BuildsIn self.old.builder self.old.open_aggregates self.old.body }
+        requires builds { B.stands self.old.builder self.old.open_aggregates
+            (progress_of self.old.body) }
         ensures steps { Steps self.old bytes.now self.new result }
         ensures limit { self.new.depth ≡ self.old.depth }
         ensures depth { length self.new.open_aggregates ≤ self.new.depth }
-        ensures builds { StepBuilds self.new result }
+        ensures builds { StepBuilds B.stands self.new result }
         ensures built_within { StepBuiltWithin self.old self.new result }
         ensures cost { StepCost self.old self.new bytes.now counts.old counts.new result }
     {
@@ -235,7 +257,7 @@ impl Machine {
         let Some(body) = &mut self.body else {
             return self.header(alloc, bytes, counts);
         };
-        let taken = self.builder.fill(body, bytes)?;
+        let taken = body.fill(&mut self.builder, bytes)?;
         counts.examine(taken);
         match body_ends(&bytes[taken..]) {
             Ok(true) => {}
@@ -246,7 +268,7 @@ impl Machine {
             )),
         }
         counts.examine(2);
-        let whole = self.builder.end(alloc, body);
+        let whole = self.builder.end_body(alloc, body);
         self.body = None;
         match whole {
             Ok(whole) => Ok(Step::Whole(taken + 2, whole)),
@@ -268,10 +290,11 @@ impl Machine {
     pub(crate) fn fill(&mut self, bytes: &[u8], counts: &mut Counter) -> Result<(), AllocError>
         requires lacks { length bytes.now ≤ lacks_of self.old.body }
         ensures fills { FillsOpenBody self.old bytes.now self.new counts.old counts.new result }
-        ensures builds { BuildsIn self.old.builder self.old.open_aggregates self.old.body →
-            BuildsIn self.new.builder self.new.open_aggregates self.new.body }
-        ensures memory { BuildsIn self.old.builder self.old.open_aggregates self.old.body →
-            TakesNoMore self.old self.new }
+        ensures builds { B.stands self.old.builder self.old.open_aggregates
+            (progress_of self.old.body) →
+            B.stands self.new.builder self.new.open_aggregates (progress_of self.new.body) }
+        ensures values { B.values self.new.builder ≡ B.values self.old.builder }
+        ensures tokens { B.tokens self.new.builder ≡ B.tokens self.old.builder }
     {
         if bytes.is_empty() {
             return Ok(());
@@ -279,7 +302,7 @@ impl Machine {
         let Some(body) = &mut self.body else {
             return Ok(());
         };
-        let taken = self.builder.fill(body, bytes)?;
+        let taken = body.fill(&mut self.builder, bytes)?;
         counts.iterate();
         counts.examine(taken);
         Ok(())
@@ -289,34 +312,33 @@ impl Machine {
     fn attach(
         &mut self,
         alloc: Global,
-        whole: Whole,
+        value: Whole<B::Made>,
         counts: &mut Counter,
-    ) -> Result<Option<Whole>, ReadError>
+    ) -> Result<Option<Whole<B::Made>>, ReadError>
         requires no_body { self.old.body ≡ None }
         requires depth { length self.old.open_aggregates ≤ self.old.depth }
-        requires builds { BuildsWhole self.old.builder self.old.open_aggregates whole }
-        ensures ends { Ends (place self.old.depth self.old.open_aggregates whole.seen) self.new result }
+        requires builds { B.stands self.old.builder self.old.open_aggregates (whole value) }
+        ensures ends { Ends (place self.old.depth self.old.open_aggregates value.seen) self.new result }
         ensures limit { self.new.depth ≡ self.old.depth }
         ensures depth { length self.new.open_aggregates ≤ self.new.depth }
         ensures scanned { self.new.scanned ≡ self.old.scanned }
-        ensures builds { BuildsThen self.new result }
-        ensures built_within { BuiltWithin self.new (least_bytes self.old + 3 * built whole.seen) result }
+        ensures builds { BuildsThen B.stands self.new result }
+        ensures built_within { BuiltWithin self.new (least_bytes self.old + 3 * built value.seen) result }
         ensures places { Places self.old self.new counts.old counts.new result }
         ensures iterations { counts.new ≡ record counts.old { iterations = counts.new.iterations } }
     {
-        let mut whole = whole;
+        let mut value = value;
         loop {
             counts.iterate();
-            let flat = self.builder.flat;
-            match self
-                .open_aggregates
-                .add(alloc, whole, flat, &mut self.builder.value)?
-            {
-                Added::Outermost(whole) => return Ok(Some(whole)),
-                Added::StillOpen => return Ok(None),
-                Added::Closed(aggregate) => {
-                    match self.builder.close(alloc, aggregate, counts) {
-                        Ok(made) => whole = made,
+            match self.open_aggregates.add(&value.seen) {
+                Added::Outermost => return Ok(Some(value)),
+                Added::StillOpen => {
+                    self.builder.keep(value.made)?;
+                    return Ok(None);
+                }
+                Added::Closed(closed) => {
+                    match self.builder.close(alloc, &closed, value.made, counts) {
+                        Ok(made) => value = made,
                         Err(why) => return Err(why),
                     }
                 }
@@ -330,14 +352,15 @@ impl Machine {
         alloc: Global,
         bytes: &[u8],
         counts: &mut Counter,
-    ) -> Result<(usize, Option<Whole>), ReadError>
+    ) -> Result<(usize, Option<Whole<B::Made>>), ReadError>
         requires depth { length self.old.open_aggregates ≤ self.old.depth }
         requires scanned { IsScanned self.old.body self.old.scanned bytes.now }
-        requires builds { BuildsIn self.old.builder self.old.open_aggregates self.old.body }
+        requires builds { B.stands self.old.builder self.old.open_aggregates
+            (progress_of self.old.body) }
         ensures runs { Runs self.old bytes.now self.new result }
         ensures limit { self.new.depth ≡ self.old.depth }
         ensures depth { length self.new.open_aggregates ≤ self.new.depth }
-        ensures builds { RunBuilds self.new result }
+        ensures builds { RunBuilds B.stands self.new result }
         ensures built_within { RunBuiltWithin self.old self.new result }
         ensures cost { RunCost self.old self.new bytes.now counts.old counts.new result }
     {
@@ -364,24 +387,24 @@ impl Machine {
         Ok((at, None))
     }
 
-    /// The same, with a whole value put in its place in the form that is wanted.
+    /// The same, with a whole value handed out.
     #[inline(always)]
-    pub(crate) fn read<T: Form>(
+    pub(crate) fn read(
         &mut self,
         alloc: Global,
         bytes: &[u8],
         counts: &mut Counter,
-        out: &mut T,
+        out: &mut B::Reply,
     ) -> Result<(usize, bool), ReadError>
         requires depth { length self.old.open_aggregates ≤ self.old.depth }
         requires scanned { IsScanned self.old.body self.old.scanned bytes.now }
-        requires builds { BuildsIn self.old.builder self.old.open_aggregates self.old.body }
-        requires readable { ReadsReadable self.old bytes.now }
-        ensures reads { ReadsInto T.shows self.old bytes.now self.new out.old out.new result }
+        requires builds { B.stands self.old.builder self.old.open_aggregates
+            (progress_of self.old.body) }
+        ensures reads { ReadsInto B.shows self.old bytes.now self.new out.old out.new result }
         ensures limit { self.new.depth ≡ self.old.depth }
         ensures depth { length self.new.open_aggregates ≤ self.new.depth }
-        ensures builds { OnOk result
-            (BuildsIn self.new.builder self.new.open_aggregates self.new.body) }
+        ensures builds { OnOk result (B.stands self.new.builder self.new.open_aggregates
+            (progress_of self.new.body)) }
         ensures built_within { ReadBuiltWithin self.old self.new result }
         ensures cost { RunCost self.old self.new bytes.now counts.old counts.new result }
     {
@@ -392,22 +415,7 @@ impl Machine {
         let Some(whole) = whole else {
             return Ok((taken, false));
         };
-        match T::put(alloc, &mut self.builder, whole, out) {
-            Ok(()) => Ok((taken, true)),
-            Err(_) => Err(ReadError::Memory),
-        }
-    }
-
-    /// Chooses what is built of the next value, where none is in progress.
-    pub(crate) fn choose(&mut self, flat: bool)
-        ensures same { self.new ≡ record self.old { builder = self.new.builder } }
-        ensures builds { BuildsIn self.old.builder self.old.open_aggregates self.old.body →
-            BuildsIn self.new.builder self.new.open_aggregates self.new.body }
-        ensures memory { BuildsIn self.old.builder self.old.open_aggregates self.old.body →
-            TakesNoMore self.old self.new }
-    {
-        if self.is_fresh() {
-            self.builder.choose(flat);
-        }
+        self.builder.put(whole.made, out);
+        Ok((taken, true))
     }
 }

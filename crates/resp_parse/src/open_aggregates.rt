@@ -1,13 +1,10 @@
 //! The aggregates whose headers were read and whose elements aren't all there.
 
-ghost use Rattle.std.specs.Prelude.{◌≡◌, ◌∷◌, ◌++◌, ◌≤◌, ◌+◌, cond, [], length, OnOk};
-ghost use Rattle.resp_value.specs.declared.value.Value.{Nil};
-ghost use Rattle.resp_parse.specs.OpenAggregates.{Adds, ClosesInnermost, left_of};
+ghost use Rattle.std.specs.Prelude.{◌≡◌, ◌∷◌, ◌≤◌, ◌+◌, [], length, OnOk};
+ghost use Rattle.resp_parse.specs.OpenAggregates.{Adds, ClosesInnermost};
 
-use crate::seen::SeenValues;
+use crate::seen::{SeenValue, SeenValues};
 use crate::shape::ElementsKind;
-use crate::whole::Whole;
-use resp_value::{Items, Value};
 use std::alloc::{AllocError, Global};
 use std::marker::Model;
 use std::mem;
@@ -20,19 +17,15 @@ pub(crate) struct OpenAggregate {
     pub(crate) size: usize,
     /// How many elements come after the one in progress.
     pub(crate) after: usize,
-    /// At which place in a flat reply its token stands.
-    pub(crate) token: usize,
-    /// Its elements so far; none where a flat reply has them.
-    pub(crate) elements: Items<Value>,
-    /// Which elements it has.
+    /// Which elements it has; contracts alone see them.
     pub(crate) seen: SeenValues,
 }
 
 /// What became of a value that was put in the innermost aggregate.
 #[derive(Drop)]
 pub(crate) enum Added {
-    /// No aggregate is open: here it is again.
-    Outermost(Whole),
+    /// No aggregate is open.
+    Outermost,
     /// The aggregate lacks more elements.
     StillOpen,
     /// The aggregate has all its elements and is no longer open.
@@ -48,8 +41,6 @@ pub(crate) struct OpenAggregates {
     kind: ElementsKind,
     size: usize,
     after: usize,
-    token: usize,
-    elements: Items<Value>,
     seen: SeenValues,
     /// The others, the outermost first.
     outer: Vec<OpenAggregate>,
@@ -70,8 +61,6 @@ impl Model for OpenAggregates {
       kind = s.kind;
       size = s.size;
       after = s.after;
-      token = s.token;
-      elements = s.elements;
       seen = s.seen;
     }) s.outer.items };
 
@@ -88,8 +77,6 @@ impl OpenAggregates {
             kind: ElementsKind::Array,
             size: 0,
             after: 0,
-            token: 0,
-            elements: Items::new(alloc),
             seen: SeenValues::new(),
             outer: Vec::new(alloc),
         }
@@ -111,19 +98,14 @@ impl OpenAggregates {
             kind,
             size,
             after,
-            token,
-            elements,
             seen,
         } = aggregate;
-        let outer = mem::replace(&mut self.elements, elements);
         let outer_seen = mem::replace(&mut self.seen, seen);
         if self.len > 0 {
             self.outer.push(OpenAggregate {
                 kind: self.kind,
                 size: self.size,
                 after: self.after,
-                token: self.token,
-                elements: outer,
                 seen: outer_seen,
             })?;
         }
@@ -131,45 +113,34 @@ impl OpenAggregates {
         self.kind = kind;
         self.size = size;
         self.after = after;
-        self.token = token;
         Ok(())
     }
 
-    /// Puts a value in the innermost aggregate, which is closed where it then has all its elements.
-    /// The value itself is kept where no flat reply has it.
-    pub(crate) fn add(
-        &mut self,
-        alloc: Global,
-        whole: Whole,
-        flat: bool,
-        value: &mut Value,
-    ) -> Result<Added, AllocError>
-        ensures adds { Adds flat self.old value.old whole self.new result }
-        ensures value { OnOk result (value.new ≡ left_of flat self.old value.old) }
+    /// Counts a value as an element of the innermost aggregate, which is closed where it then has
+    /// all its elements.
+    pub(crate) fn add(&mut self, value: &SeenValue) -> Added
+        ensures adds { Adds self.old value.now self.new result }
         ensures fewer { length self.new ≤ length self.old }
     {
         if self.len == 0 {
-            return Ok(Added::Outermost(whole));
+            return Added::Outermost;
         }
-        keep(&mut self.elements, value, flat)?;
-        self.seen.push(&whole.seen);
+        self.seen.push(value);
         if self.after > 0 {
             self.after -= 1;
-            return Ok(Added::StillOpen);
+            return Added::StillOpen;
         }
-        Ok(Added::Closed(self.close(alloc)))
+        Added::Closed(self.close())
     }
 
     /// Closes the innermost aggregate.
-    fn close(&mut self, alloc: Global) -> OpenAggregate
+    fn close(&mut self) -> OpenAggregate
         ensures { ClosesInnermost self.old self.new result }
     {
         let closed = OpenAggregate {
             kind: self.kind,
             size: self.size,
             after: self.after,
-            token: self.token,
-            elements: mem::replace(&mut self.elements, Items::new(alloc)),
             seen: mem::replace(&mut self.seen, SeenValues::new()),
         };
         if let Some(outer) = self.outer.pop() {
@@ -177,30 +148,14 @@ impl OpenAggregates {
                 kind,
                 size,
                 after,
-                token,
-                elements,
                 seen,
             } = outer;
             self.kind = kind;
             self.size = size;
             self.after = after;
-            self.token = token;
-            self.elements = elements;
             self.seen = seen;
         }
         self.len = self.len.saturating_sub(1);
         closed
     }
-}
-
-/// Keeps an element, which a flat reply has itself.
-fn keep(elements: &mut Items<Value>, value: &mut Value, flat: bool) -> Result<(), AllocError>
-    ensures kept { OnOk result
-        (elements.new ≡ cond flat elements.old (elements.old ++ (value.old ∷ []))) }
-    ensures value { OnOk result (value.new ≡ cond flat value.old Nil) }
-{
-    if flat {
-        return Ok(());
-    }
-    elements.push(mem::replace(value, Value::Nil))
 }

@@ -1,39 +1,25 @@
 //! A parser of bytes that come in pieces.
 
-ghost use Rattle.std.specs.Prelude.{◌≡◌, ◌≢◌, ◌↔◌, ◌++◌, ◌⊎◌, [], true, false, Err, List, ℕ};
+ghost use Rattle.std.specs.Prelude.{◌≡◌, ◌≢◌, ◌↔◌, ◌⊎◌, [], true, false, Err, List, ℕ};
 ghost use Rattle.std.specs.Prelude.{length, IsTrue, IfErr, IfOk, IsOk, OnOk, IfSome, None};
 ghost use Rattle.resp_parse.specs.State.{StandsAfter, FailedAfter, IsBetweenValues, has_failed};
-ghost use Rattle.resp_parse.specs.State.{KeepsFaultOffset, refusal_of, answered};
-ghost use Rattle.resp_parse.specs.Limits.{AreLimits, IsDepthLimit, IsSizeLimit, RefusesLimits};
+ghost use Rattle.resp_parse.specs.State.{KeepsFaultOffset};
+ghost use Rattle.resp_parse.specs.Limits.{AreLimits, IsDepthLimit, RefusesLimits};
 ghost use Rattle.resp_parse.specs.Limits.{depth_refused, of_depth, usual};
 ghost use Rattle.resp_parse.specs.Limited.{FaultShownAt};
-ghost use Rattle.resp_parse.specs.Invariant.{PassesLimit};
-ghost use Rattle.resp_parse.specs.Calls.{Feeds, Takes, TakesInto, TakesFlat, Asks, Parses};
-ghost use Rattle.resp_parse.specs.Calls.{ParsesReader};
+ghost use Rattle.resp_parse.specs.Calls.{Feeds, Takes, TakesInto, Asks, Parses, ParsesReader};
 ghost use Rattle.resp_parse.specs.Bounds.{Bounded, FedBy, OneCall, CallsWithin, AskedFor};
 ghost use Rattle.resp_parse.specs.Counts.{nothing_done};
 
-use crate::form::Form;
-use crate::history::History;
+use crate::decoder::{Decoder, failed_before};
 use crate::limits::{LONGEST, Limits};
-use crate::machine::Machine;
-use crate::read_error::ReadError;
 use crate::reader_source::Reading;
 use crate::source::ReplySource;
-use resp_flat::FlatReply;
-use resp_value::{FrameFault, IoKind, ParsingError, RedisError, RedisResult, Value};
+use crate::tree_builder::TreeBuilder;
+use resp_value::{RedisError, RedisResult, Value};
 use std::alloc::Global;
 use std::io::Read;
 use std::marker::Model;
-
-mod counter;
-mod prefix;
-
-pub(crate) use counter::Counter;
-pub use prefix::parse_redis_value;
-
-/// How many bytes a source is asked for at most.
-const CHUNK: usize = 4096;
 
 /// A parser of replies (RESP2 and RESP3) whose bytes come in pieces.
 ///
@@ -44,8 +30,8 @@ const CHUNK: usize = 4096;
 /// Nor does it matter for the work: the parser goes on where it stopped. Its loops make at most
 /// four iterations for three bytes that it has looked at and one for each call, at most as many
 /// aggregates are open as levels are read, and of the value in progress it holds at most one value
-/// for each three bytes looked at, or two tokens of a flat reply, whatever lengths are announced.
-/// Contracts see these numbers in its state.
+/// for each three bytes looked at, whatever lengths are announced. Contracts see these numbers in
+/// its state.
 ///
 /// Values are read within [`Limits`]: 100 levels of values inside values and 2^63 - 1 bytes, or
 /// those that [`Parser::with_limits`] was given. No call changes them. A value with more levels is
@@ -57,18 +43,7 @@ const CHUNK: usize = 4096;
 /// any call but `feed`, the parser has failed permanently: each later call that feeds or takes
 /// answers `parser has failed`, a [`ParsingError`].
 pub struct Parser {
-    buffer: Vec<u8>,
-    consumed: usize,
-    /// How many bytes may spell a value.
-    size_limit: usize,
-    /// How many bytes of the value in progress the machine took.
-    taken: usize,
-    machine: Machine,
-    failed: bool,
-    /// How many bytes since the last value show the fault that was answered.
-    fault_offset: Option<usize>,
-    since: History,
-    counts: Counter,
+    decoder: Decoder<TreeBuilder>,
 }
 
 /// By hand, so that the proof of a function that owns one has a call where it is dropped, and not a
@@ -76,42 +51,16 @@ pub struct Parser {
 impl Drop for Parser {
     #[inline(always)]
     fn drop(self) {
-        let Parser {
-            buffer: _,
-            consumed: _,
-            size_limit: _,
-            taken: _,
-            machine: _,
-            failed: _,
-            fault_offset: _,
-            since: _,
-            counts: _,
-        } = self;
+        let Parser { decoder: _ } = self;
     }
 }
 
 impl Model for Parser {
-    ghost use Rattle.std.specs.Prelude.{drop, length};
     ghost use Rattle.resp_parse.specs.State.{State};
-    ghost use Rattle.resp_parse.specs.Costs.{values_in, tokens_kept};
-    ghost use Rattle.resp_parse.specs.Invariant.{Invariant, limits_of};
 
     ghost Value = { State };
 
-    ghost view = { λ p. record {
-      limits = limits_of p.machine p.size_limit;
-      unparsed = drop p.consumed p.buffer.items;
-      looked = p.machine.scanned;
-      since = p.since;
-      failed = p.failed;
-      fault_offset = p.fault_offset;
-      open_aggregates = length p.machine.open_aggregates;
-      values = values_in p.machine;
-      tokens = tokens_kept p.machine;
-      counts = p.counts;
-    } };
-
-    ghost invariant = { Invariant };
+    ghost view = { λ p. p.decoder };
 }
 
 impl Parser {
@@ -124,7 +73,9 @@ impl Parser {
         ensures bounds { Bounded result }
         ensures counts { result.counts ≡ nothing_done }
     {
-        Parser::within(alloc, Limits::default())
+        Parser {
+            decoder: Decoder::within(alloc, Limits::default()),
+        }
     }
 
     /// A parser that holds no bytes and reads values within these limits. Takes no memory.
@@ -152,7 +103,9 @@ impl Parser {
         ensures error { IfErr result (RefusesLimits limits) }
     {
         limits.check()?;
-        Ok(Parser::within(alloc, limits))
+        Ok(Parser {
+            decoder: Decoder::within(alloc, limits),
+        })
     }
 
     /// A parser that holds no bytes and reads values down to `limit` levels, from 1 to 1,000, of
@@ -176,37 +129,12 @@ impl Parser {
         Parser::with_limits(alloc, limits)
     }
 
-    /// A parser that holds no bytes, with these limits.
-    fn within(alloc: Global, limits: Limits) -> Parser
-        requires limits { AreLimits limits }
-        ensures limits { result.limits ≡ limits }
-        ensures rest { IsBetweenValues result }
-        ensures empty { result.unparsed ≡ [] }
-        ensures bounds { Bounded result }
-        ensures counts { result.counts ≡ nothing_done }
-    {
-        Parser {
-            buffer: Vec::new(alloc),
-            consumed: 0,
-            size_limit: limits.bytes,
-            taken: 0,
-            machine: Machine::new(alloc, limits.depth),
-            failed: false,
-            fault_offset: None,
-            since: History::new(),
-            counts: Counter::new(),
-        }
-    }
-
     /// The limits within which values are read.
     pub fn limits(&self) -> Limits
         ensures limits { result ≡ self.now.limits }
         ensures valid { AreLimits result }
     {
-        Limits {
-            depth: self.machine.depth,
-            bytes: self.size_limit,
-        }
+        self.decoder.limits()
     }
 
     /// How many levels of values inside values are read, the outermost being the first: the depth
@@ -215,7 +143,7 @@ impl Parser {
         ensures limit { result ≡ self.now.limits.depth }
         ensures valid { IsDepthLimit result }
     {
-        self.machine.depth
+        self.decoder.limits().depth
     }
 
     /// Adds bytes after those that were fed before. On `OutOfMemory` the parser stays as
@@ -230,22 +158,7 @@ impl Parser {
         ensures bounds { Bounded self.new }
         ensures counts { OnOk result (FedBy (length bytes.now) self.old.counts self.new.counts) }
     {
-        if self.failed {
-            return Err(failed_before());
-        }
-        self.compact();
-        let taken_all = self.consumed == self.buffer.len();
-        let lacking = if taken_all { self.machine.lacks() } else { 0 };
-        let room = self.size_limit - self.taken;
-        let (direct, rest) = bytes.split_at(lacking.min(room).min(bytes.len()));
-        self.buffer.reserve(rest.len())?;
-        self.machine.fill(direct, &mut self.counts)?;
-        self.buffer.extend_from_slice(rest)?;
-        self.taken += direct.len();
-        self.since.append(bytes);
-        self.counts.call();
-        self.counts.receive(bytes.len());
-        Ok(())
+        self.decoder.feed(bytes)
     }
 
     /// The next value; None while the bytes since the last one are incomplete.
@@ -270,106 +183,18 @@ impl Parser {
         }
     }
 
-    /// The next value as a flat reply; false while the bytes since the last value are incomplete.
-    ///
-    /// What the reply held before is lost where a value is taken, and is as it was where none is.
-    /// Its memory is used again for the next value, so that in the steady state none is asked for but
-    /// by errors, doubles, big numbers and verbatim strings, which are made apart first. Refusals are
-    /// those of [`Parser::take_value`].
-    ///
-    /// ```text
-    /// let mut reply = FlatReply::new(alloc);
-    /// parser.feed(b"*2\r\n:1\r\n$5\r\nhello\r\n")?;
-    /// let taken = parser.take_flat(&mut reply)?; // true: three tokens, and the text `hello`
-    /// ```
-    ///
-    /// In `crates/resp_tests/src/flat_replies.rt`.
-    pub fn take_flat(&mut self, reply: &mut FlatReply) -> RedisResult<bool>
+    /// The next value, put in its place; false while it is incomplete.
+    fn take(&mut self, value: &mut Value) -> RedisResult<bool>
         ensures failed { self.old.failed ≡ true → (result ≡ Err has_failed)
-            × ((self.new ≡ self.old) × (reply.new ≡ reply.old)) }
+            × (self.new ≡ self.old) }
         ensures takes { (b : List ℕ) → StandsAfter self.old b →
-            TakesFlat b self.new reply.old reply.new result }
+            TakesInto (λ v w. v ≡ w) b self.new value.old value.new result }
         ensures limits { self.new.limits ≡ self.old.limits }
         ensures bounds { Bounded self.new }
         ensures offset { self.old.failed ≡ false → KeepsFaultOffset self.new result }
         ensures counts { self.old.failed ≡ false → OneCall self.old.counts self.new.counts }
     {
-        self.take(reply)
-    }
-
-    /// The next value, put in its place in the form that is wanted; false while it is incomplete.
-    fn take<T: Form>(&mut self, out: &mut T) -> RedisResult<bool>
-        ensures failed { self.old.failed ≡ true → (result ≡ Err has_failed)
-            × ((self.new ≡ self.old) × (out.new ≡ out.old)) }
-        ensures takes { (b : List ℕ) → StandsAfter self.old b →
-            TakesInto T.shows b self.new out.old out.new result }
-        ensures limits { self.new.limits ≡ self.old.limits }
-        ensures bounds { Bounded self.new }
-        ensures offset { self.old.failed ≡ false → KeepsFaultOffset self.new result }
-        ensures counts { self.old.failed ≡ false → OneCall self.old.counts self.new.counts }
-    {
-        if self.failed {
-            return Err(failed_before());
-        }
-        self.choose(T::FLAT);
-        match self.read(out) {
-            Ok(taken) => Ok(taken),
-            Err(why) => Err(refusal(why)),
-        }
-    }
-
-    /// Chooses what is built of the next value, where none is in progress.
-    fn choose(&mut self, flat: bool)
-        requires works { self.old.failed ≡ false }
-        ensures same { self.new ≡ self.old }
-    {
-        self.machine.choose(flat);
-    }
-
-    /// Reads on.
-    fn read<T: Form>(&mut self, out: &mut T) -> Result<bool, ReadError>
-        requires works { self.old.failed ≡ false }
-        ensures takes { (b : List ℕ) → StandsAfter self.old b →
-            TakesInto T.shows b self.new out.old out.new (answered result) }
-        ensures limits { self.new.limits ≡ self.old.limits }
-        ensures bounds { Bounded self.new }
-        ensures offset { KeepsFaultOffset self.new (answered result) }
-        ensures counts { OneCall self.old.counts self.new.counts }
-    {
-        self.counts.call();
-        let alloc = *self.buffer.allocator();
-        let unparsed = &self.buffer[self.consumed..];
-        let room = self.size_limit - self.taken;
-        let (bytes, later) = unparsed.split_at(room.min(unparsed.len()));
-        let passes = !later.is_empty();
-        match self.machine.read(alloc, bytes, &mut self.counts, out) {
-            Ok((taken, true)) => {
-                self.consumed += taken;
-                self.taken = 0;
-                self.since.restart(&self.buffer[self.consumed..]);
-                Ok(true)
-            }
-            Ok((taken, false)) => {
-                if passes {
-                    let (why, offset) = too_long(self.size_limit);
-                    self.failed = true;
-                    self.fault_offset = offset;
-                    return Err(why);
-                }
-                self.consumed += taken;
-                self.taken += taken;
-                Ok(false)
-            }
-            Err(ReadError::Fault(fault)) => {
-                self.failed = true;
-                self.fault_offset = Some(self.taken + self.machine.shown);
-                Err(ReadError::Fault(fault))
-            }
-            Err(ReadError::Memory) => {
-                self.failed = true;
-                Err(ReadError::Memory)
-            }
-        }
+        self.decoder.take(value)
     }
 
     /// The next value, with bytes from a source where those in the buffer don't hold one. Bytes
@@ -390,7 +215,7 @@ impl Parser {
         ensures bounds { Bounded self.new }
         ensures calls { CallsWithin self.old.counts self.new.counts }
     {
-        if self.failed {
+        if self.decoder.is_failed() {
             return Err(failed_before());
         }
         for _ in 0..u64::MAX {
@@ -425,7 +250,7 @@ impl Parser {
     pub fn is_failed(&self) -> bool
         ensures failed { IsTrue result ↔ (self.now.failed ≡ true) }
     {
-        self.failed
+        self.decoder.is_failed()
     }
 
     /// Where the fault stands that a call answered: the number of bytes after the last value up to
@@ -445,7 +270,7 @@ impl Parser {
         ensures shows { (b : List ℕ) → FailedAfter self.now b →
             IfSome result (FaultShownAt self.now.limits b) }
     {
-        self.fault_offset
+        self.decoder.fault_offset()
     }
 
     /// How many bytes are held that weren't parsed. Between values, these are the bytes that follow
@@ -453,7 +278,7 @@ impl Parser {
     pub fn unparsed_len(&self) -> usize
         ensures unparsed { result ≡ length self.now.unparsed }
     {
-        self.buffer[self.consumed..].len()
+        self.decoder.unparsed_len()
     }
 
     /// Whether bytes stand after the last value that was handed out. A parser that has failed
@@ -462,7 +287,7 @@ impl Parser {
         ensures progress { (b : List ℕ) → StandsAfter self.now b ⊎ FailedAfter self.now b →
             (IsTrue result ↔ (b ≢ [])) }
     {
-        self.consumed < self.buffer.len() || !self.machine.is_fresh()
+        self.decoder.in_progress()
     }
 
     /// Asks the source once, for at most 4,096 bytes, and holds what it gives.
@@ -474,25 +299,7 @@ impl Parser {
         ensures bounds { Bounded self.new }
         ensures asked { AskedFor self.old.counts self.new.counts result }
     {
-        self.compact();
-        if self.buffer.reserve(CHUNK).is_err() {
-            self.failed = true;
-            return Err(RedisError::OutOfMemory);
-        }
-        let mut chunk = [0; CHUNK];
-        match source.fill(&mut chunk[..]) {
-            Ok(0) => {
-                self.failed = true;
-                Err(RedisError::Io(IoKind::UnexpectedEof))
-            }
-            Ok(n) => {
-                self.buffer.extend_from_slice(&chunk[..n])?;
-                self.since.append(&chunk[..n]);
-                self.counts.receive(n);
-                Ok(())
-            }
-            Err(kind) => Err(RedisError::Io(kind)),
-        }
+        self.decoder.ask(source)
     }
 
     /// From here on the parser has failed.
@@ -500,49 +307,9 @@ impl Parser {
         ensures fails { (b : List ℕ) → StandsAfter self.old b → FailedAfter self.new b }
         ensures limits { self.new.limits ≡ self.old.limits }
         ensures bounds { Bounded self.new }
-        ensures offset { self.new.fault_offset ≡ self.old.fault_offset }
+        ensures offset { self.old.failed ≡ false → self.new.fault_offset ≡ None }
         ensures counts { self.new.counts ≡ self.old.counts }
     {
-        self.failed = true;
+        self.decoder.fail();
     }
-
-    /// Moves the unparsed bytes to the start of the buffer once as many bytes come before them.
-    fn compact(&mut self)
-        ensures same { self.new ≡ self.old }
-    {
-        let unparsed = self.buffer.len() - self.consumed;
-        if self.consumed > 0 && self.consumed >= unparsed {
-            self.buffer.copy_within(self.consumed.., 0);
-            self.buffer.truncate(unparsed);
-            self.consumed = 0;
-        }
-    }
-}
-
-/// What a parser answers that has failed before.
-fn failed_before() -> RedisError
-    ensures error { result ≡ has_failed }
-{
-    RedisError::Parse(ParsingError::from("parser has failed"))
-}
-
-/// What a call answers where a value can't be read.
-fn refusal(why: ReadError) -> RedisError
-    ensures refusal { result ≡ refusal_of why }
-{
-    match why {
-        ReadError::Memory => RedisError::OutOfMemory,
-        ReadError::Fault(fault) => RedisError::Parse(ParsingError::Fault(fault)),
-    }
-}
-
-/// Why a value of more than `most` bytes can't be read, and how many bytes show its fault.
-fn too_long(most: usize) -> (ReadError, Option<usize>)
-    requires limit { IsSizeLimit most }
-    ensures refuses { PassesLimit most (refusal_of result.0) result.1 }
-{
-    if most == LONGEST {
-        return (ReadError::Memory, None);
-    }
-    (ReadError::Fault(FrameFault::TooLong), Some(most + 1))
 }

@@ -10,8 +10,8 @@ ghost use Rattle.resp_parse.specs.Shapes.{Announces, announced_in_line, body_val
 ghost use Rattle.resp_parse.specs.Shapes.{elements_value, line_value, count_of, token_kind, is_small};
 ghost use Rattle.resp_parse.specs.Computes.{Computes};
 
+use crate::decoder::Counter;
 use crate::number::{integer_of, length_of};
-use crate::parser::Counter;
 use crate::read_error::ReadError;
 use crate::type_byte::TypeByte;
 use crate::value_of::{

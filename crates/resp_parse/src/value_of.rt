@@ -10,8 +10,8 @@ ghost use Rattle.resp_parse.specs.Grammar.{push_kind, push, empty_push};
 ghost use Rattle.resp_parse.specs.Double.{double_in};
 ghost use Rattle.resp_parse.specs.Computes.{Computes};
 
+use crate::decoder::Counter;
 use crate::double::is_double_text;
-use crate::parser::Counter;
 use crate::read_error::ReadError;
 use resp_value::{
     Boxed, FrameFault, Items, PushKind, ServerError, Text, Value, get_push_kind, verbatim_format,

@@ -2,7 +2,7 @@
 
 use crate::checks::{Test, assert_answer, assert_equal, reply, text, token};
 use resp_core::{
-    FlatPairs, FlatReply, FlatValue, Items, Limits, Parser, PushKind, RedisResult, Token,
+    FlatPairs, FlatParser, FlatReply, FlatValue, Items, Limits, PushKind, RedisResult, Token,
     TokenKind, Value, VerbatimFormat,
 };
 use std::alloc::Global;
@@ -287,10 +287,10 @@ fn cursors_over_no_reply(rt: HostRuntime) {
 }
 
 fn take_a_flat_reply(alloc: Global) -> RedisResult<FlatReply> {
-    let mut parser = Parser::new(alloc);
+    let mut parser = FlatParser::new(alloc);
     let mut reply = FlatReply::new(alloc);
     parser.feed(b"*2\r\n:1\r\n$5\r\nhello\r\n")?;
-    let taken = parser.take_flat(&mut reply)?; // true: three tokens, and the text `hello`
+    let taken = parser.take_reply(&mut reply)?; // true: three tokens, and the text `hello`
     if taken {
         Ok(reply)
     } else {
@@ -311,8 +311,8 @@ fn parsers_give_flat_replies(rt: HostRuntime) {
 }
 
 /// The sum of the integers in the next reply, a list; None while it is incomplete.
-fn sum_of(parser: &mut Parser, reply: &mut FlatReply) -> RedisResult<Option<i64>> {
-    if !parser.take_flat(reply)? {
+fn sum_of(parser: &mut FlatParser, reply: &mut FlatReply) -> RedisResult<Option<i64>> {
+    if !parser.take_reply(reply)? {
         return Ok(None);
     }
     let mut sum: i64 = 0;
@@ -333,8 +333,8 @@ fn integers_of_a_flat_reply(rt: HostRuntime) {
 }
 
 /// A parser of these bytes.
-fn fed(rt: &impl Test, bytes: &[u8]) -> Parser {
-    let mut parser = Parser::new(rt.alloc());
+fn fed(rt: &impl Test, bytes: &[u8]) -> FlatParser {
+    let mut parser = FlatParser::new(rt.alloc());
     parser.feed(bytes).expect(rt, "memory");
     parser
 }
@@ -343,38 +343,36 @@ fn fed(rt: &impl Test, bytes: &[u8]) -> Parser {
 fn a_reply_that_is_not_taken_stays(rt: HostRuntime) {
     let mut flat = flat(&rt, &Value::Int(7));
     let mut parser = fed(&rt, b"*2\r\n+a\r\n+");
-    assert_answer(&rt, parser.take_flat(&mut flat), "false");
+    assert_answer(&rt, parser.take_reply(&mut flat), "false");
     assert_equal(&rt, flat.to_value(rt.alloc()), &Value::Int(7));
     parser.feed(b"b\r\n?").expect(&rt, "memory");
-    assert_answer(&rt, parser.take_flat(&mut flat), "true");
+    assert_answer(&rt, parser.take_reply(&mut flat), "true");
     let pair = reply(&rt, b"*2\r\n+a\r\n+b\r\n");
     assert_equal(&rt, flat.to_value(rt.alloc()), &pair);
-    assert_answer(&rt, parser.take_flat(&mut flat), "UnknownType");
+    assert_answer(&rt, parser.take_reply(&mut flat), "UnknownType");
     assert_answer(
         &rt,
-        parser.take_flat(&mut flat),
+        parser.take_reply(&mut flat),
         "Incompatible type - parser has failed",
     );
     assert_equal(&rt, flat.to_value(rt.alloc()), &pair);
 }
 
 #[test]
-fn either_call_takes_what_the_other_began(rt: HostRuntime) {
+fn what_was_begun_is_gone_on_with(rt: HostRuntime) {
     let whole = reply(&rt, b"%1\r\n$3\r\nkey\r\n*2\r\n:1\r\n_\r\n");
     let mut flat = FlatReply::new(rt.alloc());
     let mut parser = fed(&rt, b"%1\r\n$3\r\nk");
-    assert_answer(&rt, parser.take_value(), "None");
+    assert_answer(&rt, parser.take_reply(&mut flat), "false");
     parser
-        .feed(b"ey\r\n*2\r\n:1\r\n_\r\n")
+        .feed(b"ey\r\n*2\r\n:1\r\n_\r\n%1\r\n$3\r\nkey\r\n*2\r")
         .expect(&rt, "memory");
-    assert_answer(&rt, parser.take_flat(&mut flat), "true");
+    assert_answer(&rt, parser.take_reply(&mut flat), "true");
     assert_equal(&rt, flat.to_value(rt.alloc()), &whole);
-    parser
-        .feed(b"%1\r\n$3\r\nkey\r\n*2\r")
-        .expect(&rt, "memory");
-    assert_answer(&rt, parser.take_flat(&mut flat), "false");
+    assert_answer(&rt, parser.take_reply(&mut flat), "false");
     parser.feed(b"\n:1\r\n_\r\n").expect(&rt, "memory");
-    assert_equal(&rt, parser.take_value(), &Some(whole));
+    assert_answer(&rt, parser.take_reply(&mut flat), "true");
+    assert_equal(&rt, flat.to_value(rt.alloc()), &whole);
 }
 
 #[test]
@@ -383,12 +381,12 @@ fn a_thousand_levels_are_taken(rt: HostRuntime) {
         depth: 1000,
         ..Limits::default()
     };
-    let mut parser = Parser::with_limits(rt.alloc(), limits).expect(&rt, "limits");
+    let mut parser = FlatParser::with_limits(rt.alloc(), limits).expect(&rt, "limits");
     for _ in 0..999 {
         parser.feed(b"*1\r\n").expect(&rt, "memory");
     }
     parser.feed(b"_\r\n").expect(&rt, "memory");
     let mut flat = FlatReply::new(rt.alloc());
-    assert_answer(&rt, parser.take_flat(&mut flat), "true");
+    assert_answer(&rt, parser.take_reply(&mut flat), "true");
     assert_equal(&rt, flat.to_value(rt.alloc()), &nest(&rt, 999));
 }

@@ -9,11 +9,11 @@ use crate::made::get;
 use crate::subjects::Subject;
 use resp_core::{
     ArgList, ArgWriter, Boxed, ByteLink, Bytes, Cmd, CommandSink, ConnectionLike, Fields,
-    FlatReply, FlatValue, FromRedisValue, History, InfoDict, IntegerReplyOrNoOp, Items, Limits,
-    NumericBehavior, Parser, Pipeline, ProtocolVersion, PushKind, Reading, RedisWrite, ReplySource,
-    Text, ToRedisArgs, TokenKind, Value, ValueType, VerbatimFormat, Writing, from_redis_value,
-    from_redis_value_ref, get_push_kind, is_double_text, is_valid_16_bytes_hex_digest,
-    parse_redis_value, pipe, verbatim_format,
+    FlatParser, FlatReply, FlatValue, FromRedisValue, History, InfoDict, IntegerReplyOrNoOp, Items,
+    Limits, NumericBehavior, Parser, Pipeline, ProtocolVersion, PushKind, Reading, RedisWrite,
+    ReplySource, Text, ToRedisArgs, TokenKind, Value, ValueType, VerbatimFormat, Writing,
+    from_redis_value, from_redis_value_ref, get_push_kind, is_double_text,
+    is_valid_16_bytes_hex_digest, parse_redis_value, pipe, verbatim_format,
 };
 use std::alloc::Global;
 use std::collections::BTreeMap;
@@ -239,6 +239,10 @@ fn new_parsers(rt: HostRuntime) {
     assert!(rt; !Parser::new(rt.alloc()).in_progress());
     assert!(rt; is_ok(Parser::with_limits(rt.alloc(), LIMITS)));
     assert!(rt; is_ok(Parser::with_depth_limit(rt.alloc(), 3)));
+    let flat = FlatParser::new(rt.alloc());
+    assert!(rt; !flat.in_progress() && !flat.is_failed() && flat.fault_offset().is_none());
+    assert!(rt; flat.unparsed_len() == 0 && flat.limits() == Limits::default());
+    assert!(rt; is_ok(FlatParser::with_limits(rt.alloc(), LIMITS)));
     took_none(&rt);
 }
 

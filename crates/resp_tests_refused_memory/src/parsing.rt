@@ -1,7 +1,9 @@
 //! Parsers: after want of memory a parser has failed for good, but for a refused `feed`.
 
 use crate::heap::{Test, equal, made, ran_out, refuse};
-use resp_core::{FlatReply, Parser, Reading, RedisError, RedisResult, Value, parse_redis_value};
+use resp_core::{
+    FlatParser, FlatReply, Parser, Reading, RedisError, RedisResult, Value, parse_redis_value,
+};
 use std::process::Abort;
 
 /// Whole replies, of each type that takes memory.
@@ -40,12 +42,18 @@ fn says_failed<T: Drop>(rt: &impl Abort, answer: RedisResult<T>) {
 fn has_failed(rt: &impl Test, mut parser: Parser) {
     assert!(rt; parser.is_failed());
     says_failed(rt, parser.take_value());
-    says_failed(rt, parser.take_flat(&mut FlatReply::new(rt.alloc())));
     says_failed(rt, parser.feed(b":1\r\n"));
     says_failed(rt, parser.parse_value(b":1\r\n".as_slice()));
     let mut source = Reading::new(b":1\r\n".as_slice());
     says_failed(rt, parser.parse_from(&mut source));
     equal(rt, source.into_inner().len(), 4);
+}
+
+/// Each call of a parser of flat replies says that it has failed.
+fn flat_has_failed(rt: &impl Test, mut parser: FlatParser) {
+    assert!(rt; parser.is_failed());
+    says_failed(rt, parser.take_reply(&mut FlatReply::new(rt.alloc())));
+    says_failed(rt, parser.feed(b":1\r\n"));
 }
 
 /// A parser of these bytes.
@@ -80,13 +88,18 @@ fn takes(rt: &impl Test, bytes: &[u8], wanted: &Option<Value>) {
 
 /// What is fed gives the flat reply of this, or leaves the reply before as it was.
 fn takes_flat(rt: &impl Test, bytes: &[u8], wanted: &Option<Value>) {
-    let mut parser = fed(rt, bytes);
+    let mut parser = FlatParser::new(rt.alloc());
+    parser.feed(bytes).expect(rt, "no refusal");
     let mut reply = FlatReply::new(rt.alloc());
     reply.append(&Value::Okay).expect(rt, "no refusal");
     refuse(rt.alloc());
-    let answer = parser.take_flat(&mut reply);
+    let answer = parser.take_reply(&mut reply);
     let taken = matches!(answer, Ok(true));
-    answered(rt, parser, answer, &wanted.is_some());
+    if ran_out(rt, &answer) {
+        flat_has_failed(rt, parser);
+    } else {
+        equal(rt, answer.expect(rt, "no refusal"), wanted.is_some());
+    }
     let shown = reply.to_value(rt.alloc()).expect(rt, "no refusal");
     match wanted {
         Some(value) if taken => assert!(rt; shown == *value),

@@ -3,7 +3,9 @@
 use crate::encodings::values_written_again;
 use crate::rows::{Row, malformed, number_of};
 use crate::texts::{add_part, refusal_text};
-use resp_core::{ErrorKind, FlatReply, Limits, Parser, Reading, RedisError, RedisResult, Value};
+use resp_core::{
+    ErrorKind, FlatParser, FlatReply, Limits, Parser, Reading, RedisError, RedisResult, Value,
+};
 use std::alloc::Global;
 use std::io;
 use std::io::Read;
@@ -74,14 +76,12 @@ pub fn limits(alloc: Global, row: &Row) -> RedisResult<String> {
 /// What the bytes show, if they show it however they come in.
 fn shown_however(alloc: Global, limits: Limits, bytes: &[u8]) -> RedisResult<String> {
     let wanted = shown_in_pieces(alloc, limits, &[bytes])?;
-    let singly = shown_as(alloc, limits, Form::Tree, bytes)?;
+    let singly = shown_singly(alloc, Parser::with_limits(alloc, limits)?, bytes)?;
     let wanted = agreed(alloc, wanted, singly, "in single bytes")?;
     let from_source = shown_from_source(alloc, limits, bytes)?;
     let wanted = agreed(alloc, wanted, from_source, "from a source")?;
-    let flat = shown_as(alloc, limits, Form::Flat, bytes)?;
+    let flat = shown_singly(alloc, Flat::with_limits(alloc, limits)?, bytes)?;
     let wanted = agreed(alloc, wanted, flat, "as flat replies")?;
-    let by_turns = shown_as(alloc, limits, Form::ByTurns, bytes)?;
-    let wanted = agreed(alloc, wanted, by_turns, "in both forms by turns")?;
     if bytes.len() > CUT {
         return Ok(wanted);
     }
@@ -140,39 +140,107 @@ fn other_cut_before(
     Ok(None)
 }
 
-/// How values are asked for.
-#[derive(Clone, Copy)]
-enum Form {
-    Tree,
-    Flat,
-    /// Each call of the parser in the other form than the one before.
-    ByTurns,
+/// A parser, in whichever form it hands out values.
+trait Parses: Drop {
+    fn feed(&mut self, bytes: &[u8]) -> RedisResult<()>;
+
+    fn next(&mut self, alloc: Global) -> RedisResult<Option<Value>>;
+
+    fn is_failed(&self) -> bool;
+
+    fn in_progress(&self) -> bool;
+
+    fn fault_offset(&self) -> Option<usize>;
+}
+
+impl Parses for Parser {
+    fn feed(&mut self, bytes: &[u8]) -> RedisResult<()> {
+        Parser::feed(self, bytes)
+    }
+
+    fn next(&mut self, _alloc: Global) -> RedisResult<Option<Value>> {
+        self.take_value()
+    }
+
+    fn is_failed(&self) -> bool {
+        Parser::is_failed(self)
+    }
+
+    fn in_progress(&self) -> bool {
+        Parser::in_progress(self)
+    }
+
+    fn fault_offset(&self) -> Option<usize> {
+        Parser::fault_offset(self)
+    }
+}
+
+/// A parser of flat replies, and the one that it gave last.
+#[derive(Drop)]
+struct Flat {
+    parser: FlatParser,
+    reply: FlatReply,
+}
+
+impl Flat {
+    fn with_limits(alloc: Global, limits: Limits) -> RedisResult<Flat> {
+        Ok(Flat {
+            parser: FlatParser::with_limits(alloc, limits)?,
+            reply: FlatReply::new(alloc),
+        })
+    }
+
+    /// The value that the flat reply is read back as, if the reply is that value's.
+    fn value_of_reply(&self, alloc: Global) -> RedisResult<Option<Value>> {
+        let value = self.reply.to_value(alloc)?;
+        let mut flat = FlatReply::new(alloc);
+        flat.append(&value)?;
+        let tokens = flat.tokens.as_slice() == self.reply.tokens.as_slice();
+        if tokens && flat.text.as_slice() == self.reply.text.as_slice() {
+            return Ok(Some(value));
+        }
+        Err(RedisError::from((ErrorKind::Client, "another flat reply")))
+    }
+}
+
+impl Parses for Flat {
+    fn feed(&mut self, bytes: &[u8]) -> RedisResult<()> {
+        self.parser.feed(bytes)
+    }
+
+    fn next(&mut self, alloc: Global) -> RedisResult<Option<Value>> {
+        if !self.parser.take_reply(&mut self.reply)? {
+            return Ok(None);
+        }
+        self.value_of_reply(alloc)
+    }
+
+    fn is_failed(&self) -> bool {
+        self.parser.is_failed()
+    }
+
+    fn in_progress(&self) -> bool {
+        self.parser.in_progress()
+    }
+
+    fn fault_offset(&self) -> Option<usize> {
+        self.parser.fault_offset()
+    }
 }
 
 /// What a parser takes from the bytes, and the text that it shows.
 #[derive(Drop)]
-struct Taken {
-    parser: Parser,
-    form: Form,
-    /// Whether the last call was in flat form.
-    was_flat: bool,
-    reply: FlatReply,
+struct Taken<P> {
+    parser: P,
     text: String,
 }
 
-impl Taken {
-    fn new(alloc: Global, limits: Limits) -> RedisResult<Taken> {
-        Taken::of_form(alloc, limits, Form::Tree)
-    }
-
-    fn of_form(alloc: Global, limits: Limits, form: Form) -> RedisResult<Taken> {
-        Ok(Taken {
-            parser: Parser::with_limits(alloc, limits)?,
-            form,
-            was_flat: false,
-            reply: FlatReply::new(alloc),
+impl<P: Parses> Taken<P> {
+    fn by(alloc: Global, parser: P) -> Taken<P> {
+        Taken {
+            parser,
             text: String::new(alloc),
-        })
+        }
     }
 
     /// Feeds a piece, if the parser hasn't failed, and adds the values that are whole then.
@@ -189,37 +257,9 @@ impl Taken {
         Ok(())
     }
 
-    /// The next value, if it is whole, by the call whose turn it is.
-    fn next(&mut self, alloc: Global) -> RedisResult<Option<Value>> {
-        self.was_flat = match self.form {
-            Form::Tree => false,
-            Form::Flat => true,
-            Form::ByTurns => !self.was_flat,
-        };
-        if !self.was_flat {
-            return self.parser.take_value();
-        }
-        if !self.parser.take_flat(&mut self.reply)? {
-            return Ok(None);
-        }
-        self.value_of_reply(alloc)
-    }
-
-    /// The value that the flat reply is read back as, if the reply is that value's.
-    fn value_of_reply(&self, alloc: Global) -> RedisResult<Option<Value>> {
-        let value = self.reply.to_value(alloc)?;
-        let mut flat = FlatReply::new(alloc);
-        flat.append(&value)?;
-        let tokens = flat.tokens.as_slice() == self.reply.tokens.as_slice();
-        if tokens && flat.text.as_slice() == self.reply.text.as_slice() {
-            return Ok(Some(value));
-        }
-        Err(RedisError::from((ErrorKind::Client, "another flat reply")))
-    }
-
     /// Adds the next value, if it is whole, or the fault. Whether there was a value.
     fn take(&mut self, alloc: Global) -> RedisResult<bool> {
-        match self.next(alloc) {
+        match self.parser.next(alloc) {
             Ok(Some(value)) => {
                 add_part(&mut self.text, format!(in alloc; "{value:?}")?.as_str())?;
                 Ok(true)
@@ -252,26 +292,26 @@ impl Taken {
 
 /// What the pieces show.
 fn shown_in_pieces(alloc: Global, limits: Limits, pieces: &[&[u8]]) -> RedisResult<String> {
-    let mut taken = Taken::new(alloc, limits)?;
+    let mut taken = Taken::by(alloc, Parser::with_limits(alloc, limits)?);
     taken.feed_each(alloc, pieces)?;
     taken.end()
 }
 
-/// What the bytes show, one at a time, where values are asked for in this form.
-fn shown_as(alloc: Global, limits: Limits, form: Form, bytes: &[u8]) -> RedisResult<String> {
-    let mut taken = Taken::of_form(alloc, limits, form)?;
+/// What the bytes show this parser, one at a time.
+fn shown_singly<P: Parses>(alloc: Global, parser: P, bytes: &[u8]) -> RedisResult<String> {
+    let mut taken = Taken::by(alloc, parser);
     taken.feed_singly(alloc, bytes)?;
     taken.end()
 }
 
 /// What the bytes show, from a source that gives three at a time.
 fn shown_from_source(alloc: Global, limits: Limits, bytes: &[u8]) -> RedisResult<String> {
-    let mut taken = Taken::new(alloc, limits)?;
+    let mut taken = Taken::by(alloc, Parser::with_limits(alloc, limits)?);
     taken.read_in_threes(alloc, bytes)?;
     Ok(taken.text)
 }
 
-impl Taken {
+impl<P: Parses> Taken<P> {
     /// Feeds the pieces, one after another.
     fn feed_each(&mut self, alloc: Global, pieces: &[&[u8]]) -> RedisResult<()> {
         for piece in pieces {
@@ -287,7 +327,9 @@ impl Taken {
         }
         Ok(())
     }
+}
 
+impl Taken<Parser> {
     /// Reads the bytes from a source that gives three at a time.
     fn read_in_threes(&mut self, alloc: Global, bytes: &[u8]) -> RedisResult<()> {
         let mut source = Reading::new(InThrees { rest: bytes });

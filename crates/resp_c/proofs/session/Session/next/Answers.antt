@@ -11,14 +11,14 @@ pub returns-in-Ok-false-clause-empty : goal.returns-in-Ok-false-clause-empty
 returns-in-Ok-false-clause-empty c = λ none.
     let s = c.args.self.now in
     let stands = stands_now s.parser (works_unless s c.if-is_failed.ensures.failed) in
-    let awaits : TakesFlat s.parser.since c.take_flat.new.self c.clear.new.self c.take_flat.new.reply (Ok false) = rw c.in-Ok-false.field-0-test at (c.in-Ok-false.ensures.takes s.parser.since stands) in
+    let awaits : TakesFlat s.parser.since c.take_reply.new.self c.clear.new.self c.take_reply.new.reply (Ok false) = rw c.in-Ok-false.field-0-test at (c.in-Ok-false.ensures.takes s.parser.since stands) in
     subst (λ (r : FlatReply). Holds r [] []) (sym awaits.1) (record { tokens_are = c.clear.ensures.tokens; text_is = c.clear.ensures.text })
 
 pub returns-in-Err : goal.returns-in-Err
 returns-in-Err c =
     let s = c.args.self.now in
     let w = works_unless s c.if-is_failed.ensures.failed in
-    let m : Session = record { parser = c.take_flat.new.self; reply = c.take_flat.new.reply; fault = s.fault; place = s.place } in
+    let m : Session = record { parser = c.take_reply.new.self; reply = c.take_reply.new.reply; fault = s.fault; place = s.place } in
     let same = (c.in-Err.ensures.takes s.parser.since (stands_now s.parser w)).1 in
     let noted = c.note.ensures.noted in
     let keeps = with_fault-keeps c.in-Err.error c.unwrap_or-place.result m in

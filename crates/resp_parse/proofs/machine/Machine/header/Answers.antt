@@ -6,37 +6,37 @@ use Rattle.resp_parse.proofs.AmortisedCost.{header-looks, header-cost}
 use Rattle.resp_parse.proofs.machine.Machine.header.Goals as goal
 
 pub returns-in_default-first_line-clause-steps : goal.returns-in_default-first_line-clause-steps
-returns-in_default-first_line-clause-steps c =
+returns-in_default-first_line-clause-steps g c =
     let l : length c.args.self.now.open_aggregates < c.args.self.now.depth = omega arith in
     rw c.in-Some.ensures.cases.0
     (line-waits c.args.self.now c.in-Some.first.now c.in-Some.after.now c.requires.no_body l c.in-Some-from_byte.kind (sym c.in-Some-from_byte.ensures.kind) c.in_default-first_line.ensures.line _ refl)
 
 pub returns-in-Err-clause-steps : goal.returns-in-Err-clause-steps
-returns-in-Err-clause-steps c =
+returns-in-Err-clause-steps g c =
     let l : length c.args.self.now.open_aggregates < c.args.self.now.depth = omega arith in
     rw (c.record_fault-in-Err.ensures.why, c.in-Some.ensures.cases.0)
     (header-stops c.args.self.now c.in-Some.first.now c.in-Some.after.now c.requires.no_body l c.in-Some-from_byte.kind (sym c.in-Some-from_byte.ensures.kind) c.in-Some-first_line.line.len c.in-Some-first_line.ensures.line
-    c.begin.new.self c.record_fault-in-Err.new.self c.in-Err.why (ap (λ (m : Machine). m.shown) c.record_fault-in-Err.ensures.shown) c.in-Err.ensures.goes)
+    c.begin.new.self c.record_fault-in-Err.new.self c.in-Err.why (ap (λ (m : Machine _). m.shown) c.record_fault-in-Err.ensures.shown) c.in-Err.ensures.goes)
 
 pub returns-in-Ok-Some-clause-steps : goal.returns-in-Ok-Some-clause-steps
-returns-in-Ok-Some-clause-steps c =
+returns-in-Ok-Some-clause-steps g c =
     let l : length c.args.self.now.open_aggregates < c.args.self.now.depth = omega arith in
     rw c.in-Some.ensures.cases.0
     (header-whole c.args.self.now c.in-Some.first.now c.in-Some.after.now c.requires.no_body l c.in-Some-from_byte.kind (sym c.in-Some-from_byte.ensures.kind) c.in-Some-first_line.line.len c.in-Some-first_line.ensures.line
     c.begin.new.self c.in-Ok-Some.whole c.in-Ok-Some.ensures.scanned (rw c.in-Ok-Some.field-0-is at c.in-Ok-Some.ensures.goes))
 
 pub returns-in-Ok-None-clause-steps : goal.returns-in-Ok-None-clause-steps
-returns-in-Ok-None-clause-steps c =
+returns-in-Ok-None-clause-steps g c =
     let l : length c.args.self.now.open_aggregates < c.args.self.now.depth = omega arith in
     rw c.in-Some.ensures.cases.0
     (header-goes c.args.self.now c.in-Some.first.now c.in-Some.after.now c.requires.no_body l c.in-Some-from_byte.kind (sym c.in-Some-from_byte.ensures.kind) c.in-Some-first_line.line.len c.in-Some-first_line.ensures.line
     c.begin.new.self c.in-Ok-None.ensures.scanned (rw c.in-Ok-None.field-0-is at c.in-Ok-None.ensures.goes))
 
 pub overflow_sub-len : goal.overflow_sub-len
-overflow_sub-len c = omega (arith, c.in-Some-first_line.ensures.looks.2, c.saturating_sub.ensures)
+overflow_sub-len g c = omega (arith, c.in-Some-first_line.ensures.looks.2, c.saturating_sub.ensures)
 
 pub returns-in-Ok-Some-clause-cost : goal.returns-in-Ok-Some-clause-cost
-returns-in-Ok-Some-clause-cost c =
+returns-in-Ok-Some-clause-cost g c =
     let p = rw c.in-Ok-Some.field-0-is at c.in-Ok-Some.ensures.begins in
     let q = header-cost c.args.self.now c.begin.new.self c.args.counts.now c.first_line.new.counts c.examine-2.new.self c.begin.new.counts c.in-Some-first_line.line.len c.saturating_sub.result c.in-Some.after.now c.saturating_sub.ensures c.in-Some-first_line.ensures.looks c.examine-2.ensures c.in-Ok-Some.ensures.iterations 2 (omega (arith, p)) c.in-Ok-Some.ensures.scanned in (
       header-looks c.args.self.now c.begin.new.self c.args.counts.now c.first_line.new.counts c.examine-2.new.self c.begin.new.counts c.in-Some-first_line.line.len c.saturating_sub.result c.in-Some.after.now c.saturating_sub.ensures c.in-Some-first_line.ensures.looks c.examine-2.ensures c.in-Ok-Some.ensures.iterations c.in-Ok-Some.ensures.scanned,
@@ -44,7 +44,7 @@ returns-in-Ok-Some-clause-cost c =
     )
 
 pub returns-in-Ok-None-clause-cost : goal.returns-in-Ok-None-clause-cost
-returns-in-Ok-None-clause-cost c =
+returns-in-Ok-None-clause-cost g c =
     let p = rw c.in-Ok-None.field-0-is at c.in-Ok-None.ensures.begins in
     let q = header-cost c.args.self.now c.begin.new.self c.args.counts.now c.first_line.new.counts c.examine-2.new.self c.begin.new.counts c.in-Some-first_line.line.len c.saturating_sub.result c.in-Some.after.now c.saturating_sub.ensures c.in-Some-first_line.ensures.looks c.examine-2.ensures c.in-Ok-None.ensures.iterations 0 (omega (arith, p)) c.in-Ok-None.ensures.scanned in (
       header-looks c.args.self.now c.begin.new.self c.args.counts.now c.first_line.new.counts c.examine-2.new.self c.begin.new.counts c.in-Some-first_line.line.len c.saturating_sub.result c.in-Some.after.now c.saturating_sub.ensures c.in-Some-first_line.ensures.looks c.examine-2.ensures c.in-Ok-None.ensures.iterations c.in-Ok-None.ensures.scanned,
@@ -52,12 +52,12 @@ returns-in-Ok-None-clause-cost c =
     )
 
 pub returns-in_default-clause-steps : goal.returns-in_default-clause-steps
-returns-in_default-clause-steps c =
+returns-in_default-clause-steps g c =
     let none : c.args.bytes.now ≡ [] = grind (arith, common_steps, c.in_default.ensures.cases) in
     empty-waits c.args.self.now c.args.bytes.now none c.requires.scanned
 
 pub returns-in_default-from_byte-clause-steps : goal.returns-in_default-from_byte-clause-steps
-returns-in_default-from_byte-clause-steps c =
+returns-in_default-from_byte-clause-steps g c =
     let l : length c.args.self.now.open_aggregates < c.args.self.now.depth = omega arith in
     rw (c.record_fault-in_default-from_byte.ensures.why, c.in-Some.ensures.cases.0)
-    (unknown_type c.args.self.now c.in-Some.first.now c.in-Some.after.now c.requires.no_body l c.record_fault-in_default-from_byte.new.self (ap (λ (m : Machine). m.shown) c.record_fault-in_default-from_byte.ensures.shown) (sym c.in_default-from_byte.ensures.kind))
+    (unknown_type c.args.self.now c.in-Some.first.now c.in-Some.after.now c.requires.no_body l c.record_fault-in_default-from_byte.new.self (ap (λ (m : Machine _). m.shown) c.record_fault-in_default-from_byte.ensures.shown) (sym c.in_default-from_byte.ensures.kind))

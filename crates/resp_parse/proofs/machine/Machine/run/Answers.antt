@@ -8,44 +8,44 @@ use Rattle.resp_parse.proofs.AmortisedCost.{CostSoFar-start, CostSoFar-end, Cost
 use Rattle.resp_parse.proofs.machine.Machine.run.Goals as goal
 
 pub loop-at-init : goal.loop-at-init
-loop-at-init c = record {
+loop-at-init g c = record {
   ran = Ran-start c.args.self.now c.args.bytes.now c.requires.depth c.requires.scanned;
   builds = c.requires.builds;
   cost_so_far = CostSoFar-start c.args.self.now c.args.counts.now;
 }
 
 pub returns-clause-runs : goal.returns-clause-runs
-returns-clause-runs c = Ran-end c.args.self.now c.loop-at.self c.args.bytes.now c.loop-at.at c.loop-at.invariant.ran (omega arith)
+returns-clause-runs g c = Ran-end c.args.self.now c.loop-at.self c.args.bytes.now c.loop-at.at c.loop-at.invariant.ran (omega arith)
 
 pub returns-clause-cost : goal.returns-clause-cost
-returns-clause-cost c = CostSoFar-end c.args.self.now c.loop-at.self c.args.counts.now c.loop-at.counts c.loop-at.at c.loop-at.invariant.cost_so_far c.args.bytes.now
+returns-clause-cost g c = CostSoFar-end c.args.self.now c.loop-at.self c.args.counts.now c.loop-at.counts c.loop-at.at c.loop-at.invariant.cost_so_far c.args.bytes.now
 
 pub returns-clause-built_within : goal.returns-clause-built_within
-returns-clause-built_within c = c.loop-at.invariant.cost_so_far.built_within
+returns-clause-built_within g c = c.loop-at.invariant.cost_so_far.built_within
 
 pub returns-in-Ok-Waits-clause-built_within : goal.returns-in-Ok-Waits-clause-built_within
-returns-in-Ok-Waits-clause-built_within c =
-    let w : StepBuiltWithin c.loop-at.self c.step.new.self (Ok (step.Waits c.in-Ok-Waits.taken)) = rw c.in-Ok-Waits.field-0-is at c.in-Ok-Waits.ensures.built_within in
+returns-in-Ok-Waits-clause-built_within g c =
+    let w : StepBuiltWithin {M = Unit {0}} c.loop-at.self c.step.new.self (Ok (step.Waits c.in-Ok-Waits.taken)) = rw c.in-Ok-Waits.field-0-is at c.in-Ok-Waits.ensures.built_within in
     omega (arith, w, c.loop-at.invariant.cost_so_far.built_within)
 
 pub returns-in-Ok-Waits-clause-cost : goal.returns-in-Ok-Waits-clause-cost
-returns-in-Ok-Waits-clause-cost c =
+returns-in-Ok-Waits-clause-cost g c =
     CostSoFar-waits c.args.self.now c.loop-at.self c.args.counts.now c.loop-at.counts c.loop-at.at c.loop-at.invariant.cost_so_far c.step.new.self c.step.new.counts c.args.bytes.now c.args.bytes.now c.in-Ok-Waits.taken (rw c.in-Ok-Waits.field-0-is at c.in-Ok-Waits.ensures.cost)
 
 pub returns-in-Ok-Some-clause-built_within : goal.returns-in-Ok-Some-clause-built_within
-returns-in-Ok-Some-clause-built_within c =
+returns-in-Ok-Some-clause-built_within g c =
     CostSoFar-built_within c.args.self.now c.loop-at.self c.args.counts.now c.loop-at.counts c.loop-at.at c.loop-at.invariant.cost_so_far c.step.new.self c.attach.new.self c.step.new.counts c.attach.new.counts c.args.bytes.now c.in-Ok-Whole.taken c.in-Ok-Whole.whole
     (rw c.in-Ok-Whole.field-0-is at c.in-Ok-Whole.ensures.cost) (rw c.in-Ok-Whole.field-0-is at c.in-Ok-Whole.ensures.built_within) c.in-Ok-Some.ensures.iterations c.in-Ok-Some.whole (rw c.in-Ok-Some.field-0-is at c.in-Ok-Some.ensures.built_within)
 
 pub returns-in-Ok-Some-clause-cost : goal.returns-in-Ok-Some-clause-cost
-returns-in-Ok-Some-clause-cost c =
+returns-in-Ok-Some-clause-cost g c =
     CostSoFar-reads c.args.self.now c.loop-at.self c.args.counts.now c.loop-at.counts c.loop-at.at c.loop-at.invariant.cost_so_far c.step.new.self c.attach.new.self c.step.new.counts c.attach.new.counts c.args.bytes.now c.in-Ok-Whole.taken c.in-Ok-Whole.whole
     (rw c.in-Ok-Whole.field-0-is at c.in-Ok-Whole.ensures.cost) (rw c.in-Ok-Whole.field-0-is at c.in-Ok-Whole.ensures.built_within) c.in-Ok-Some.ensures.iterations c.in-Ok-Some.whole c.args.bytes.now c.in-Ok-Some.ensures.places c.in-Ok-Some.ensures.scanned
 
 pub loop-at-preserved-in-Ok-Goes : goal.loop-at-preserved-in-Ok-Goes
-loop-at-preserved-in-Ok-Goes c =
+loop-at-preserved-in-Ok-Goes g c =
     let f : take (length c.args.bytes.now - c.loop-at.at) (drop c.loop-at.at c.args.bytes.now) ≡ drop c.loop-at.at c.args.bytes.now = grind (arith, common_steps) in
-    let s : Steps c.loop-at.self (drop c.loop-at.at c.args.bytes.now) c.step.new.self (Ok (step.Goes c.in-Ok-Goes.taken)) = rw f at (rw c.in-Ok-Goes.field-0-is at c.in-Ok-Goes.ensures.steps) in
+    let s : Steps {M = Unit {0}} c.loop-at.self (drop c.loop-at.at c.args.bytes.now) c.step.new.self (Ok (step.Goes c.in-Ok-Goes.taken)) = rw f at (rw c.in-Ok-Goes.field-0-is at c.in-Ok-Goes.ensures.steps) in
     record {
       ran = Ran-goes c.args.self.now c.loop-at.self c.args.bytes.now c.loop-at.at c.loop-at.invariant.ran c.step.new.self c.in-Ok-Goes.taken s c.in-Ok-Goes.ensures.limit c.in-Ok-Goes.ensures.depth;
       builds = rw c.in-Ok-Goes.field-0-is at c.in-Ok-Goes.ensures.builds;
@@ -53,19 +53,19 @@ loop-at-preserved-in-Ok-Goes c =
     }
 
 pub returns-in-Ok-Waits-clause-runs : goal.returns-in-Ok-Waits-clause-runs
-returns-in-Ok-Waits-clause-runs c =
+returns-in-Ok-Waits-clause-runs g c =
     let f : take (length c.args.bytes.now - c.loop-at.at) (drop c.loop-at.at c.args.bytes.now) ≡ drop c.loop-at.at c.args.bytes.now = grind (arith, common_steps) in
-    let s : Steps c.loop-at.self (drop c.loop-at.at c.args.bytes.now) c.step.new.self (Ok (step.Waits c.in-Ok-Waits.taken)) = rw f at (rw c.in-Ok-Waits.field-0-is at c.in-Ok-Waits.ensures.steps) in
+    let s : Steps {M = Unit {0}} c.loop-at.self (drop c.loop-at.at c.args.bytes.now) c.step.new.self (Ok (step.Waits c.in-Ok-Waits.taken)) = rw f at (rw c.in-Ok-Waits.field-0-is at c.in-Ok-Waits.ensures.steps) in
     Ran-waits c.args.self.now c.loop-at.self c.args.bytes.now c.loop-at.at c.loop-at.invariant.ran c.step.new.self c.in-Ok-Waits.taken s
 
 pub returns-in-Ok-Some-clause-runs : goal.returns-in-Ok-Some-clause-runs
-returns-in-Ok-Some-clause-runs c =
+returns-in-Ok-Some-clause-runs g c =
     let f : take (length c.args.bytes.now - c.loop-at.at) (drop c.loop-at.at c.args.bytes.now) ≡ drop c.loop-at.at c.args.bytes.now = grind (arith, common_steps) in
     let s : Steps c.loop-at.self (drop c.loop-at.at c.args.bytes.now) c.step.new.self (Ok (step.Whole c.in-Ok-Whole.taken c.in-Ok-Whole.whole)) = rw f at (rw c.in-Ok-Whole.field-0-is at c.in-Ok-Whole.ensures.steps) in
     Ran-reads c.args.self.now c.loop-at.self c.args.bytes.now c.loop-at.at c.loop-at.invariant.ran c.step.new.self c.attach.new.self c.in-Ok-Whole.taken c.in-Ok-Whole.whole s c.in-Ok-Some.whole (rw c.in-Ok-Some.field-0-is at c.in-Ok-Some.ensures.ends) c.in-Ok-Some.ensures.scanned
 
 pub loop-at-preserved : goal.loop-at-preserved
-loop-at-preserved c =
+loop-at-preserved g c =
     let f : take (length c.args.bytes.now - c.loop-at.at) (drop c.loop-at.at c.args.bytes.now) ≡ drop c.loop-at.at c.args.bytes.now = grind (arith, common_steps) in
     let s : Steps c.loop-at.self (drop c.loop-at.at c.args.bytes.now) c.step.new.self (Ok (step.Whole c.in-Ok-Whole.taken c.in-Ok-Whole.whole)) = rw f at (rw c.in-Ok-Whole.field-0-is at c.in-Ok-Whole.ensures.steps) in
     let attached = c.in-Ok-None.ensures in

@@ -1,7 +1,6 @@
-use Rattle.std.proofs.Common.{◌≡◌, ◌++◌, ap, sym, ◌∙◌, refl, arith, Ok, Some, None}
+use Rattle.std.proofs.Common.{rules, ◌≡◌, ◌++◌, ap, ◌∙◌, refl, arith, Ok, Some, None}
 use Rattle.resp_parse.proofs.Counting.{received-same, calls-most}
 use Rattle.std.proofs.lemmas.Result.{err_from_is_err_and}
-use Rattle.resp_parse.specs.State.{State}
 use Rattle.resp_parse.specs.Counts.{Counts}
 use Rattle.resp_parse.specs.Calls.{Takes}
 use Rattle.resp_parse.proofs.ParserStates.{StandsAfter-not_failed, StandsAfter-from_since, StandsAfter-works}
@@ -13,7 +12,6 @@ pub loop-init : goal.loop-init
 loop-init g c = record {
   limits = refl;
   calls = omega arith;
-  offset = λ w. sym (ap (λ (s : State). s.fault_offset) c.self.view_is) ∙ c.self.invariant.placed.works (ap (λ (s : State). s.failed) c.self.view_is ∙ w);
   filled = λ b h. FilledAsNeeded-none b c.args.self.now (g.S.ReplySource.source c.args.source.now) h;
 }
 
@@ -23,10 +21,6 @@ loop-preserved g c =
     record {
       limits = c.ask.ensures.limits ∙ c.take_value.ensures.limits ∙ c.loop.invariant.limits;
       calls = omega (arith, c.loop.invariant.calls, c.in_ok-ask.ensures.asked.0, c.in_ok-ask.ensures.asked.1, received-same c.loop.self c.take_value.new.self (λ e. (c.take_value.ensures.failed e).1) c.take_value.ensures.counts, calls-most c.loop.self c.take_value.new.self (λ e. (c.take_value.ensures.failed e).1) c.take_value.ensures.counts);
-      offset = λ w.
-          let k = c.loop.invariant.filled c.args.self.now.since (StandsAfter-from_since c.args.self.now c.args.self.now.since w refl) in
-          let h : c.take_value.new.self.fault_offset ≡ None = c.in_ok-value.ensures.offset (StandsAfter-works c.loop.self _ k.more.stands) in
-          c.ask.ensures.offset ∙ h;
       filled = λ b h.
           let k = c.loop.invariant.filled b h in
           let w : Takes (b ++ k.more.filled) c.take_value.new.self (Ok None) = rw c.in_default.is at (c.in_ok-value.ensures.takes (b ++ k.more.filled) k.more.stands) in
@@ -34,8 +28,8 @@ loop-preserved g c =
           (c.in_ok-ask.ensures.asks (b ++ k.more.filled) w.1);
     }
 
-pub returns-then-self-clause-parses : goal.returns-then-self-clause-parses
-returns-then-self-clause-parses g c = λ b h. absurd (StandsAfter-not_failed c.args.self.now b h (sym (ap (λ (s : State). s.failed) c.self.view_is) ∙ c.if-self.true))
+pub returns-then-is_failed-clause-parses : goal.returns-then-is_failed-clause-parses
+returns-then-is_failed-clause-parses g c = λ b h. absurd (StandsAfter-not_failed c.args.self.now b h (search rules))
 
 pub returns-in_err-value-clause-parses : goal.returns-in_err-value-clause-parses
 returns-in_err-value-clause-parses g c = λ b h.
@@ -103,4 +97,6 @@ returns-in_err-ask-clause-offset g c = λ u.
     rw (p.1, p.2) (HasOffset-unfilled (b ++ k.more.filled) c.in_err-ask.field-0.0 c.ask.new.self (source c.loop.source) (source c.ask.new.source) c.ask.new.self.fault_offset (c.in_err-ask.ensures.asks (b ++ k.more.filled) w.1) (c.ask.ensures.offset ∙ h))
 
 pub returns-clause-offset : goal.returns-clause-offset
-returns-clause-offset g c = λ w. c.fail.ensures.offset ∙ c.loop.invariant.offset w
+returns-clause-offset g c = λ w.
+    let k = c.loop.invariant.filled c.args.self.now.since (StandsAfter-from_since c.args.self.now c.args.self.now.since w refl) in
+    c.fail.ensures.offset (StandsAfter-works c.loop.self _ k.more.stands)

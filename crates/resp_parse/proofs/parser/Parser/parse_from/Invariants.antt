@@ -1,4 +1,4 @@
-use Rattle.std.proofs.Common.{◌≡◌, ◌≤◌, ◌+◌, false, List, ℕ, None}
+use Rattle.std.proofs.Common.{◌≡◌, ◌≤◌, ◌+◌, List, ℕ}
 use Rattle.resp_parse.specs.State.{StandsAfter}
 use Rattle.resp_parse.proofs.Parsing.{FilledAsNeeded}
 use Rattle.resp_parse.proofs.parser.Parser.parse_from.Given as goal
@@ -10,6 +10,5 @@ invariant-loop g l =
     record {
       limits : l.self.limits ≡ l.fn.self.limits;
       calls : l.self.counts.calls + l.fn.self.counts.received ≤ l.fn.self.counts.calls + l.self.counts.received;
-      offset : l.fn.self.failed ≡ false → l.self.fault_offset ≡ None;
       filled : (b : List ℕ) → StandsAfter l.fn.self b → FilledAsNeeded b l.fn.self l.self (source l.fn.source) (source l.source);
     }

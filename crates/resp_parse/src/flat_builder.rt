@@ -1,0 +1,246 @@
+//! A value that is built as a flat reply.
+
+ghost use Rattle.std.specs.Prelude.{◌≡◌, ◌++◌, ℕ, suc, take, drop, List, IfOk};
+ghost use Rattle.std.specs.Str.{is_utf8};
+ghost use Rattle.resp_value.specs.declared.value.Value.{BulkString};
+ghost use Rattle.resp_parse.specs.declared.open_aggregates.OpenAggregate.{OpenAggregate};
+ghost use Rattle.resp_parse.specs.Building.{filling, whole};
+ghost use Rattle.resp_parse.specs.Computes.{ComputesSeen};
+ghost use Rattle.resp_parse.specs.FlatBuilders.{BuildsFlat, names_kind, with_name};
+ghost use Rattle.resp_parse.specs.Shapes.{body_value};
+
+use crate::body::Body;
+use crate::builder::Builder;
+use crate::decoder::Counter;
+use crate::open_aggregates::OpenAggregate;
+use crate::read_error::ReadError;
+use crate::seen::SeenValue;
+use crate::shape::{BodyKind, ElementsKind};
+use crate::whole::Whole;
+use resp_flat::{FlatReply, Token, TokenKind};
+use resp_value::{Bytes, FrameFault, Value};
+use std::alloc::{AllocError, Global};
+use std::mem;
+
+/// Builds a flat reply.
+#[derive(Drop)]
+pub(crate) struct FlatBuilder {
+    reply: FlatReply,
+    /// At which places the tokens of the open aggregates stand, the outermost first.
+    opens: Vec<usize>,
+    /// Where the bytes of the body that is open begin in the text.
+    start: usize,
+}
+
+impl FlatBuilder {
+    /// The bytes of the body are a bulk string.
+    fn bulk(&mut self, body: &Body) -> Result<Whole<()>, AllocError>
+        ensures seen { IfOk result (λ w. w.seen ≡ BulkString body.now.seen) }
+        ensures stands { (fs : List OpenAggregate) →
+            BuildsFlat self.old.reply self.old.opens.items self.old.start fs
+            (filling body.now.seen) →
+            IfOk result (λ w.
+            BuildsFlat self.new.reply self.new.opens.items self.new.start fs (whole w)) }
+    {
+        self.reply.tokens.push(Token {
+            kind: TokenKind::BulkString,
+            size: self.reply.text.len().saturating_sub(self.start),
+            number: 0,
+            start: self.start,
+        })?;
+        Ok(whole(SeenValue::bulk(&body.seen)))
+    }
+
+    /// The bytes of the body are an error or a verbatim string.
+    #[inline(never)]
+    fn text_body(&mut self, alloc: Global, kind: BodyKind) -> Result<Whole<()>, ReadError>
+        ensures value { (fs : List OpenAggregate) (x : List ℕ) →
+            BuildsFlat self.old.reply self.old.opens.items self.old.start fs (filling x) →
+            ComputesSeen result (body_value kind x) }
+        ensures stands { (fs : List OpenAggregate) (x : List ℕ) →
+            BuildsFlat self.old.reply self.old.opens.items self.old.start fs (filling x) →
+            IfOk result (λ w.
+            BuildsFlat self.new.reply self.new.opens.items self.new.start fs (whole w)) }
+    {
+        let start = self.start.min(self.reply.text.len());
+        let bytes = Bytes::from_slice(alloc, &self.reply.text[start..])?;
+        let value = kind.value(alloc, bytes)?;
+        self.reply.text.truncate(start);
+        Ok(self.leaf(value)?)
+    }
+
+    /// Whether the first element of the push at `token` names its kind; its token is then that of a
+    /// bulk string.
+    fn name_push(&mut self, token: usize) -> bool
+        ensures text { self.new.reply.text.items ≡ self.old.reply.text.items }
+        ensures named { result ≡
+            names_kind (drop (suc token) self.old.reply.tokens.items) self.old.reply.text.items }
+        ensures tokens { self.new.reply.tokens.items ≡ take (suc token) self.old.reply.tokens.items
+            ++ with_name (drop (suc token) self.old.reply.tokens.items) }
+        ensures opens { self.new.opens ≡ self.old.opens }
+    {
+        if token >= self.reply.tokens.len() {
+            return false;
+        }
+        name_kind(&mut self.reply.tokens[token + 1..], &self.reply.text)
+    }
+}
+
+/// The value that is seen, which the reply holds itself.
+fn whole(seen: SeenValue) -> Whole<()>
+    ensures seen { result.seen ≡ seen }
+{
+    Whole { made: (), seen }
+}
+
+impl Builder for FlatBuilder {
+    ghost use Rattle.std.specs.Prelude.{length};
+    ghost use Rattle.resp_flat.specs.FlatReplies.{IsFlatOf};
+    ghost use Rattle.resp_parse.specs.FlatBuilders.{flat-paid_for};
+
+    type Made = ();
+
+    type Reply = FlatReply;
+
+    ghost stands = { λ b fs p. BuildsFlat b.reply b.opens.items b.start fs p };
+
+    ghost shows = { IsFlatOf };
+
+    ghost values = { λ _. 0 };
+
+    ghost tokens = { λ b. length b.reply.tokens.items };
+
+    fn new(alloc: Global) -> FlatBuilder {
+        FlatBuilder {
+            reply: FlatReply::new(alloc),
+            opens: Vec::new(alloc),
+            start: 0,
+        }
+    }
+
+    fn leaf(&mut self, value: Value) -> Result<Whole<()>, AllocError> {
+        let seen = SeenValue::of(&value);
+        self.reply.append(&value)?;
+        Ok(whole(seen))
+    }
+
+    fn int(&mut self, n: i64) -> Result<Whole<()>, AllocError> {
+        self.reply.tokens.push(Token {
+            kind: TokenKind::Int,
+            size: 0,
+            number: n,
+            start: self.reply.text.len(),
+        })?;
+        Ok(whole(SeenValue::of(&Value::Int(n))))
+    }
+
+    fn simple(&mut self, _alloc: Global, text: &str) -> Result<Whole<()>, AllocError> {
+        if text == "OK" {
+            return self.leaf(Value::Okay);
+        }
+        let start = self.reply.text.len();
+        self.reply.text.extend_from_slice(text.as_bytes())?;
+        self.reply.tokens.push(Token {
+            kind: TokenKind::SimpleString,
+            size: text.len(),
+            number: 0,
+            start,
+        })?;
+        Ok(whole(SeenValue::simple(text)))
+    }
+
+    fn begin_body(&mut self, _alloc: Global, _missing: usize) -> Result<(), AllocError> {
+        self.start = self.reply.text.len();
+        Ok(())
+    }
+
+    #[inline(always)]
+    fn extend_body(&mut self, part: &[u8]) -> Result<(), AllocError> {
+        self.reply.text.extend_from_slice(part)
+    }
+
+    fn end_body(&mut self, alloc: Global, body: &Body) -> Result<Whole<()>, ReadError> {
+        match body.kind {
+            BodyKind::Bulk => Ok(self.bulk(body)?),
+            kind => self.text_body(alloc, kind),
+        }
+    }
+
+    fn open(
+        &mut self,
+        _alloc: Global,
+        kind: ElementsKind,
+        size: usize,
+        _after: usize,
+        _at_hand: usize,
+    ) -> Result<(), AllocError> {
+        self.opens.push(self.reply.tokens.len())?;
+        self.reply.tokens.push(Token {
+            kind: kind.token(),
+            size,
+            number: 0,
+            start: self.reply.text.len(),
+        })?;
+        Ok(())
+    }
+
+    #[inline(always)]
+    fn keep(&mut self, _made: ()) -> Result<(), AllocError> {
+        Ok(())
+    }
+
+    fn close(
+        &mut self,
+        _alloc: Global,
+        closed: &OpenAggregate,
+        _made: (),
+        _counts: &mut Counter,
+    ) -> Result<Whole<()>, ReadError> {
+        let token = self.opens.pop().unwrap_or(0);
+        if let ElementsKind::Push = closed.kind {
+            if !self.name_push(token) {
+                return Err(ReadError::Fault(FrameFault::BadPushKind));
+            }
+        }
+        Ok(whole(SeenValue::elements(closed.kind, &closed.seen)))
+    }
+
+    /// The next flat reply is built in the memory of the one before.
+    fn put(&mut self, _made: (), out: &mut FlatReply) {
+        mem::swap(out, &mut self.reply);
+        self.reply.clear();
+    }
+
+    ghost paid_for = { λ b fs body h. flat-paid_for b.reply b.opens.items b.start fs body h };
+}
+
+/// Whether the first of these tokens names the kind of a push, which is then a bulk string.
+fn name_kind(tokens: &mut [Token], text: &[u8]) -> bool
+    ensures named { result ≡ names_kind tokens.old text.now }
+    ensures token { tokens.new ≡ with_name tokens.old }
+{
+    let Some(first) = tokens.first_mut() else {
+        return false;
+    };
+    match first.kind {
+        TokenKind::SimpleString => {
+            first.kind = TokenKind::BulkString;
+            true
+        }
+        TokenKind::BulkString => {
+            let (_, rest) = text.split_at(first.start.min(text.len()));
+            let (name, _) = rest.split_at(first.size.min(rest.len()));
+            is_text(name)
+        }
+        _ => false,
+    }
+}
+
+fn is_text(bytes: &[u8]) -> bool
+    ensures { result ≡ is_utf8 bytes.now }
+{
+    match std::str::from_utf8(bytes) {
+        Ok(_) => true,
+        Err(_) => false,
+    }
+}

@@ -1,0 +1,156 @@
+//! A value that is built as a tree.
+
+ghost use Rattle.std.specs.Prelude.{◌≡◌, ◌∷◌, ◌++◌, [], IfOk, OnOk};
+ghost use Rattle.resp_parse.specs.Computes.{ComputesSeen};
+ghost use Rattle.resp_parse.specs.Shapes.{body_value};
+
+use crate::body::Body;
+use crate::builder::Builder;
+use crate::decoder::Counter;
+use crate::open_aggregates::OpenAggregate;
+use crate::read_error::ReadError;
+use crate::seen::SeenValue;
+use crate::shape::{BodyKind, ElementsKind};
+use crate::value_of::simple_of;
+use crate::whole::Whole;
+use resp_value::{Bytes, Items, Value};
+use std::alloc::{AllocError, Global};
+use std::mem;
+
+/// Room for elements: for no more than are announced, than the bytes at hand can spell, and 128.
+fn room_for(alloc: Global, count: usize, at_hand: usize) -> Result<Items<Value>, AllocError>
+    ensures { IfOk result (λ room. room ≡ []) }
+{
+    let room = count.min(at_hand / 3).min(128);
+    Ok(Items::from(Vec::with_capacity(alloc, room)?))
+}
+
+/// Room for the bytes of a body: for no more than are announced, and 64.
+fn room_for_bytes(alloc: Global, missing: usize) -> Result<Bytes, AllocError>
+    ensures { IfOk result (λ room. room ≡ []) }
+{
+    Bytes::with_capacity(alloc, missing.min(64))
+}
+
+/// Builds a tree.
+#[derive(Drop)]
+pub(crate) struct TreeBuilder {
+    /// The elements so far of the innermost open aggregate.
+    elements: Items<Value>,
+    /// Those of the others, the outermost first, after an empty list.
+    outer: Vec<Items<Value>>,
+    /// The bytes of the body that is open.
+    bytes: Bytes,
+}
+
+/// A value that stands for itself.
+fn whole(value: Value) -> Whole<Value>
+    ensures made { result.made ≡ value }
+    ensures seen { result.seen ≡ value }
+{
+    let seen = SeenValue::of(&value);
+    Whole { made: value, seen }
+}
+
+/// The bytes of a body are an error or a verbatim string.
+#[inline(never)]
+fn text_body(alloc: Global, kind: BodyKind, bytes: Bytes) -> Result<Whole<Value>, ReadError>
+    ensures value { ComputesSeen result (body_value kind bytes) }
+    ensures made { IfOk result (λ w. w.made ≡ w.seen) }
+{
+    Ok(whole(kind.value(alloc, bytes)?))
+}
+
+impl Builder for TreeBuilder {
+    ghost use Rattle.std.specs.Prelude.{◌≡◌};
+    ghost use Rattle.resp_parse.specs.TreeBuilders.{BuildsTree, values_in, tree-paid_for};
+
+    type Made = Value;
+
+    type Reply = Value;
+
+    ghost stands = { λ b fs p. BuildsTree b.outer.items b.elements b.bytes fs p };
+
+    ghost shows = { λ reply v. reply ≡ v };
+
+    ghost values = { λ b. values_in b.outer.items b.elements };
+
+    ghost tokens = { λ _. 0 };
+
+    fn new(alloc: Global) -> TreeBuilder {
+        TreeBuilder {
+            elements: Items::new(alloc),
+            outer: Vec::new(alloc),
+            bytes: Bytes::new(alloc),
+        }
+    }
+
+    #[inline(always)]
+    fn leaf(&mut self, value: Value) -> Result<Whole<Value>, AllocError> {
+        Ok(whole(value))
+    }
+
+    #[inline(always)]
+    fn int(&mut self, n: i64) -> Result<Whole<Value>, AllocError> {
+        Ok(whole(Value::Int(n)))
+    }
+
+    fn simple(&mut self, alloc: Global, text: &str) -> Result<Whole<Value>, AllocError> {
+        Ok(whole(simple_of(alloc, text)?))
+    }
+
+    fn begin_body(&mut self, alloc: Global, missing: usize) -> Result<(), AllocError> {
+        self.bytes = room_for_bytes(alloc, missing)?;
+        Ok(())
+    }
+
+    #[inline(always)]
+    fn extend_body(&mut self, part: &[u8]) -> Result<(), AllocError> {
+        self.bytes.extend_from_slice(part)
+    }
+
+    fn end_body(&mut self, alloc: Global, body: &Body) -> Result<Whole<Value>, ReadError> {
+        let bytes = mem::replace(&mut self.bytes, Bytes::new(alloc));
+        match body.kind {
+            BodyKind::Bulk => Ok(whole(Value::BulkString(bytes))),
+            kind => text_body(alloc, kind, bytes),
+        }
+    }
+
+    fn open(
+        &mut self,
+        alloc: Global,
+        _kind: ElementsKind,
+        _size: usize,
+        after: usize,
+        at_hand: usize,
+    ) -> Result<(), AllocError> {
+        let room = room_for(alloc, after.saturating_add(1), at_hand)?;
+        self.outer.push(mem::replace(&mut self.elements, room))?;
+        Ok(())
+    }
+
+    fn keep(&mut self, made: Value) -> Result<(), AllocError> {
+        self.elements.push(made)
+    }
+
+    fn close(
+        &mut self,
+        alloc: Global,
+        closed: &OpenAggregate,
+        made: Value,
+        counts: &mut Counter,
+    ) -> Result<Whole<Value>, ReadError> {
+        let outer = self.outer.pop().unwrap_or(Items::new(alloc));
+        let mut elements = mem::replace(&mut self.elements, outer);
+        elements.push(made)?;
+        Ok(whole(closed.kind.value(alloc, elements, counts)?))
+    }
+
+    #[inline(always)]
+    fn put(&mut self, made: Value, out: &mut Value) {
+        *out = made;
+    }
+
+    ghost paid_for = { λ b fs body h. tree-paid_for b.outer.items b.elements b.bytes fs body h };
+}
