@@ -33,6 +33,7 @@ FilledOpenBody-none m bytes c b l =
       potential = refl;
       counts = rw none (let e : c.examined + 0 ≡ c.examined = omega arith in ap (λ (k : ℕ). record c { examined = k }) (sym e));
       iterations = omega arith;
+      paid = omega arith;
     }
 
 -- what was built stands for the open body
@@ -47,8 +48,8 @@ module _ {B : Type 0} (m : Machine B) (old new : Body) (bytes : List ℕ) (n : �
   none-left : drop n bytes ≡ []
   none-left = drop-all n bytes (omega (arith, all-taken))
 
-  pub FilledOpenBody-body : (c t d : Counts) (b : B) → t ≡ record c { iterations = c.iterations + 1 } → d ≡ record t { examined = t.examined + n } → FilledOpenBody m bytes (record m { builder = b; body = Some new }) c d
-  FilledOpenBody-body c t d b e k =
+  pub FilledOpenBody-body : 1 ≤ length bytes → (c t d : Counts) (b : B) → t ≡ record c { iterations = c.iterations + 1 } → d ≡ record t { examined = t.examined + n } → FilledOpenBody m bytes (record m { builder = b; body = Some new }) c d
+  FilledOpenBody-body some c t d b e k =
       let whole : d ≡ record c { iterations = c.iterations + 1; examined = c.examined + n } = k ∙ ap (λ (x : Counts). record x { examined = x.examined + n }) e in
       record {
         same = λ more. resumes m old new bytes n body_is h more ∙ ap (λ s. then (value_of (depth_left m.depth m.open_aggregates) (Some new) (s ++ more)) (place m.depth m.open_aggregates)) none-left;
@@ -62,6 +63,7 @@ module _ {B : Type 0} (m : Machine B) (old new : Body) (bytes : List ℕ) (n : �
         potential = rw body_is refl;
         counts = whole ∙ ap (λ (j : ℕ). record c { iterations = c.iterations + 1; examined = c.examined + j }) all-taken ∙ ap (λ (t : ℕ). record c { iterations = t; examined = c.examined + length bytes }) (sym (ap (λ (x : Counts). x.iterations) whole));
         iterations = omega (arith, ap (λ (x : Counts). x.iterations) whole);
+        paid = omega (arith, some, ap (λ (x : Counts). x.iterations) whole);
       }
 
 -- a parser whose open body took the first bytes that were fed, all before them being taken
@@ -82,11 +84,11 @@ apart-taken u bytes e more = rw e refl
 pub apart-none : (u bytes : List ℕ) → bytes ≡ [] → (more : List ℕ) → u ++ (bytes ++ more) ≡ bytes ++ (u ++ more)
 apart-none u bytes e more = rw e refl
 
--- bytes were fed: the first straight to the open body, the others to the buffer
-module _ {B : Type 0} (m new : Machine B) (c d e : Counts) (buffer buffer' since since' bytes direct rest : List ℕ) (consumed : ℕ) (failed : Bool) (within : consumed ≤ length buffer) (w : failed ≡ false)
+-- bytes came, by n calls: the first straight to the open body, the others to the buffer
+module _ {B : Type 0} (n : ℕ) (m new : Machine B) (c d e : Counts) (buffer buffer' since since' bytes direct rest : List ℕ) (consumed : ℕ) (failed : Bool) (within : consumed ≤ length buffer) (w : failed ≡ false)
     (h : Holds m (drop consumed buffer) since failed) (k : Counted m (drop consumed buffer) c failed) (f : FilledOpenBody m direct new c d)
     (apart : (more : List ℕ) → drop consumed buffer ++ (direct ++ more) ≡ direct ++ (drop consumed buffer ++ more)) (joined : direct ++ rest ≡ bytes)
-    (buffered : buffer' ≡ buffer ++ rest) (came_since : since' ≡ since ++ bytes) (counted : e ≡ record d { received = d.received + length bytes; calls = d.calls + 1 }) where
+    (buffered : buffer' ≡ buffer ++ rest) (came_since : since' ≡ since ++ bytes) (counted : e ≡ record d { received = d.received + length bytes; calls = d.calls + n }) where
   unparsed : drop consumed buffer' ≡ drop consumed buffer ++ rest
   unparsed = ap (drop consumed) buffered ∙ grind (arith, common_steps)
 
@@ -103,7 +105,7 @@ module _ {B : Type 0} (m new : Machine B) (c d e : Counts) (buffer buffer' since
       let iterations : e.iterations ≡ d.iterations = ap (λ (x : Counts). x.iterations) counted in
       let examined : e.examined ≡ d.examined = ap (λ (x : Counts). x.examined) counted in
       let received : e.received ≡ d.received + length bytes = ap (λ (x : Counts). x.received) counted in
-      let calls : e.calls ≡ d.calls + 1 = ap (λ (x : Counts). x.calls) counted in
+      let calls : e.calls ≡ d.calls + n = ap (λ (x : Counts). x.calls) counted in
       let examined' : d.examined ≡ c.examined + length direct = ap (λ (x : Counts). x.examined) f.counts in
       let received' : d.received ≡ c.received = ap (λ (x : Counts). x.received) f.counts in
       let calls' : d.calls ≡ c.calls = ap (λ (x : Counts). x.calls) f.counts in
@@ -112,11 +114,11 @@ module _ {B : Type 0} (m new : Machine B) (c d e : Counts) (buffer buffer' since
       let l : length bytes ≡ length direct + length rest = ap length (sym joined) ∙ grind (arith, common_steps) in
       let v : length (drop consumed buffer') ≡ length (drop consumed buffer) + length rest = ap length unparsed ∙ grind (arith, common_steps) in
       record {
-        iterations = omega (arith, b.cost, f.iterations, iterations, examined, calls, examined', calls');
+        iterations = omega (arith, b.cost, f.paid, iterations, examined, calls, examined', calls');
         looks = omega (arith, k.looks, looks, looks', examined, examined');
         examined = omega (arith, k.examined, examined, received, examined', received', l);
         works = λ _. record {
-          cost = omega (arith, b.cost, f.iterations, f.potential, iterations, examined, calls, examined', calls');
+          cost = omega (arith, b.cost, f.paid, f.potential, iterations, examined, calls, examined', calls');
           accounted = omega (arith, b.accounted, f.looked, examined, received, examined', received', l, v);
         };
       }

@@ -11,7 +11,7 @@ abbrev pub lacks_of : Option Body → ℕ
 lacks_of None = 0
 lacks_of (Some b) = b.missing
 
--- the bytes were taken into the open body, in one iteration at most
+-- the bytes were taken into the open body, in one iteration at most, and none where there are none
 pub record FilledOpenBody {B : Type 0} (old : Machine B) (bytes : List ℕ) (new : Machine B) (c d : Counts) : Type 0 where
   pub same : (more : List ℕ) → resume old (bytes ++ more) ≡ resume new more
   pub depth : new.depth ≡ old.depth
@@ -25,6 +25,7 @@ pub record FilledOpenBody {B : Type 0} (old : Machine B) (bytes : List ℕ) (new
   pub potential : potential new ≡ potential old
   pub counts : d ≡ record c { iterations = d.iterations; examined = c.examined + length bytes }
   pub iterations : d.iterations ≤ c.iterations + 1
+  pub paid : d.iterations ≤ c.iterations + length bytes
 
 -- or memory ran out, and nothing else changed
 abbrev pub FillsOpenBody : {B : Type 0} {E : Type 0} → Machine B → List ℕ → Machine B → Counts → Counts →

@@ -1,7 +1,8 @@
 //! A decoder of replies whose bytes come in pieces, whatever it builds of them.
 
-ghost use Rattle.std.specs.Prelude.{◌≡◌, ◌≢◌, ◌↔◌, ◌++◌, ◌⊎◌, [], true, false, Err, List, ℕ};
+ghost use Rattle.std.specs.Prelude.{◌≡◌, ◌≢◌, ◌↔◌, ◌++◌, ◌+◌, ◌≤◌, ◌⊎◌, [], true, false, Err, List, ℕ};
 ghost use Rattle.std.specs.Prelude.{length, IsTrue, OnOk, IfSome, None};
+ghost use Rattle.std.specs.Vec.{vec_capacity};
 ghost use Rattle.resp_parse.specs.State.{StandsAfter, FailedAfter, IsBetweenValues, has_failed};
 ghost use Rattle.resp_parse.specs.State.{KeepsFaultOffset, refusal_of, answered};
 ghost use Rattle.resp_parse.specs.Limits.{AreLimits, IsSizeLimit};
@@ -18,7 +19,7 @@ use crate::machine::Machine;
 use crate::read_error::ReadError;
 use crate::source::ReplySource;
 use resp_value::{FrameFault, IoKind, ParsingError, RedisError, RedisResult};
-use std::alloc::Global;
+use std::alloc::{AllocError, Global};
 use std::marker::Model;
 
 mod counter;
@@ -44,6 +45,9 @@ pub(crate) struct Decoder<B: Builder> {
     fault_offset: Option<usize>,
     since: History,
     counts: Counter,
+    /// Where a source puts bytes before they are held: none before the first reading from one, then
+    /// 4,096 bytes of memory, which stay until the decoder is dropped.
+    chunk: Vec<u8>,
 }
 
 /// By hand, so that the proof of a function that owns one has a call where it is dropped, and not a
@@ -61,6 +65,7 @@ impl<B: Builder> Drop for Decoder<B> {
             fault_offset: _,
             since: _,
             counts: _,
+            chunk: _,
         } = self;
     }
 }
@@ -108,6 +113,7 @@ impl<B: Builder> Decoder<B> {
             fault_offset: None,
             since: History::new(),
             counts: Counter::new(),
+            chunk: Vec::new(alloc),
         }
     }
 
@@ -253,7 +259,8 @@ impl<B: Builder> Decoder<B> {
         self.consumed < self.buffer.len() || !self.machine.is_fresh()
     }
 
-    /// Asks the source once, for at most 4,096 bytes, and holds what it gives.
+    /// Asks the source once, for at most 4,096 bytes, and holds what it gives. Bytes that the open
+    /// body lacks go straight to it; where it has no memory for them, the next `take` says so.
     pub(crate) fn ask<S: ReplySource>(&mut self, source: &mut S) -> RedisResult<()>
         ensures asks { (b : List ℕ) → StandsAfter self.old b →
             Asks b self.old self.new (S.source source.old) (S.source source.new) result }
@@ -262,20 +269,31 @@ impl<B: Builder> Decoder<B> {
         ensures bounds { Bounded self.new }
         ensures asked { AskedFor self.old.counts self.new.counts result }
     {
+        if self.failed {
+            return Err(failed_before());
+        }
         self.compact();
-        if self.buffer.reserve(CHUNK).is_err() {
+        if make_room(&mut self.buffer, &mut self.chunk).is_err() {
             self.failed = true;
             return Err(RedisError::OutOfMemory);
         }
-        let mut chunk = [0; CHUNK];
-        match source.fill(&mut chunk[..]) {
+        match source.fill(&mut self.chunk[..]) {
             Ok(0) => {
                 self.failed = true;
                 Err(RedisError::Io(IoKind::UnexpectedEof))
             }
             Ok(n) => {
-                self.buffer.extend_from_slice(&chunk[..n])?;
-                self.since.append(&chunk[..n]);
+                let bytes = &self.chunk[..n];
+                let taken_all = self.consumed == self.buffer.len();
+                let room = if taken_all {
+                    self.size_limit - self.taken
+                } else {
+                    0
+                };
+                let direct = self.machine.fill_front(bytes, room, &mut self.counts);
+                self.buffer.extend_from_slice(&bytes[direct..])?;
+                self.taken += direct;
+                self.since.append(bytes);
                 self.counts.receive(n);
                 Ok(())
             }
@@ -305,6 +323,16 @@ impl<B: Builder> Decoder<B> {
             self.consumed = 0;
         }
     }
+}
+
+/// Room for a chunk's bytes in the buffer, and for the chunk itself.
+fn make_room(buffer: &mut Vec<u8>, chunk: &mut Vec<u8>) -> Result<(), AllocError>
+    ensures same { buffer.new.items ≡ buffer.old.items }
+    ensures room { OnOk result (length buffer.new.items + 4096 ≤ vec_capacity buffer.new) }
+    ensures size { OnOk result (length chunk.new.items ≡ 4096) }
+{
+    buffer.reserve(CHUNK)?;
+    chunk.resize(CHUNK, 0)
 }
 
 /// What a parser answers that has failed before.

@@ -1,6 +1,6 @@
 //! The reading of a value, which stops where the bytes end and goes on from there.
 
-ghost use Rattle.std.specs.Prelude.{◌≡◌, ◌<◌, ◌≤◌, ◌+◌, ◌*◌, ◌^◌, length, true, None, IfOk, IfSome, OnOk};
+ghost use Rattle.std.specs.Prelude.{◌≡◌, ◌<◌, ◌≤◌, ◌+◌, ◌*◌, ◌^◌, length, take, true, None, IfOk, IfSome, OnOk};
 ghost use Rattle.resp_parse.specs.Building.{nothing, whole, progress_of};
 ghost use Rattle.resp_parse.specs.Resume.{BuildsThen, StepBuilds, RunBuilds};
 ghost use Rattle.resp_parse.specs.Computes.{ComputesSeen};
@@ -10,7 +10,7 @@ ghost use Rattle.resp_parse.specs.PlainReading.{then, read_announced, read};
 ghost use Rattle.resp_parse.specs.Shapes.{announced_in_line, line_value, elements_value, count_of};
 ghost use Rattle.resp_parse.specs.Resume.{place, resume, fresh_of, IsScanned, Goes, Ends, Steps};
 ghost use Rattle.resp_parse.specs.Resume.{Runs, ReadsInto, depth_below};
-ghost use Rattle.resp_parse.specs.Filling.{lacks_of, FillsOpenBody};
+ghost use Rattle.resp_parse.specs.Filling.{lacks_of, FillsOpenBody, FilledOpenBody};
 ghost use Rattle.resp_parse.specs.Built.{built};
 ghost use Rattle.resp_parse.specs.Costs.{least_bytes, BuiltWithin, StepBuiltWithin, RunBuiltWithin, Places, Begins};
 ghost use Rattle.resp_parse.specs.Costs.{HeaderCost, StepCost, RunCost, ReadBuiltWithin};
@@ -306,6 +306,26 @@ impl<B: Builder> Machine<B> {
         counts.iterate();
         counts.examine(taken);
         Ok(())
+    }
+
+    /// Takes the first of these bytes, up to `most`, that the open body lacks; answers how many, none
+    /// where memory runs out.
+    pub(crate) fn fill_front(&mut self, bytes: &[u8], most: usize, counts: &mut Counter) -> usize
+        ensures within { result ≤ length bytes.now }
+        ensures most { result ≤ most }
+        ensures fills { FilledOpenBody self.old (take result bytes.now) self.new
+            counts.old counts.new }
+        ensures builds { B.stands self.old.builder self.old.open_aggregates
+            (progress_of self.old.body) →
+            B.stands self.new.builder self.new.open_aggregates (progress_of self.new.body) }
+        ensures values { B.values self.new.builder ≡ B.values self.old.builder }
+        ensures tokens { B.tokens self.new.builder ≡ B.tokens self.old.builder }
+    {
+        let direct = self.lacks().min(most).min(bytes.len());
+        match self.fill(&bytes[..direct], counts) {
+            Ok(()) => direct,
+            Err(_) => 0,
+        }
     }
 
     /// Puts a whole value where it belongs; Some is one that stands in no aggregate.

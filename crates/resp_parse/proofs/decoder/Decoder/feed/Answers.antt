@@ -58,9 +58,9 @@ invariant_of-self-2 g c =
       placed = Placed-working (limits_of c.self-2.inside.machine c.self-2.inside.size_limit) (limits_of c.fill.new.self c.self-2.inside.size_limit) c.self-2.inside.fault_offset c.self-2.inside.since c.append.new.self c.self-2.inside.failed w c.self-2.invariant.placed;
       limits = rw c.in_ok-fill.ensures.fills.depth c.self-2.invariant.limits;
       depth = rw (c.in_ok-fill.ensures.fills.depth, c.in_ok-fill.ensures.fills.open_aggregates) c.self-2.invariant.depth;
-      holds = fed-holds c.self-2.inside.machine c.fill.new.self c.self-2.inside.counts c.fill.new.counts c.receive.new.self buffer c.extend_from_slice.new.self.items c.self-2.inside.since c.append.new.self c.args.bytes.now direct rest consumed c.self-2.inside.failed
+      holds = fed-holds 1 c.self-2.inside.machine c.fill.new.self c.self-2.inside.counts c.fill.new.counts c.receive.new.self buffer c.extend_from_slice.new.self.items c.self-2.inside.since c.append.new.self c.args.bytes.now direct rest consumed c.self-2.inside.failed
           c.self-2.invariant.consumed w c.self-2.invariant.holds c.self-2.invariant.counted c.in_ok-fill.ensures.fills apart joined items c.append.ensures (c.receive.ensures ∙ ap (λ (t : Counts). record t { received = t.received + length c.args.bytes.now }) c.call.ensures);
-      counted = fed-counted c.self-2.inside.machine c.fill.new.self c.self-2.inside.counts c.fill.new.counts c.receive.new.self buffer c.extend_from_slice.new.self.items c.self-2.inside.since c.append.new.self c.args.bytes.now direct rest consumed c.self-2.inside.failed
+      counted = fed-counted 1 c.self-2.inside.machine c.fill.new.self c.self-2.inside.counts c.fill.new.counts c.receive.new.self buffer c.extend_from_slice.new.self.items c.self-2.inside.since c.append.new.self c.args.bytes.now direct rest consumed c.self-2.inside.failed
           c.self-2.invariant.consumed w c.self-2.invariant.holds c.self-2.invariant.counted c.in_ok-fill.ensures.fills apart joined items c.append.ensures (c.receive.ensures ∙ ap (λ (t : Counts). record t { received = t.received + length c.args.bytes.now }) c.call.ensures);
       taken = λ _. CountsTaken-fed c.self-2.inside.size_limit c.self-2.inside.machine c.fill.new.self c.self-2.inside.counts c.fill.new.counts (drop consumed buffer) (drop consumed c.extend_from_slice.new.self.items) c.self-2.inside.since c.append.new.self c.args.bytes.now direct rest c.self-2.inside.taken
           (c.self-2.invariant.taken w) c.in_ok-fill.ensures.fills fits joined
@@ -91,7 +91,7 @@ returns-clause-rest g c = λ h.
       | else-taken_all u ↦ apart-none (drop consumed buffer) direct (let z : c.min-2.result ≡ 0 = omega (arith, c.min.ensures, c.min-2.ensures, u.lacking-is) in c.split_at.ensures.front ∙ ap (λ k. take k c.args.bytes.now) z)
     ] in
     IsBetweenValues-from_same _ w
-    (fed-between c.self-2.inside.machine c.fill.new.self c.self-2.inside.counts c.fill.new.counts c.receive.new.self buffer c.extend_from_slice.new.self.items c.self-2.inside.since c.append.new.self c.args.bytes.now direct rest consumed c.self-2.inside.failed
+    (fed-between 1 c.self-2.inside.machine c.fill.new.self c.self-2.inside.counts c.fill.new.counts c.receive.new.self buffer c.extend_from_slice.new.self.items c.self-2.inside.since c.append.new.self c.args.bytes.now direct rest consumed c.self-2.inside.failed
     c.self-2.invariant.consumed w c.self-2.invariant.holds c.self-2.invariant.counted c.in_ok-fill.ensures.fills apart joined items c.append.ensures (c.receive.ensures ∙ ap (λ (t : Counts). record t { received = t.received + length c.args.bytes.now }) c.call.ensures)
     (ap (λ (s : State). s.since) e ∙ IsBetweenValues-same c.args.self.now h ∙ sym (ap (λ (s : State). s.unparsed) e)))
 
