@@ -25,6 +25,7 @@ pub mod Parsing
 pub mod PrefixReads
 pub mod AmortisedCost
 pub mod Prefixes
+pub mod PairedElements
 pub mod PushesAndAttributes
 pub mod ReadingMeetsGrammar
 pub mod ReadingsInSequence

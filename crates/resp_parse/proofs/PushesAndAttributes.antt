@@ -2,7 +2,7 @@
 use Rattle.std.proofs.Common.{◌≡◌, ℕ, ◌-◌, true, false, Some, None, List, [], ◌∷◌, ◌++◌, length, take, refl, ap, ◌∙◌, arith}
 use Rattle.std.specs.Str.{is_utf8}
 use Rattle.std.proofs.lemmas.Grind.{common_steps}
-use Rattle.resp_value.specs.declared.value.Value.{Value, BulkString, Attribute, Nil}
+use Rattle.resp_value.specs.declared.value.Value.{Value, BulkString, Attribute}
 use Rattle.resp_value.specs.Names.{kind_named}
 use Rattle.resp_parse.specs.Grammar.{push_kind, last_element, attribute}
 use Rattle.resp_value.specs.Views.{pairs}
@@ -29,8 +29,3 @@ attribute-popped elements prefix v e =
     let l : last_element elements ≡ v = last_element-popped elements prefix v e in
     let t : take (length elements - 1) elements ≡ prefix = take-popped elements prefix v e in
     rw (l, t) refl
-
-pub attribute-empty : (elements prefix : List Value) → length elements ≡ 0 → length prefix ≡ 0 → attribute elements ≡ Attribute Nil (pairs prefix)
-attribute-empty [] [] e f = refl
-attribute-empty (v ∷ elements) prefix e f = absurd (omega arith)
-attribute-empty [] (v ∷ prefix) e f = absurd (omega arith)

@@ -81,11 +81,6 @@ prepaid m = body_potential m.body + aggregates_potential m.open_aggregates
 abbrev pub potential : {B : Type 0} → Machine B → ℕ
 potential m = 3 * prepaid m + (4 * m.scanned - 3 * (m.scanned - 2))
 
--- only iterations were counted, at most n
-pub record Iterations (c d : Counts) (n : ℕ) : Type 0 where
-  pub same : d ≡ record c { iterations = d.iterations }
-  pub most : d.iterations ≤ c.iterations + n
-
 -- only looks at bytes of a line were counted, each an iteration
 pub record LooksAlone (c d : Counts) : Type 0 where
   pub same : d ≡ record c { iterations = d.iterations; looks = d.looks }
@@ -104,11 +99,11 @@ abbrev pub LooksForNumeral : List ℕ → Counts → Counts → Result Line ℕ 
 LooksForNumeral bytes c d (Ok l) = LooksAt 0 bytes c d (Some l.len)
 LooksForNumeral bytes c d (Err n) = LooksAlone c d × (d.iterations ≤ c.iterations + (n - 1))
 
--- a value is begun: one that is whole makes no iteration, another prepays two
-abbrev pub Begins : {B M : Type 0} → Machine B → Machine B → Counts → Counts → Result (Option (Whole M)) ReadError → Type 0
-Begins old new c d (Ok (Some v)) = d.iterations + prepaid new ≤ c.iterations + prepaid old
-Begins old new c d (Ok None) = d.iterations + prepaid new ≤ c.iterations + prepaid old + 2
-Begins old new c d (Err e) = d.iterations ≤ c.iterations + prepaid old
+-- a value is begun: one that is whole prepays nothing, another two
+abbrev pub Begins : {B M : Type 0} → Machine B → Machine B → Result (Option (Whole M)) ReadError → Type 0
+Begins old new (Ok (Some v)) = prepaid new ≤ prepaid old
+Begins old new (Ok None) = prepaid new ≤ prepaid old + 2
+Begins old new (Err e) = Unit {0}
 
 -- a value is placed: the iterations made are among those prepaid and two for the value
 abbrev pub Places : {B : Type 0} {X : Type 0} → Machine B → Machine B → Counts → Counts → Result X ReadError → Type 0

@@ -2,9 +2,9 @@
 use Rattle.std.specs.Prelude.{ℕ}
 
 -- iterations of its loops: looking at one byte of a line, taking a header or a part of a body,
--- placing one value or closing one aggregate, joining one pair; of these iterations, the looks at a
--- byte of a line; bytes that were fed or filled; those of them that were looked at; and calls that
--- it has not refused
+-- placing one value or closing one aggregate; of these iterations, the looks at a byte of a line;
+-- bytes that were fed or filled; those of them that were looked at; and calls that it has not
+-- refused
 pub record Counts : Type 0 where
   pub iterations : ℕ
   pub looks : ℕ

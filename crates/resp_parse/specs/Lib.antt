@@ -21,6 +21,7 @@ pub mod Filling
 pub mod State
 pub mod Bounds
 pub mod Building
+pub mod KeptElements
 pub mod TreeBuilders
 pub mod FlatBuilders
 pub mod Invariant

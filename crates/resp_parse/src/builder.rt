@@ -1,6 +1,6 @@
 //! What is built of a value that is read.
 
-ghost use Rattle.std.specs.Prelude.{◌≡◌, ◌∷◌, ◌+◌, ◌++◌, ℕ, suc, [], length, List, Option, IfOk, OnOk, MatchResult};
+ghost use Rattle.std.specs.Prelude.{◌≡◌, ◌∷◌, ◌+◌, ◌++◌, ℕ, suc, [], List, Option, IfOk, OnOk, MatchResult};
 ghost use Rattle.resp_value.specs.declared.value.Value.{Value, Int};
 ghost use Rattle.resp_parse.specs.declared.body.Body.{Body};
 ghost use Rattle.resp_parse.specs.declared.open_aggregates.OpenAggregate.{OpenAggregate};
@@ -11,10 +11,9 @@ ghost use Rattle.resp_parse.specs.OpenAggregates.{with_element, counted_down};
 ghost use Rattle.resp_parse.specs.Grammar.{simple};
 ghost use Rattle.resp_parse.specs.Shapes.{body_value, elements_value, count_of};
 ghost use Rattle.resp_parse.specs.Computes.{ComputesSeen};
-ghost use Rattle.resp_parse.specs.Costs.{Iterations, PaidFor};
+ghost use Rattle.resp_parse.specs.Costs.{PaidFor};
 
 use crate::body::Body;
-use crate::decoder::Counter;
 use crate::open_aggregates::OpenAggregate;
 use crate::read_error::ReadError;
 use crate::shape::ElementsKind;
@@ -116,7 +115,6 @@ pub(crate) trait Builder: Drop {
         alloc: Global,
         closed: &OpenAggregate,
         made: Self::Made,
-        counts: &mut Counter,
     ) -> Result<Whole<Self::Made>, ReadError>
         ensures value { (f : OpenAggregate) (fs : List OpenAggregate) (w : Whole Self.Made) →
             w.made ≡ made → f.after ≡ 0 → closed.now ≡ with_element f w.seen →
@@ -125,11 +123,7 @@ pub(crate) trait Builder: Drop {
         ensures stands { (f : OpenAggregate) (fs : List OpenAggregate) (w : Whole Self.Made) →
             w.made ≡ made → f.after ≡ 0 → closed.now ≡ with_element f w.seen →
             stands self.old (f ∷ fs) (whole w) →
-            IfOk result (λ all. stands self.new fs (whole all)) }
-        ensures iterations { (f : OpenAggregate) (fs : List OpenAggregate) (w : Whole Self.Made) →
-            w.made ≡ made → f.after ≡ 0 → closed.now ≡ with_element f w.seen →
-            stands self.old (f ∷ fs) (whole w) →
-            Iterations counts.old counts.new (length closed.now.seen) };
+            IfOk result (λ all. stands self.new fs (whole all)) };
 
     /// Hands out a value that stands in no aggregate.
     fn put(&mut self, made: Self::Made, out: &mut Self::Reply)

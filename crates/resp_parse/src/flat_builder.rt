@@ -11,7 +11,6 @@ ghost use Rattle.resp_parse.specs.Shapes.{body_value};
 
 use crate::body::Body;
 use crate::builder::Builder;
-use crate::decoder::Counter;
 use crate::open_aggregates::OpenAggregate;
 use crate::read_error::ReadError;
 use crate::seen::SeenValue;
@@ -194,7 +193,6 @@ impl Builder for FlatBuilder {
         _alloc: Global,
         closed: &OpenAggregate,
         _made: (),
-        _counts: &mut Counter,
     ) -> Result<Whole<()>, ReadError> {
         let token = self.opens.pop().unwrap_or(0);
         if let ElementsKind::Push = closed.kind {

@@ -5,6 +5,7 @@ mod body;
 mod builder;
 mod decoder;
 mod double;
+mod elements;
 mod flat_builder;
 mod flat_parser;
 mod history;

@@ -26,7 +26,7 @@ use crate::seen::SeenValues;
 use crate::shape::{ElementsKind, LineKind, Shape, shape_of};
 use crate::type_byte::TypeByte;
 use crate::whole::Whole;
-use resp_value::{FrameFault, Items, Value};
+use resp_value::{FrameFault, Value};
 use std::alloc::{AllocError, Global};
 
 /// How many bytes one step took, and what came of it.
@@ -97,7 +97,6 @@ impl<B: Builder> Machine<B> {
         line: &[u8],
         number: Option<u64>,
         at_hand: usize,
-        counts: &mut Counter,
     ) -> Result<Option<Whole<B::Made>>, ReadError>
         requires no_body { self.old.body ≡ None }
         requires level { length self.old.open_aggregates < self.old.depth }
@@ -112,8 +111,7 @@ impl<B: Builder> Machine<B> {
         ensures scanned { self.new.scanned ≡ self.old.scanned }
         ensures builds { BuildsThen B.stands self.new result }
         ensures built_within { BuiltWithin self.new (3 + least_bytes self.old) result }
-        ensures begins { Begins self.old self.new counts.old counts.new result }
-        ensures iterations { counts.new ≡ record counts.old { iterations = counts.new.iterations } }
+        ensures begins { Begins self.old self.new result }
     {
         match shape_of(kind, line, number)? {
             Shape::Nil => Ok(Some(self.builder.leaf(Value::Nil)?)),
@@ -129,7 +127,7 @@ impl<B: Builder> Machine<B> {
                 });
                 Ok(None)
             }
-            Shape::Elements(kind, size) => self.begin_elements(alloc, kind, size, at_hand, counts),
+            Shape::Elements(kind, size) => self.begin_elements(alloc, kind, size, at_hand),
         }
     }
 
@@ -158,7 +156,6 @@ impl<B: Builder> Machine<B> {
         kind: ElementsKind,
         size: usize,
         at_hand: usize,
-        counts: &mut Counter,
     ) -> Result<Option<Whole<B::Made>>, ReadError>
         requires no_body { self.old.body ≡ None }
         requires level { length self.old.open_aggregates < self.old.depth }
@@ -173,12 +170,11 @@ impl<B: Builder> Machine<B> {
         ensures scanned { self.new.scanned ≡ self.old.scanned }
         ensures builds { BuildsThen B.stands self.new result }
         ensures built_within { BuiltWithin self.new (3 + least_bytes self.old) result }
-        ensures begins { Begins self.old self.new counts.old counts.new result }
-        ensures iterations { counts.new ≡ record counts.old { iterations = counts.new.iterations } }
+        ensures begins { Begins self.old self.new result }
     {
         let count = kind.count(size);
         if count == 0 {
-            let value = kind.value(alloc, Items::new(alloc), counts)?;
+            let value = kind.empty_value(alloc)?;
             return Ok(Some(self.builder.leaf(value)?));
         }
         self.builder.open(alloc, kind, size, count - 1, at_hand)?;
@@ -228,7 +224,7 @@ impl<B: Builder> Machine<B> {
         counts.examine(len + 3 - self.scanned);
         self.scanned = 0;
         let at_hand = after.len() - (len + 2);
-        match self.begin(alloc, kind, &after[..len], number, at_hand, counts) {
+        match self.begin(alloc, kind, &after[..len], number, at_hand) {
             Ok(Some(whole)) => Ok(Step::Whole(len + 3, whole)),
             Ok(None) => Ok(Step::Goes(len + 3)),
             Err(why) => Err(self.record_fault(why, len + 3)),
@@ -357,7 +353,7 @@ impl<B: Builder> Machine<B> {
                     return Ok(None);
                 }
                 Added::Closed(closed) => {
-                    match self.builder.close(alloc, &closed, value.made, counts) {
+                    match self.builder.close(alloc, &closed, value.made) {
                         Ok(made) => value = made,
                         Err(why) => return Err(why),
                     }

@@ -1,21 +1,22 @@
 //! What the line of a header announces.
 
-ghost use Rattle.std.specs.Prelude.{◌≡◌, ◌<◌, ◌^◌, ℕ, List, length, IfSome, IfOk, Ok};
-ghost use Rattle.resp_parse.specs.Costs.{Iterations};
+ghost use Rattle.std.specs.Prelude.{◌≡◌, ◌<◌, ◌^◌, ◌∷◌, ◌++◌, ℕ, List, [], IfSome, IfOk, Ok};
+ghost use Rattle.resp_value.specs.declared.value.Value.{Value};
 ghost use Rattle.resp_parse.specs.Grammar.{announced, boolean_in, with_valid};
 ghost use Rattle.resp_parse.specs.Grammar.{or_nil, or_empty_push, body as a_body};
 ghost use Rattle.resp_parse.specs.Grammar.{elements as some_elements, push};
+ghost use Rattle.resp_parse.specs.KeptElements.{kept_as};
 ghost use Rattle.resp_parse.specs.Number.{IsNumeral, integer_in};
 ghost use Rattle.resp_parse.specs.Shapes.{Announces, announced_in_line, body_value};
 ghost use Rattle.resp_parse.specs.Shapes.{elements_value, line_value, count_of, token_kind, is_small};
 ghost use Rattle.resp_parse.specs.Computes.{Computes};
 
-use crate::decoder::Counter;
+use crate::elements::Elements;
 use crate::number::{integer_of, length_of};
 use crate::read_error::ReadError;
 use crate::type_byte::TypeByte;
 use crate::value_of::{
-    attribute_of, bulk_error_of, double_of, error_of, no_push, pairs_from, push_of, verbatim_of,
+    attribute_of, bulk_error_of, double_of, error_of, no_push, push_of, verbatim_of,
 };
 use resp_flat::TokenKind;
 use resp_value::{Bytes, FrameFault, Items, Value};
@@ -78,22 +79,39 @@ impl ElementsKind {
         }
     }
 
-    /// The value of the elements.
+    /// The value of no elements.
+    pub(crate) fn empty_value(self, alloc: Global) -> Result<Value, ReadError>
+        ensures value { Computes result (elements_value self []) }
+    {
+        match self {
+            ElementsKind::Array => Ok(Value::Array(Items::new(alloc))),
+            ElementsKind::Set => Ok(Value::Set(Items::new(alloc))),
+            ElementsKind::Map => Ok(Value::Map(Items::new(alloc))),
+            ElementsKind::Attribute => { Ok(attribute_of(alloc, Value::Nil, Items::new(alloc))?) }
+            ElementsKind::Push => Err(ReadError::Fault(FrameFault::BadPushKind)),
+        }
+    }
+
+    /// The value of the elements and of one more, the last.
     pub(crate) fn value(
         self,
         alloc: Global,
-        elements: Items<Value>,
-        counts: &mut Counter,
+        elements: Elements,
+        last: Value,
     ) -> Result<Value, ReadError>
-        ensures value { Computes result (elements_value self elements) }
-        ensures iterations { Iterations counts.old counts.new (length elements) }
+        ensures value { (vs : List Value) → elements ≡ kept_as self vs →
+            Computes result (elements_value self (vs ++ last ∷ [])) }
     {
+        if let ElementsKind::Attribute = self {
+            return Ok(attribute_of(alloc, last, elements.into_pairs(alloc))?);
+        }
+        let mut elements = elements;
+        elements.push(last)?;
         match self {
-            ElementsKind::Array => Ok(Value::Array(elements)),
-            ElementsKind::Set => Ok(Value::Set(elements)),
-            ElementsKind::Map => Ok(Value::Map(pairs_from(alloc, elements.into_vec(), counts)?)),
-            ElementsKind::Attribute => Ok(attribute_of(alloc, elements.into_vec(), counts)?),
-            ElementsKind::Push => push_of(elements.into_vec()),
+            ElementsKind::Array => Ok(Value::Array(elements.into_values(alloc))),
+            ElementsKind::Set => Ok(Value::Set(elements.into_values(alloc))),
+            ElementsKind::Push => push_of(elements.into_values(alloc).into_vec()),
+            _ => Ok(Value::Map(elements.into_pairs(alloc))),
         }
     }
 }

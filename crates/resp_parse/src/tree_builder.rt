@@ -2,11 +2,12 @@
 
 ghost use Rattle.std.specs.Prelude.{◌≡◌, ◌∷◌, ◌++◌, [], IfOk, OnOk};
 ghost use Rattle.resp_parse.specs.Computes.{ComputesSeen};
+ghost use Rattle.resp_parse.specs.KeptElements.{kept_as};
 ghost use Rattle.resp_parse.specs.Shapes.{body_value};
 
 use crate::body::Body;
 use crate::builder::Builder;
-use crate::decoder::Counter;
+use crate::elements::Elements;
 use crate::open_aggregates::OpenAggregate;
 use crate::read_error::ReadError;
 use crate::seen::SeenValue;
@@ -17,12 +18,24 @@ use resp_value::{Bytes, Items, Value};
 use std::alloc::{AllocError, Global};
 use std::mem;
 
-/// Room for elements: for no more than are announced, than the bytes at hand can spell, and 128.
-fn room_for(alloc: Global, count: usize, at_hand: usize) -> Result<Items<Value>, AllocError>
-    ensures { IfOk result (λ room. room ≡ []) }
+/// Room for elements: for no more than are announced, than the bytes at hand can spell or four, as
+/// many as a `Vec` takes room for when it grows from nothing, and 128.
+fn room_for(
+    alloc: Global,
+    kind: ElementsKind,
+    count: usize,
+    at_hand: usize,
+) -> Result<Elements, AllocError>
+    ensures { IfOk result (λ room. room ≡ kept_as kind []) }
 {
-    let room = count.min(at_hand / 3).min(128);
-    Ok(Items::from(Vec::with_capacity(alloc, room)?))
+    let room = count.min((at_hand / 3).max(4)).min(128);
+    match kind {
+        ElementsKind::Map | ElementsKind::Attribute => Ok(Elements::Pairs(
+            Items::from(Vec::with_capacity(alloc, room / 2)?),
+            false,
+        )),
+        _ => Ok(Elements::Values(Items::from(Vec::with_capacity(alloc, room)?))),
+    }
 }
 
 /// Room for the bytes of a body: for no more than are announced, and 64.
@@ -36,9 +49,9 @@ fn room_for_bytes(alloc: Global, missing: usize) -> Result<Bytes, AllocError>
 #[derive(Drop)]
 pub(crate) struct TreeBuilder {
     /// The elements so far of the innermost open aggregate.
-    elements: Items<Value>,
-    /// Those of the others, the outermost first, after an empty list.
-    outer: Vec<Items<Value>>,
+    elements: Elements,
+    /// Those of the others, the outermost first, after none.
+    outer: Vec<Elements>,
     /// The bytes of the body that is open.
     bytes: Bytes,
 }
@@ -79,7 +92,7 @@ impl Builder for TreeBuilder {
 
     fn new(alloc: Global) -> TreeBuilder {
         TreeBuilder {
-            elements: Items::new(alloc),
+            elements: Elements::Values(Items::new(alloc)),
             outer: Vec::new(alloc),
             bytes: Bytes::new(alloc),
         }
@@ -120,12 +133,12 @@ impl Builder for TreeBuilder {
     fn open(
         &mut self,
         alloc: Global,
-        _kind: ElementsKind,
+        kind: ElementsKind,
         _size: usize,
         after: usize,
         at_hand: usize,
     ) -> Result<(), AllocError> {
-        let room = room_for(alloc, after.saturating_add(1), at_hand)?;
+        let room = room_for(alloc, kind, after.saturating_add(1), at_hand)?;
         self.outer.push(mem::replace(&mut self.elements, room))?;
         Ok(())
     }
@@ -139,12 +152,13 @@ impl Builder for TreeBuilder {
         alloc: Global,
         closed: &OpenAggregate,
         made: Value,
-        counts: &mut Counter,
     ) -> Result<Whole<Value>, ReadError> {
-        let outer = self.outer.pop().unwrap_or(Items::new(alloc));
-        let mut elements = mem::replace(&mut self.elements, outer);
-        elements.push(made)?;
-        Ok(whole(closed.kind.value(alloc, elements, counts)?))
+        let outer = self
+            .outer
+            .pop()
+            .unwrap_or(Elements::Values(Items::new(alloc)));
+        let elements = mem::replace(&mut self.elements, outer);
+        Ok(whole(closed.kind.value(alloc, elements, made)?))
     }
 
     #[inline(always)]

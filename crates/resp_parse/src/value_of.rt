@@ -1,16 +1,13 @@
 //! Values from the texts, bodies and elements that spell them.
 
-ghost use Rattle.std.specs.Prelude.{◌≡◌, [], IfOk, length, string_bytes};
-ghost use Rattle.resp_parse.specs.Costs.{Iterations};
+ghost use Rattle.std.specs.Prelude.{◌≡◌, [], IfOk, string_bytes};
 ghost use Rattle.resp_value.specs.declared.value.Value.TheVariants as value;
 ghost use Rattle.resp_errors.specs.ServerErrors.{server_error};
-ghost use Rattle.resp_value.specs.Views.{pairs as pairs_of};
-ghost use Rattle.resp_parse.specs.Grammar.{simple, bulk_error, verbatim, attribute};
+ghost use Rattle.resp_parse.specs.Grammar.{simple, bulk_error, verbatim};
 ghost use Rattle.resp_parse.specs.Grammar.{push_kind, push, empty_push};
 ghost use Rattle.resp_parse.specs.Double.{double_in};
 ghost use Rattle.resp_parse.specs.Computes.{Computes};
 
-use crate::decoder::Counter;
 use crate::double::is_double_text;
 use crate::read_error::ReadError;
 use resp_value::{
@@ -72,42 +69,17 @@ pub(crate) fn verbatim_of(alloc: Global, body: &[u8]) -> Result<Value, ReadError
     }
 }
 
-/// The elements two by two.
-pub(crate) fn pairs_from(
-    alloc: Global,
-    elements: Vec<Value>,
-    counts: &mut Counter,
-) -> Result<Items<(Value, Value)>, AllocError>
-    ensures pairs { IfOk result (λ made. made ≡ pairs_of elements.items) }
-    ensures iterations { Iterations counts.old counts.new (length elements.items) }
-{
-    let mut pairs = Items::from(Vec::with_capacity(alloc, elements.len() / 2)?);
-    let mut rest = elements.into_iter();
-    while let Some(key) = rest.next() {
-        counts.iterate();
-        if let Some(value) = rest.next() {
-            pairs.push((key, value))?;
-        }
-    }
-    Ok(pairs)
-}
-
-/// The attribute of these elements: pairs, and then the data (RESP3, "Attributes").
+/// The attribute of this data and these pairs (RESP3, "Attributes").
 pub(crate) fn attribute_of(
     alloc: Global,
-    mut elements: Vec<Value>,
-    counts: &mut Counter,
+    payload: Value,
+    attributes: Items<(Value, Value)>,
 ) -> Result<Value, AllocError>
-    ensures value { IfOk result (λ made. made ≡ attribute elements.items) }
-    ensures iterations { Iterations counts.old counts.new (length elements.items) }
+    ensures value { IfOk result (λ made. made ≡ value.Attribute payload attributes) }
 {
-    let payload = match elements.pop() {
-        Some(value) => value,
-        None => Value::Nil,
-    };
     Ok(Value::Attribute {
         payload: Boxed::new(alloc, payload)?,
-        attributes: pairs_from(alloc, elements, counts)?,
+        attributes,
     })
 }
 

@@ -41,26 +41,13 @@ returns-in-Err-clause-places g c =
     let v = c.args.value.seen in
     let same = c.loop-value.invariant.same in
     let a : ClosedBy now w.seen fs f = c.in-Closed.ensures.adds in
-    let all = builds-closed g.B.Builder.stands c.loop-value.self.builder now w fs c.loop-value.invariant.builds f a in
     let t : c.iterate.new.self.iterations ≡ c.loop-value.counts.iterations + 1 = ap (λ (n : Counts). n.iterations) c.iterate.ensures in
     let l = closed-potential d gs v now w.seen same fs f a in
-    let most = (c.in-Err.ensures.iterations a.aggregate fs w refl a.last a.closed_is all).most in
-    omega (arith, l, t, most, c.loop-value.invariant.places)
+    omega (arith, l, t, c.loop-value.invariant.places)
 
 pub returns-in-Err-clause-iterations : goal.returns-in-Err-clause-iterations
 returns-in-Err-clause-iterations g c =
-    let now = c.loop-value.self.open_aggregates in
-    let w = c.loop-value.value in
-    let fs = c.add.new.self in
-    let f = c.in-Closed.closed in
-    let d = c.args.self.now.depth in
-    let gs = c.args.self.now.open_aggregates in
-    let v = c.args.value.seen in
-    let same = c.loop-value.invariant.same in
-    let a : ClosedBy now w.seen fs f = c.in-Closed.ensures.adds in
-    let all = builds-closed g.B.Builder.stands c.loop-value.self.builder now w fs c.loop-value.invariant.builds f a in
-    same-iterations c.args.counts.now c.loop-value.counts c.close.new.counts c.loop-value.invariant.iterations
-    (same-iterations c.loop-value.counts c.iterate.new.self c.close.new.counts (same-iterate c.loop-value.counts c.iterate.new.self c.iterate.ensures) (c.in-Err.ensures.iterations a.aggregate fs w refl a.last a.closed_is all).same)
+    same-iterations c.args.counts.now c.loop-value.counts c.iterate.new.self c.loop-value.invariant.iterations (same-iterate c.loop-value.counts c.iterate.new.self c.iterate.ensures)
 
 pub loop-value-preserved : goal.loop-value-preserved
 loop-value-preserved g c =
@@ -76,7 +63,6 @@ loop-value-preserved g c =
     let all = builds-closed g.B.Builder.stands c.loop-value.self.builder now w fs c.loop-value.invariant.builds f a in
     let u = c.in-Ok.made.seen in
     let made = c.in-Ok.ensures.value a.aggregate fs w refl a.last a.closed_is all in
-    let counted = c.in-Ok.ensures.iterations a.aggregate fs w refl a.last a.closed_is all in
     let t : c.iterate.new.self.iterations ≡ c.loop-value.counts.iterations + 1 = ap (λ (n : Counts). n.iterations) c.iterate.ensures in
     record {
       same = added-closed d gs v now w.seen same fs f a u made;
@@ -86,7 +72,6 @@ loop-value-preserved g c =
       no_body = c.loop-value.invariant.no_body;
       scanned = c.loop-value.invariant.scanned;
       built_within = (let m = closed-least_bytes d gs v now w.seen same fs f a u made in omega (arith, m, c.loop-value.invariant.built_within));
-      places = (let l = closed-potential d gs v now w.seen same fs f a in omega (arith, l, t, counted.most, c.loop-value.invariant.places));
-      iterations = same-iterations c.args.counts.now c.loop-value.counts c.close.new.counts c.loop-value.invariant.iterations
-          (same-iterations c.loop-value.counts c.iterate.new.self c.close.new.counts (same-iterate c.loop-value.counts c.iterate.new.self c.iterate.ensures) counted.same);
+      places = (let l = closed-potential d gs v now w.seen same fs f a in omega (arith, l, t, c.loop-value.invariant.places));
+      iterations = same-iterations c.args.counts.now c.loop-value.counts c.iterate.new.self c.loop-value.invariant.iterations (same-iterate c.loop-value.counts c.iterate.new.self c.iterate.ensures);
     }

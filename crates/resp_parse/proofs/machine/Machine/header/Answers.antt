@@ -38,16 +38,16 @@ overflow_sub-len g c = omega (arith, c.in-Some-first_line.ensures.looks.2, c.sat
 pub returns-in-Ok-Some-clause-cost : goal.returns-in-Ok-Some-clause-cost
 returns-in-Ok-Some-clause-cost g c =
     let p = rw c.in-Ok-Some.field-0-is at c.in-Ok-Some.ensures.begins in
-    let q = header-cost c.args.self.now c.begin.new.self c.args.counts.now c.first_line.new.counts c.examine-2.new.self c.begin.new.counts c.in-Some-first_line.line.len c.saturating_sub.result c.in-Some.after.now c.saturating_sub.ensures c.in-Some-first_line.ensures.looks c.examine-2.ensures c.in-Ok-Some.ensures.iterations 2 (omega (arith, p)) c.in-Ok-Some.ensures.scanned in (
-      header-looks c.args.self.now c.begin.new.self c.args.counts.now c.first_line.new.counts c.examine-2.new.self c.begin.new.counts c.in-Some-first_line.line.len c.saturating_sub.result c.in-Some.after.now c.saturating_sub.ensures c.in-Some-first_line.ensures.looks c.examine-2.ensures c.in-Ok-Some.ensures.iterations c.in-Ok-Some.ensures.scanned,
+    let q = header-cost c.args.self.now c.begin.new.self c.args.counts.now c.first_line.new.counts c.examine-2.new.self c.examine-2.new.self c.in-Some-first_line.line.len c.saturating_sub.result c.in-Some.after.now c.saturating_sub.ensures c.in-Some-first_line.ensures.looks c.examine-2.ensures refl 2 (omega (arith, p)) c.in-Ok-Some.ensures.scanned in (
+      header-looks c.args.self.now c.begin.new.self c.args.counts.now c.first_line.new.counts c.examine-2.new.self c.examine-2.new.self c.in-Some-first_line.line.len c.saturating_sub.result c.in-Some.after.now c.saturating_sub.ensures c.in-Some-first_line.ensures.looks c.examine-2.ensures refl c.in-Ok-Some.ensures.scanned,
       omega (arith, q),
     )
 
 pub returns-in-Ok-None-clause-cost : goal.returns-in-Ok-None-clause-cost
 returns-in-Ok-None-clause-cost g c =
     let p = rw c.in-Ok-None.field-0-is at c.in-Ok-None.ensures.begins in
-    let q = header-cost c.args.self.now c.begin.new.self c.args.counts.now c.first_line.new.counts c.examine-2.new.self c.begin.new.counts c.in-Some-first_line.line.len c.saturating_sub.result c.in-Some.after.now c.saturating_sub.ensures c.in-Some-first_line.ensures.looks c.examine-2.ensures c.in-Ok-None.ensures.iterations 0 (omega (arith, p)) c.in-Ok-None.ensures.scanned in (
-      header-looks c.args.self.now c.begin.new.self c.args.counts.now c.first_line.new.counts c.examine-2.new.self c.begin.new.counts c.in-Some-first_line.line.len c.saturating_sub.result c.in-Some.after.now c.saturating_sub.ensures c.in-Some-first_line.ensures.looks c.examine-2.ensures c.in-Ok-None.ensures.iterations c.in-Ok-None.ensures.scanned,
+    let q = header-cost c.args.self.now c.begin.new.self c.args.counts.now c.first_line.new.counts c.examine-2.new.self c.examine-2.new.self c.in-Some-first_line.line.len c.saturating_sub.result c.in-Some.after.now c.saturating_sub.ensures c.in-Some-first_line.ensures.looks c.examine-2.ensures refl 0 (omega (arith, p)) c.in-Ok-None.ensures.scanned in (
+      header-looks c.args.self.now c.begin.new.self c.args.counts.now c.first_line.new.counts c.examine-2.new.self c.examine-2.new.self c.in-Some-first_line.line.len c.saturating_sub.result c.in-Some.after.now c.saturating_sub.ensures c.in-Some-first_line.ensures.looks c.examine-2.ensures refl c.in-Ok-None.ensures.scanned,
       omega (arith, q),
     )
 

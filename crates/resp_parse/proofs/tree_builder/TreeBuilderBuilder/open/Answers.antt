@@ -1,4 +1,5 @@
-use Rattle.std.proofs.Common.{◌≡◌, ◌∷◌, ◌++◌, [], rules, sym, ◌∙◌}
+use Rattle.std.proofs.Common.{◌≡◌, ◌∷◌, ◌++◌, [], rules, ap, sym, ◌∙◌}
+use Rattle.resp_parse.specs.KeptElements.{kept_as}
 use Rattle.resp_parse.proofs.TreeLists.{opened-lists}
 use Rattle.resp_parse.proofs.tree_builder.TreeBuilderBuilder.open.Goals as goal
 
@@ -8,5 +9,5 @@ returns c = record {
       let outer = c.args.self.now.outer.items in
       let elements = c.args.self.now.elements in
       let pushed : c.push.new.self.items ≡ outer ++ (elements ∷ []) = search rules in
-      (pushed ∙ opened-lists outer elements fs h, c.replace.ensures.after ∙ c.in_ok-room.ensures ∙ sym b.none);
+      (pushed ∙ opened-lists outer elements fs h, c.replace.ensures.after ∙ c.in_ok-room.ensures ∙ ap (kept_as c.args.kind) (sym b.none) ∙ ap (λ k. kept_as k f.seen) (sym b.kind_is));
 }
