@@ -36,9 +36,9 @@ module _ {B : Type 0} (m new : Machine B) (c d e f : Counts) (len looked : ℕ) 
   pub header-looks : new.scanned ≡ 0 → Looks m new c f (len + 3)
   header-looks z = record { same = same; once = once; examined = omega (arith, examined-now, z) }
 
-  -- of two iterations some are kept
-  pub header-cost : (kept : ℕ) → f.iterations + prepaid new + kept ≤ e.iterations + prepaid m + 2 → new.scanned ≡ 0 →
-      3 * f.iterations + potential new + 4 * c.examined + 3 * kept + 3 ≤ 3 * c.iterations + potential m + 4 * f.examined
+  -- of one iteration for a value none is kept, or it is
+  pub header-cost : (kept : ℕ) → f.iterations + prepaid new + kept ≤ e.iterations + prepaid m + 1 → new.scanned ≡ 0 →
+      f.iterations + potential new + c.examined + kept + 1 ≤ c.iterations + potential m + f.examined
   header-cost kept p z =
       let l : d.iterations + (looked - 1) ≤ c.iterations + len + 1 = looks.1 in
       omega (arith, p, z, l, looked_is, iterations-looked, examined-now)
@@ -46,7 +46,7 @@ module _ {B : Type 0} (m new : Machine B) (c d e f : Counts) (len looked : ℕ) 
 -- a machine that was `old` has taken n bytes
 pub record CostSoFar {B : Type 0} (old m : Machine B) (c d : Counts) (n : ℕ) : Type 0 where
   pub looks : Looks old m c d n
-  pub cost : 3 * d.iterations + potential m + 4 * c.examined ≤ 3 * c.iterations + potential old + 4 * d.examined
+  pub cost : d.iterations + potential m + c.examined ≤ c.iterations + potential old + d.examined
   pub built_within : least_bytes m ≤ least_bytes old + n
 
 pub CostSoFar-start : {B : Type 0} (m : Machine B) (c : Counts) → CostSoFar m m c c 0

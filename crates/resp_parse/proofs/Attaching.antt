@@ -55,22 +55,22 @@ module _ (now : List OpenAggregate) (f : OpenAggregate) (fs : List OpenAggregate
   pub least_bytes-now : aggregates_least_bytes now ≡ 3 + 3 * built_of f.seen + aggregates_least_bytes fs
   least_bytes-now = ap aggregates_least_bytes now_is
 
-  pub potential-now : aggregates_potential now ≡ 2 + length f.seen + aggregates_potential fs
+  pub potential-now : aggregates_potential now ≡ 1 + aggregates_potential fs
   potential-now = ap aggregates_potential now_is
 
   -- more elements are to come
   pub keeps-least_bytes : (g : OpenAggregate) (new : List OpenAggregate) → g.seen ≡ vs → new ≡ g ∷ fs → aggregates_least_bytes new ≡ aggregates_least_bytes now + 3 * built v
   keeps-least_bytes g new s e = let b : built_of g.seen ≡ built_of vs = ap built_of s in ap aggregates_least_bytes e ∙ omega (arith, b, built-more, least_bytes-now)
 
-  pub keeps-potential : (g : OpenAggregate) (new : List OpenAggregate) → g.seen ≡ vs → new ≡ g ∷ fs → aggregates_potential new ≡ suc (aggregates_potential now)
-  keeps-potential g new s e = let b : length g.seen ≡ length vs = ap length s in ap aggregates_potential e ∙ omega (arith, b, elements-more, potential-now)
+  pub keeps-potential : (g : OpenAggregate) (new : List OpenAggregate) → new ≡ g ∷ fs → aggregates_potential new ≡ aggregates_potential now
+  keeps-potential g new e = ap aggregates_potential e ∙ sym potential-now
 
   -- all elements are there
   pub closes-least_bytes : (u : Value) → Computes (Ok u) (elements_value f.kind vs) → aggregates_least_bytes fs + 3 * built u ≤ aggregates_least_bytes now + 3 * built v
   closes-least_bytes u c = let small : built u ≤ suc (built_of vs) = elements-small f.kind vs u (omega (arith, elements-more)) c in omega (arith, small, built-more, least_bytes-now)
 
-  pub closes-potential : aggregates_potential fs + length vs + 1 ≤ aggregates_potential now
-  closes-potential = omega (arith, elements-more, potential-now)
+  pub closes-potential : aggregates_potential fs + 1 ≤ aggregates_potential now
+  closes-potential = omega (arith, potential-now)
 
 -- what an open aggregate that a value was put in has become
 module _ (d : ℕ) (gs : List OpenAggregate) (w : Value) (now : List OpenAggregate) (v : Value) (same : (more : List ℕ) → place d gs w more ≡ place d now v more) where
@@ -96,7 +96,7 @@ module _ (d : ℕ) (gs : List OpenAggregate) (w : Value) (now : List OpenAggrega
     pub closed-least_bytes : (u : Value) → Computes (Ok u) (elements_value f.kind f.seen) → aggregates_least_bytes fs + 3 * built u ≤ aggregates_least_bytes now + 3 * built v
     closed-least_bytes u c = closes-least_bytes now a.aggregate fs a.old_is v f.seen seen-is u (rw (← kind-is) c)
 
-    pub closed-potential : aggregates_potential fs + length f.seen + 1 ≤ aggregates_potential now
+    pub closed-potential : aggregates_potential fs + 1 ≤ aggregates_potential now
     closed-potential = closes-potential now a.aggregate fs a.old_is v f.seen seen-is
 
     pub closed-shorter : length now ≡ suc (length fs)
@@ -105,8 +105,8 @@ module _ (d : ℕ) (gs : List OpenAggregate) (w : Value) (now : List OpenAggrega
 pub kept-least_bytes : (now : List OpenAggregate) (v : Value) (new : List OpenAggregate) → KeptIn now v new → aggregates_least_bytes new ≡ aggregates_least_bytes now + 3 * built v
 kept-least_bytes now v new a = keeps-least_bytes now a.aggregate a.outer a.old_is v (a.aggregate.seen ++ (v ∷ [])) refl _ new refl a.new_is
 
-pub kept-potential : (now : List OpenAggregate) (v : Value) (new : List OpenAggregate) → KeptIn now v new → aggregates_potential new ≡ suc (aggregates_potential now)
-kept-potential now v new a = keeps-potential now a.aggregate a.outer a.old_is v (a.aggregate.seen ++ (v ∷ [])) refl _ new refl a.new_is
+pub kept-potential : (now : List OpenAggregate) (v : Value) (new : List OpenAggregate) → KeptIn now v new → aggregates_potential new ≡ aggregates_potential now
+kept-potential now v new a = keeps-potential now a.aggregate a.outer a.old_is v (a.aggregate.seen ++ (v ∷ [])) refl _ new a.new_is
 
 -- what a builder holds then
 module _ {B M : Type 0} (S : Stands B M) (b : B) (now : List OpenAggregate) (w : Whole M) (new : List OpenAggregate) (h : S b now (whole w)) where

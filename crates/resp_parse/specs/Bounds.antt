@@ -16,13 +16,12 @@ pub record WorksWithin (s : State) : Type 0 where
   pub tokens : 3 * s.tokens + 2 * length (not_looked_at s) ≤ 2 * length s.since
   pub size : length s.since ≤ s.limits.bytes + length (not_looked_at s)
 
--- the iterations are at most four for three bytes that were looked at and one for each call: where
--- only lines came, too few to look at each byte twice; of these, the looks at a byte of a line are
--- at most as many as the bytes looked at; at most as many aggregates are open as
--- levels are read. Only iterations that the code counts are seen here: none is counted for copying
--- bytes, or for making a value of a line or a body that is all there
+-- the iterations are at most one for each byte that was looked at and one for each call; of these,
+-- the looks at a byte of a line are at most as many as the bytes looked at; at most as many
+-- aggregates are open as levels are read. Only iterations that the code counts are seen here: none
+-- is counted for copying bytes, or for making a value of a line or a body that is all there
 pub record Bounded (s : State) : Type 0 where
-  pub iterations : 3 * s.counts.iterations ≤ 4 * s.counts.examined + 3 * s.counts.calls
+  pub iterations : s.counts.iterations ≤ s.counts.examined + s.counts.calls
   pub looks : s.counts.looks ≤ s.counts.examined
   pub examined : s.counts.examined ≤ s.counts.received
   pub open_aggregates : s.open_aggregates ≤ s.limits.depth

@@ -62,24 +62,23 @@ abbrev pub ReadBuiltWithin : {B : Type 0} {A : Type 0} → Machine B → Machine
 ReadBuiltWithin old new (Ok (n, o)) = least_bytes new ≤ least_bytes old + n
 ReadBuiltWithin old new (Err e) = Unit {0}
 
--- iterations that are paid for and not yet made: two for a value that will be whole, of which one
--- is for its place and one for the pairs of its aggregate
+-- iterations that are paid for and not yet made: one for each value that will be whole, for its
+-- place
 abbrev pub aggregates_potential : List OpenAggregate → ℕ
 aggregates_potential [] = 0
-aggregates_potential (f ∷ fs) = 2 + length f.seen + aggregates_potential fs
+aggregates_potential (f ∷ fs) = 1 + aggregates_potential fs
 
 abbrev pub body_potential : Option Body → ℕ
 body_potential None = 0
-body_potential (Some b) = 2
+body_potential (Some b) = 1
 
 abbrev pub prepaid : {B : Type 0} → Machine B → ℕ
 prepaid m = body_potential m.body + aggregates_potential m.open_aggregates
 
--- thirds of an iteration that are paid for and not spent: three for each of those; and of the line
--- in progress four for each byte, less three for each that an iteration looked at, all but the
--- first two
+-- and with them, of the line in progress one for each byte, less those that an iteration looked at,
+-- all but the first two
 abbrev pub potential : {B : Type 0} → Machine B → ℕ
-potential m = 3 * prepaid m + (4 * m.scanned - 3 * (m.scanned - 2))
+potential m = prepaid m + (m.scanned - (m.scanned - 2))
 
 -- only looks at bytes of a line were counted, each an iteration
 pub record LooksAlone (c d : Counts) : Type 0 where
@@ -99,16 +98,16 @@ abbrev pub LooksForNumeral : List ℕ → Counts → Counts → Result Line ℕ 
 LooksForNumeral bytes c d (Ok l) = LooksAt 0 bytes c d (Some l.len)
 LooksForNumeral bytes c d (Err n) = LooksAlone c d × (d.iterations ≤ c.iterations + (n - 1))
 
--- a value is begun: one that is whole prepays nothing, another two
+-- a value is begun: one that is whole prepays nothing, another one iteration
 abbrev pub Begins : {B M : Type 0} → Machine B → Machine B → Result (Option (Whole M)) ReadError → Type 0
 Begins old new (Ok (Some v)) = prepaid new ≤ prepaid old
-Begins old new (Ok None) = prepaid new ≤ prepaid old + 2
+Begins old new (Ok None) = prepaid new ≤ prepaid old + 1
 Begins old new (Err e) = Unit {0}
 
--- a value is placed: the iterations made are among those prepaid and two for the value
+-- a value is placed: the iterations made are among those prepaid and one for the value
 abbrev pub Places : {B : Type 0} {X : Type 0} → Machine B → Machine B → Counts → Counts → Result X ReadError → Type 0
-Places old new c d (Ok x) = d.iterations + prepaid new ≤ c.iterations + prepaid old + 2
-Places old new c d (Err e) = d.iterations ≤ c.iterations + prepaid old + 2
+Places old new c d (Ok x) = d.iterations + prepaid new ≤ c.iterations + prepaid old + 1
+Places old new c d (Err e) = d.iterations ≤ c.iterations + prepaid old + 1
 
 -- bytes were looked at, and all came before; those of lines one look each
 pub record Looks {B : Type 0} (old new : Machine B) (c d : Counts) (n : ℕ) : Type 0 where
@@ -122,17 +121,17 @@ pub record Stopped {B : Type 0} (old : Machine B) (c d : Counts) (n : ℕ) : Typ
   pub once : d.looks + c.examined ≤ c.looks + d.examined
   pub most : d.examined + old.scanned ≤ c.examined + n
 
--- four thirds of an iteration for each byte examined pay for reading a header; what it begins keeps
--- one iteration more, and a whole value three
+-- one iteration for each byte examined pays for reading a header; what it begins keeps one more,
+-- and a whole value two
 abbrev pub HeaderCost : {B M : Type 0} → Machine B → Machine B → List ℕ → Counts → Counts → Result (Step M) ReadError → Type 0
 HeaderCost old new bytes c d (Ok (step.Waits n)) = Looks old new c d n
-    × (3 * d.iterations + potential new + 4 * c.examined ≤ 3 * c.iterations + potential old + 4 * d.examined)
+    × (d.iterations + potential new + c.examined ≤ c.iterations + potential old + d.examined)
 HeaderCost old new bytes c d (Ok (step.Goes n)) = Looks old new c d n
-    × (3 * d.iterations + potential new + 4 * c.examined + 3 ≤ 3 * c.iterations + potential old + 4 * d.examined)
+    × (d.iterations + potential new + c.examined + 1 ≤ c.iterations + potential old + d.examined)
 HeaderCost old new bytes c d (Ok (step.Whole n v)) = Looks old new c d n
-    × (3 * d.iterations + potential new + 4 * c.examined + 9 ≤ 3 * c.iterations + potential old + 4 * d.examined)
+    × (d.iterations + potential new + c.examined + 2 ≤ c.iterations + potential old + d.examined)
 HeaderCost old new bytes c d (Err e) = Stopped old c d (length bytes)
-    × (3 * d.iterations + 4 * c.examined ≤ 3 * c.iterations + potential old + 4 * d.examined)
+    × (d.iterations + c.examined ≤ c.iterations + potential old + d.examined)
 
 -- a step costs as much, after its own iteration
 abbrev pub StepCost : {B M : Type 0} → Machine B → Machine B → List ℕ → Counts → Counts → Result (Step M) ReadError → Type 0
@@ -142,12 +141,12 @@ StepCost old new bytes c d r =
 -- n bytes were taken, which pay for what was done and one iteration more
 abbrev pub Spent : {B : Type 0} → Machine B → Machine B → Counts → Counts → ℕ → Type 0
 Spent old new c d n = Looks old new c d n
-    × (3 * d.iterations + potential new + 4 * c.examined ≤ 3 * c.iterations + potential old + 4 * d.examined + 3)
+    × (d.iterations + potential new + c.examined ≤ c.iterations + potential old + d.examined + 1)
 
 -- or the machine stopped in these
 abbrev pub SpentAtStop : {B : Type 0} → Machine B → List ℕ → Counts → Counts → Type 0
 SpentAtStop old bytes c d = Stopped old c d (length bytes)
-    × (3 * d.iterations + 4 * c.examined ≤ 3 * c.iterations + potential old + 4 * d.examined + 3)
+    × (d.iterations + c.examined ≤ c.iterations + potential old + d.examined + 1)
 
 abbrev pub RunCost : {B : Type 0} {A : Type 0} → Machine B → Machine B → List ℕ → Counts → Counts →
     Result (ℕ × A) ReadError → Type 0

@@ -1,5 +1,5 @@
 -- What a parser keeps of itself.
-use Rattle.std.specs.Prelude.{◌≡◌, ◌↔◌, ◌<◌, ◌≤◌, ◌+◌, ◌*◌, ℕ, Bool, true, false, List, [], ◌++◌, length, drop, Option, None, Some, IfSome}
+use Rattle.std.specs.Prelude.{◌≡◌, ◌↔◌, ◌<◌, ◌≤◌, ◌+◌, ℕ, Bool, true, false, List, [], ◌++◌, length, drop, Option, None, Some, IfSome}
 use Rattle.resp_parse.specs.declared.machine.Machine.{Machine}
 use Rattle.resp_parse.specs.declared.decoder.Decoder.TheInside.{Inside}
 use Rattle.resp_errors.specs.declared.kinds.FrameFault.TheVariants.{TooLong}
@@ -37,11 +37,11 @@ pub record Holds {B : Type 0} (m : Machine B) (unparsed since : List ℕ) (faile
 -- the bytes examined and the calls pay for the iterations made and for the machine's potential;
 -- what was received was examined or is unparsed
 pub record Balanced {B : Type 0} (m : Machine B) (unparsed : List ℕ) (counts : Counts) : Type 0 where
-  pub cost : 3 * counts.iterations + potential m ≤ 4 * counts.examined + 3 * counts.calls
+  pub cost : counts.iterations + potential m ≤ counts.examined + counts.calls
   pub accounted : counts.examined + length unparsed ≡ counts.received + m.scanned
 
 pub record Counted {B : Type 0} (m : Machine B) (unparsed : List ℕ) (counts : Counts) (failed : Bool) : Type 0 where
-  pub iterations : 3 * counts.iterations ≤ 4 * counts.examined + 3 * counts.calls
+  pub iterations : counts.iterations ≤ counts.examined + counts.calls
   pub looks : counts.looks ≤ counts.examined
   pub examined : counts.examined ≤ counts.received
   pub works : failed ≡ false → Balanced m unparsed counts

@@ -27,11 +27,10 @@ use std::marker::Model;
 /// [`Parser::parse_from`] asks a source for the bytes that the next value needs. It does not matter
 /// how the bytes are cut: the values are those of the pieces joined.
 ///
-/// Nor does it matter for the work: the parser goes on where it stopped. Its loops make at most
-/// four iterations for three bytes that it has looked at and one for each call, at most as many
-/// aggregates are open as levels are read, and of the value in progress it holds at most one value
-/// for each three bytes looked at, whatever lengths are announced. Contracts see these numbers in
-/// its state.
+/// Nor does it matter for the work: the parser goes on where it stopped. Its loops make at most one
+/// iteration for each byte that it has looked at and one for each call, at most as many aggregates
+/// are open as levels are read, and of the value in progress it holds at most one value for each
+/// three bytes looked at, whatever lengths are announced. Contracts see these numbers in its state.
 ///
 /// Values are read within [`Limits`]: 100 levels of values inside values and 2^63 - 1 bytes, or
 /// those that [`Parser::with_limits`] was given. No call changes them. A value with more levels is

@@ -107,3 +107,10 @@ returns-in-Err-clause-bounds g c =
     let kept = c.self-2.invariant in
     rw c.make_room.ensures.same
     (Bounded-from_kept p.size_limit p.machine (drop p.consumed p.buffer.items) p.since p.failed p.counts p.taken kept.depth kept.holds kept.counted kept.taken _ _ (λ w. g.met.B.Builder.paid_for _ _ _ (kept.builds w)))
+
+-- there is room for the bytes
+pub invariant_of-self-in_err-extend_from_slice-in-Ok : goal.invariant_of-self-in_err-extend_from_slice-in-Ok
+invariant_of-self-in_err-extend_from_slice-in-Ok g c =
+    let came : c.deref.result.now ≡ c.fill.new.buf = grind (arith, common_steps) in
+    let few : length (drop c.fill_front-direct.result (take c.in-Ok.n c.deref.result.now)) ≤ 4096 = grind (arith, common_steps, came) in
+    absurd (grind (arith, common_steps, few, c.in_err-extend_from_slice-in-Ok.ensures.full, c.make_room.ensures.room, c.if-is_err.ensures.value, c.if-is_err.ensures.negation))
