@@ -79,16 +79,6 @@ Counted-fed m u v n c d failed k e l =
       works = λ w. let b = k.works w in record { cost = omega (arith, b.cost); accounted = omega (arith, b.accounted, l) };
     })
 
--- bytes came from a source
-pub Counted-asked : {B : Type 0} (m : Machine B) (u v : List ℕ) (n : ℕ) (c d : Counts) (failed : Bool) → Counted m u c failed → d ≡ record c { received = c.received + n } → length v ≡ length u + n → Counted m v d failed
-Counted-asked m u v n c d failed k e l =
-    rw e (record {
-      iterations = omega (arith, k.iterations);
-      looks = k.looks;
-      examined = omega (arith, k.examined);
-      works = λ w. let b = k.works w in record { cost = omega (arith, b.cost); accounted = omega (arith, b.accounted, l) };
-    })
-
 pub Counted-failing : {B : Type 0} (m : Machine B) (u : List ℕ) (c : Counts) (failed : Bool) → Counted m u c failed → Counted m u c true
 Counted-failing m u c failed k = record { iterations = k.iterations; looks = k.looks; examined = k.examined; works = λ e. absurd (let z : true ≡ false = e in cc) }
 

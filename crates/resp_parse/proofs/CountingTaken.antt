@@ -25,22 +25,6 @@ CountsTaken-fresh most m u since f s e = record {
   few = omega arith;
 }
 
--- bytes came to the buffer
-pub CountsTaken-asked : {B : Type 0} (most : ℕ) (m : Machine B) (u u' since since' bytes : List ℕ) (n : ℕ) → CountsTaken most m u since n → u' ≡ u ++ bytes → since' ≡ since ++ bytes → CountsTaken most m u' since' n
-CountsTaken-asked most m u u' since since' bytes n h l e =
-    let k : length since' ≡ length since + length bytes = ap length e ∙ length-append since bytes in
-    let j : length u' ≡ length u + length bytes = ap length l ∙ length-append u bytes in
-    record {
-      counted = omega (arith, h.counted, k, j);
-      kept = h.kept;
-      before = h.before;
-      later = h.later ++ bytes;
-      unparsed_is = l ∙ ap (λ x. x ++ bytes) h.unparsed_is ∙ append_assoc h.kept h.later bytes;
-      since_is = e ∙ ap (λ x. x ++ bytes) h.since_is ∙ append_assoc h.before h.later bytes;
-      resumes = h.resumes;
-      few = h.few;
-    }
-
 -- bytes were fed, the first straight to the open body
 module _ {B : Type 0} (most : ℕ) (m new : Machine B) (c d : Counts) (u u' since since' bytes direct rest : List ℕ) (n : ℕ) (h : CountsTaken most m u since n) (f : FilledOpenBody m direct new c d) (few : n + length direct ≤ most) (joined : direct ++ rest ≡ bytes)
     (unparsed : u' ≡ u ++ rest) (received : since' ≡ since ++ bytes) where

@@ -170,21 +170,5 @@ Holds-fed m buffer buffer' since since' bytes consumed failed l w h e k =
 pub fed-fits : (buffer buffer' bytes : List ℕ) (consumed : ℕ) → consumed ≤ length buffer → buffer' ≡ buffer ++ bytes → consumed ≤ length buffer'
 fed-fits buffer buffer' bytes consumed l e = rw e (grind (arith, common_steps))
 
--- some bytes were added, by a parser that may have failed
-pub Holds-asked : {B : Type 0} (m : Machine B) (buffer buffer' since since' bytes : List ℕ) (consumed : ℕ) (failed : Bool) → consumed ≤ length buffer → 0 < length bytes → Holds m (drop consumed buffer) since failed →
-    buffer' ≡ buffer ++ bytes → since' ≡ since ++ bytes → Holds m (drop consumed buffer') since' failed
-Holds-asked m buffer buffer' since since' bytes consumed failed l some h e k =
-    let d : drop consumed (buffer ++ bytes) ≡ drop consumed buffer ++ bytes = grind (arith, common_steps) in
-    rw (e, k, d) (record {
-      resumes = λ w. Resumes-fed m (drop consumed buffer) since bytes (h.resumes w);
-      progress = (
-        (λ z. absurd (let y : length (since ++ bytes) ≡ 0 = ap length z in grind (arith, common_steps))),
-        (λ r. absurd (let y : length (drop consumed buffer ++ bytes) ≡ 0 = ap length r.none in grind (arith, common_steps))),
-      );
-    })
-
 pub fed-unparsed : (buffer buffer' bytes : List ℕ) (consumed : ℕ) → consumed ≤ length buffer → buffer' ≡ buffer ++ bytes → drop consumed buffer' ≡ drop consumed buffer ++ bytes
 fed-unparsed buffer buffer' bytes consumed l e = ap (drop consumed) e ∙ drop-append consumed buffer bytes l
-
-pub fed-length : (buffer buffer' bytes : List ℕ) (consumed : ℕ) → consumed ≤ length buffer → buffer' ≡ buffer ++ bytes → length (drop consumed buffer') ≡ length (drop consumed buffer) + length bytes
-fed-length buffer buffer' bytes consumed l e = rw e (grind (arith, common_steps))

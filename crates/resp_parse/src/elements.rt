@@ -23,6 +23,7 @@ pub(crate) enum Elements {
 
 impl Elements {
     /// One element more.
+    #[inline(always)]
     pub(crate) fn push(&mut self, element: Value) -> Result<(), AllocError>
         ensures kept { (kind : ElementsKind) (vs : List Value) → self.old ≡ kept_as kind vs →
             OnOk result (self.new ≡ kept_as kind (vs ++ element ∷ [])) }
