@@ -27,7 +27,10 @@ pub use resp_command::{
     Arg, ArgsIter, Cmd, ConnectionLike, Iter, Scan, ScanProgress, cmd, pack_command,
 };
 pub use resp_flat::{FlatElements, FlatPairs, FlatReply, FlatValue, Token, TokenKind};
-pub use resp_from::{FromRedisValue, from_redis_value, from_redis_value_by, from_redis_value_ref};
+pub use resp_from::{
+    FromRedisValue, Reply, from_flat_reply, from_redis_value, from_redis_value_by,
+    from_redis_value_ref,
+};
 pub use resp_link::{ByteLink, CommandSink, Writing, send_all};
 pub use resp_parse::{
     FlatParser, History, Limits, Parser, Reading, ReplySource, is_double_text, parse_redis_value,

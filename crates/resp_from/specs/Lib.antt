@@ -3,8 +3,10 @@ pub mod Booleans
 pub mod Conversion
 pub mod Integers
 pub mod lemmas
+pub mod Lines
 pub mod Lists
 pub mod Maps
+pub mod Replies
 pub mod Results
 pub mod Rules
 pub mod Texts

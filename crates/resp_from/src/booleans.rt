@@ -6,6 +6,7 @@ ghost use Rattle.resp_from.specs.Booleans.{OfBool, TruthText};
 
 use crate::attributes::strip_attribute_ref;
 use crate::conversion::FromRedisValue;
+use crate::reply::Reply;
 use resp_value::{ParsingError, Value};
 use std::alloc::Global;
 
@@ -46,6 +47,8 @@ impl FromRedisValue for bool {
 
     ghost error_of_value = { AnyButMemory };
 
+    ghost reads_tree = { λ _. ⊥ };
+
     #[tactic(auto, using(crate::proofs::Conversions::decided))]
     fn from_redis_value(_alloc: Global, value: Value) -> Result<bool, ParsingError> {
         let truth = read_bool(&value);
@@ -59,5 +62,15 @@ impl FromRedisValue for bool {
         ensures errors { IfErr result (AnyButMemory value.now) }
     {
         read_bool(value)
+    }
+
+    fn from_reply<R: Reply>(alloc: Global, reply: R) -> Result<bool, ParsingError> {
+        if let Some(truth) = reply.as_bool() {
+            return Ok(truth);
+        }
+        match reply.as_line() {
+            Some(text) => read_truth_text(text),
+            None => read_bool(&reply.into_value(alloc)?),
+        }
     }
 }

@@ -1,13 +1,17 @@
 //! The trait of the types that a reply converts to.
 
-ghost use Rattle.std.specs.Prelude.{◌≡◌, ℕ, Bool, false, IfErr, MatchResult};
+ghost use Rattle.std.specs.Prelude.{◌≡◌, ℕ, Bool, false, IfErr, MatchResult, ⊤};
+ghost use Rattle.std.specs.Result.{IsErrAnd};
 ghost use Rattle.resp_value.specs.declared.value.Value.{Value};
 ghost use Rattle.resp_errors.specs.declared.parsing_error.ParsingError.{ParsingError};
 ghost use Rattle.resp_errors.specs.declared.parsing_error.ParsingError.TheVariants as parsing;
+ghost use Rattle.resp_flat.specs.declared.token.TokenKind.{TokenKind};
 ghost use Rattle.resp_from.specs.Conversion.{AnyError, OfVia, OrMemory, Converts, ConvertsList};
 ghost use Rattle.resp_from.specs.Conversion.{ConvertsMaybe};
 ghost use Rattle.resp_from.specs.Rules.{OfList, OfEach, OfBytes};
+ghost use Rattle.resp_from.specs.Replies.{RefusesTokens};
 
+use crate::reply::Reply;
 use crate::rules::{answer_each, convert_bytes, convert_list, convert_one, copies_of, pieces_of};
 use resp_value::{Bytes, ParsingError, Value};
 use std::alloc::Global;
@@ -34,6 +38,9 @@ pub trait FromRedisValue: Sized + Drop {
     // Holds of a reply and each error that its conversion may answer; of any, by default.
     ghost error_of_value: { Value → ParsingError → Type 0 } = { AnyError };
 
+    // Holds of what `from_reply` reads by way of a tree: of everything, where it is left out.
+    ghost reads_tree: { TokenKind → Type 0 } = { λ _. ⊤ };
+
     /// The value of a reply.
     ///
     /// Refused where the reply is no value of the type, or on `OutOfMemory`.
@@ -49,6 +56,21 @@ pub trait FromRedisValue: Sized + Drop {
         ensures errors { IfErr result (OrMemory (error_of_value value.now)) }
     {
         Self::from_redis_value(alloc, value.try_clone(alloc)?)
+    }
+
+    /// The value of a reply in any form; unless the type says more, by way of a tree.
+    ///
+    /// Refused where the reply shows no value of the type, or on `OutOfMemory`. Where a cursor in a
+    /// flat reply stands at tokens that are no value's, at a value of more than 1,000 levels, or at
+    /// one with texts that no parser gives (`IsReadable`), it is refused with the text `the tokens
+    /// and the text are no value's` if a tree is read (`reads_tree`), and else it may convert to any
+    /// value of the type: [`FlatValue::to_value`](resp_flat::FlatValue::to_value) tells.
+    fn from_reply<R: Reply>(alloc: Global, reply: R) -> Result<Self, ParsingError>
+        ensures converts { (v : Value) → R.shows reply v → Converts (of_value v) result }
+        ensures refused { reads_tree (R.token_kind reply) → R.shows_nothing reply
+            → IsErrAnd result RefusesTokens }
+    {
+        Self::from_redis_value(alloc, reply.into_value(alloc)?)
     }
 
     /// The values of a list of replies.

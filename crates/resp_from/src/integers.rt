@@ -11,6 +11,7 @@ ghost use Rattle.resp_from.specs.Integers.{OfInteger, OfTextBytes};
 use crate::attributes::strip_attribute_ref;
 use crate::conversion::FromRedisValue;
 use crate::digits::few_digits;
+use crate::reply::Reply;
 use resp_value::{ParsingError, Value};
 use std::alloc::Global;
 use std::num::{ParseIntError, TryFromIntError};
@@ -117,6 +118,8 @@ impl<T: IntegerFromRedisValue> FromRedisValue for T {
 
     ghost error_of_value = { AnyButMemory };
 
+    ghost reads_tree = { λ _. ⊥ };
+
     #[tactic(auto, using(crate::proofs::Conversions::decided))]
     fn from_redis_value(_alloc: Global, value: Value) -> Result<T, ParsingError> {
         integer_of(&value)
@@ -128,6 +131,16 @@ impl<T: IntegerFromRedisValue> FromRedisValue for T {
         ensures errors { IfErr result (AnyButMemory value.now) }
     {
         integer_of(value)
+    }
+
+    fn from_reply<R: Reply>(alloc: Global, reply: R) -> Result<T, ParsingError> {
+        if let Some(number) = reply.as_int() {
+            return T::from_number(i64::from(number));
+        }
+        match reply.as_line() {
+            Some(bytes) => read_bytes(bytes),
+            None => read_integer(&reply.into_value(alloc)?),
+        }
     }
 }
 

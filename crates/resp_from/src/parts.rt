@@ -2,4 +2,4 @@
 
 pub use crate::attributes::strip_attribute;
 pub use crate::refusals::refuse;
-pub use crate::tuples::{Elements, Ignored};
+pub use crate::tuples::{Elements, Ignored, take_elements};

@@ -9,6 +9,7 @@ ghost use Rattle.resp_from.specs.Rules.{AreGroups, ArePieces, OfGroups, OfList, 
 ghost use Rattle.resp_from.specs.Rules.{is_one_each};
 
 use crate::conversion::FromRedisValue;
+use crate::lists::convert_elements;
 use resp_value::{Items, ParsingError, Value};
 use std::alloc::{AllocError, Global};
 
@@ -19,11 +20,7 @@ pub fn convert_each<T: FromRedisValue>(
 ) -> Result<Vec<T>, ParsingError>
     ensures converts { ConvertsList (AllZip T.of_value replies.items) result }
 {
-    let mut all = Vec::with_capacity(alloc, replies.len())?;
-    for reply in replies {
-        all.push_reserved(T::from_redis_value(alloc, reply)?);
-    }
-    Ok(all)
+    convert_elements::<T, Value>(alloc, replies.len(), replies.into_iter())
 }
 
 /// One value or refusal for each reply; fails only with `OutOfMemory`.

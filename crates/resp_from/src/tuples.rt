@@ -11,6 +11,7 @@ ghost use Rattle.resp_from.specs.Tuples.{in_turn, of_length};
 use crate::attributes::strip_attribute;
 use crate::conversion::FromRedisValue;
 use crate::refusals::refuse;
+use crate::reply::Reply;
 use resp_value::{Items, ParsingError, Value};
 use std::alloc::{AllocError, Global};
 use std::vec::IntoIter;
@@ -75,8 +76,9 @@ pub trait Elements: Sized {
     ghost of_values: { List Value → Self → Type 0 };
 
     /// Converts all values that are left.
-    fn take(alloc: Global, values: &mut IntoIter<Value>) -> Result<Self, ParsingError>
-        ensures converts { Converts (of_values (into_iter_items values.old)) result };
+    fn take<R: Reply>(alloc: Global, values: &mut R::Elements) -> Result<Self, ParsingError>
+        ensures converts { (vs : List Value) → R.show values.old vs
+            → Converts (of_values vs) result };
 }
 
 impl Elements for () {
@@ -84,24 +86,24 @@ impl Elements for () {
 
     ghost of_values = { λ values _. NoMore values };
 
-    fn take(_alloc: Global, values: &mut IntoIter<Value>) -> Result<(), ParsingError> {
-        match values.next() {
-            Some(value) => refuse(value, "Array response of wrong dimension"),
-            None => Ok(()),
+    fn take<R: Reply>(_alloc: Global, values: &mut R::Elements) -> Result<(), ParsingError> {
+        if R::next_of(values).is_some() {
+            return Err(ParsingError::from("Array response of wrong dimension"));
         }
+        Ok(())
     }
 }
 
-impl<A: FromRedisValue, R: Elements> Elements for (A, R) {
+impl<A: FromRedisValue, E: Elements> Elements for (A, E) {
     ghost use Rattle.resp_from.specs.Tuples.{First};
 
-    ghost of_values = { λ values x. First A.of_value x.0 (λ rest. R.of_values rest x.1) values };
+    ghost of_values = { λ values x. First A.of_value x.0 (λ rest. E.of_values rest x.1) values };
 
-    fn take(alloc: Global, values: &mut IntoIter<Value>) -> Result<(A, R), ParsingError> {
-        match values.next() {
+    fn take<R: Reply>(alloc: Global, values: &mut R::Elements) -> Result<(A, E), ParsingError> {
+        match R::next_of(values) {
             Some(value) => {
-                let first = A::from_redis_value(alloc, value)?;
-                let rest = R::take(alloc, values)?;
+                let first = A::from_reply(alloc, value)?;
+                let rest = E::take::<R>(alloc, values)?;
                 Ok((first, rest))
             }
             None => Err(ParsingError::from("Array response of wrong dimension")),
@@ -115,17 +117,53 @@ pub struct Ignored;
 impl Elements for Ignored {
     ghost of_values = { λ _ _. ⊤ };
 
-    fn take(_alloc: Global, _values: &mut IntoIter<Value>) -> Result<Ignored, ParsingError> {
+    fn take<R: Reply>(_alloc: Global, _values: &mut R::Elements) -> Result<Ignored, ParsingError> {
         Ok(Ignored)
     }
 }
 
-/// All elements of a tuple of this width.
-fn elements_of<P: Elements>(alloc: Global, width: usize, reply: Value) -> Result<P, ParsingError>
-    ensures converts { Converts
-        (λ elements. HasValues width reply (λ values. P.of_values values elements)) result }
+/// The elements that trees are.
+pub fn take_elements<E: Elements>(
+    alloc: Global,
+    values: &mut IntoIter<Value>,
+) -> Result<E, ParsingError>
+    ensures converts { Converts (E.of_values (into_iter_items values.old)) result }
 {
-    P::take(alloc, &mut find_values(alloc, width, reply)?.into_iter())
+    E::take::<Value>(alloc, values)
+}
+
+/// All elements of a tuple of this width, of a tree.
+#[inline(never)]
+fn elements_of_tree<E: Elements>(
+    alloc: Global,
+    width: usize,
+    reply: Value,
+) -> Result<E, ParsingError>
+    ensures converts { Converts
+        (λ elements. HasValues width reply (λ values. E.of_values values elements)) result }
+{
+    take_elements(alloc, &mut find_values(alloc, width, reply)?.into_iter())
+}
+
+/// All elements of a tuple of this width: of an array or a set where they stand, and else of a tree.
+fn elements_of<E: Elements, R: Reply>(
+    alloc: Global,
+    width: usize,
+    reply: R,
+) -> Result<E, ParsingError>
+    ensures converts { (v : Value) → R.shows reply v
+        → Converts (λ elements. HasValues width v (λ values. E.of_values values elements)) result }
+{
+    let len = reply.len();
+    match reply.into_elements() {
+        Ok(mut elements) => {
+            if len != width {
+                return Err(ParsingError::from("Array response of wrong dimension"));
+            }
+            E::take::<R>(alloc, &mut elements)
+        }
+        Err(other) => elements_of_tree(alloc, width, other.into_value(alloc)?),
+    }
 }
 
 /// A tuple is an array or a set of as many values, or a map of half as many pairs, element by
@@ -141,8 +179,14 @@ impl<A: FromRedisValue> FromRedisValue for (A,) {
 
     ghost of_value = { λ reply x. HasValues 1 reply (First A.of_value x.0 NoMore) };
 
+    ghost reads_tree = { λ _. ⊥ };
+
     fn from_redis_value(alloc: Global, value: Value) -> Result<(A,), ParsingError> {
-        let (a, ()) = elements_of(alloc, 1, value)?;
+        Self::from_reply(alloc, value)
+    }
+
+    fn from_reply<R: Reply>(alloc: Global, reply: R) -> Result<(A,), ParsingError> {
+        let (a, ()) = elements_of(alloc, 1, reply)?;
         Ok((a,))
     }
 }
@@ -159,8 +203,14 @@ impl<A: FromRedisValue, B: FromRedisValue> FromRedisValue for (A, B) {
     ghost of_value = { λ reply x. HasValues 2 reply
         (First A.of_value x.0 (First B.of_value x.1 NoMore)) };
 
+    ghost reads_tree = { λ _. ⊥ };
+
     fn from_redis_value(alloc: Global, value: Value) -> Result<(A, B), ParsingError> {
-        let (a, (b, ())) = elements_of(alloc, 2, value)?;
+        Self::from_reply(alloc, value)
+    }
+
+    fn from_reply<R: Reply>(alloc: Global, reply: R) -> Result<(A, B), ParsingError> {
+        let (a, (b, ())) = elements_of(alloc, 2, reply)?;
         Ok((a, b))
     }
 }
@@ -177,8 +227,14 @@ impl<A: FromRedisValue, B: FromRedisValue, C: FromRedisValue> FromRedisValue for
     ghost of_value = { λ reply x. HasValues 3 reply
         (First A.of_value x.0 (First B.of_value x.1 (First C.of_value x.2 NoMore))) };
 
+    ghost reads_tree = { λ _. ⊥ };
+
     fn from_redis_value(alloc: Global, value: Value) -> Result<(A, B, C), ParsingError> {
-        let (a, (b, (c, ()))) = elements_of(alloc, 3, value)?;
+        Self::from_reply(alloc, value)
+    }
+
+    fn from_reply<R: Reply>(alloc: Global, reply: R) -> Result<(A, B, C), ParsingError> {
+        let (a, (b, (c, ()))) = elements_of(alloc, 3, reply)?;
         Ok((a, b, c))
     }
 }
@@ -197,8 +253,14 @@ impl<A: FromRedisValue, B: FromRedisValue, C: FromRedisValue, D: FromRedisValue>
         (First A.of_value x.0 (First B.of_value x.1
         (First C.of_value x.2 (First D.of_value x.3 NoMore)))) };
 
+    ghost reads_tree = { λ _. ⊥ };
+
     fn from_redis_value(alloc: Global, value: Value) -> Result<(A, B, C, D), ParsingError> {
-        let (a, (b, (c, (d, ())))) = elements_of(alloc, 4, value)?;
+        Self::from_reply(alloc, value)
+    }
+
+    fn from_reply<R: Reply>(alloc: Global, reply: R) -> Result<(A, B, C, D), ParsingError> {
+        let (a, (b, (c, (d, ())))) = elements_of(alloc, 4, reply)?;
         Ok((a, b, c, d))
     }
 }
@@ -222,8 +284,14 @@ impl<
         (First A.of_value x.0 (First B.of_value x.1
         (First C.of_value x.2 (First D.of_value x.3 (First E.of_value x.4 NoMore))))) };
 
+    ghost reads_tree = { λ _. ⊥ };
+
     fn from_redis_value(alloc: Global, value: Value) -> Result<(A, B, C, D, E), ParsingError> {
-        let (a, (b, (c, (d, (e, ()))))) = elements_of(alloc, 5, value)?;
+        Self::from_reply(alloc, value)
+    }
+
+    fn from_reply<R: Reply>(alloc: Global, reply: R) -> Result<(A, B, C, D, E), ParsingError> {
+        let (a, (b, (c, (d, (e, ()))))) = elements_of(alloc, 5, reply)?;
         Ok((a, b, c, d, e))
     }
 }
@@ -249,8 +317,14 @@ impl<
         (First C.of_value x.2 (First D.of_value x.3
         (First E.of_value x.4 (First F.of_value x.5 NoMore)))))) };
 
+    ghost reads_tree = { λ _. ⊥ };
+
     fn from_redis_value(alloc: Global, value: Value) -> Result<(A, B, C, D, E, F), ParsingError> {
-        let (a, (b, (c, (d, (e, (f, ())))))) = elements_of(alloc, 6, value)?;
+        Self::from_reply(alloc, value)
+    }
+
+    fn from_reply<R: Reply>(alloc: Global, reply: R) -> Result<(A, B, C, D, E, F), ParsingError> {
+        let (a, (b, (c, (d, (e, (f, ())))))) = elements_of(alloc, 6, reply)?;
         Ok((a, b, c, d, e, f))
     }
 }
@@ -277,11 +351,20 @@ impl<
         (First C.of_value x.2 (First D.of_value x.3
         (First E.of_value x.4 (First F.of_value x.5 (First G.of_value x.6 NoMore))))))) };
 
+    ghost reads_tree = { λ _. ⊥ };
+
     fn from_redis_value(
         alloc: Global,
         value: Value,
     ) -> Result<(A, B, C, D, E, F, G), ParsingError> {
-        let (a, (b, (c, (d, (e, (f, (g, ()))))))) = elements_of(alloc, 7, value)?;
+        Self::from_reply(alloc, value)
+    }
+
+    fn from_reply<R: Reply>(
+        alloc: Global,
+        reply: R,
+    ) -> Result<(A, B, C, D, E, F, G), ParsingError> {
+        let (a, (b, (c, (d, (e, (f, (g, ()))))))) = elements_of(alloc, 7, reply)?;
         Ok((a, b, c, d, e, f, g))
     }
 }
@@ -310,11 +393,20 @@ impl<
         (First E.of_value x.4 (First F.of_value x.5
         (First G.of_value x.6 (First H.of_value x.7 NoMore)))))))) };
 
+    ghost reads_tree = { λ _. ⊥ };
+
     fn from_redis_value(
         alloc: Global,
         value: Value,
     ) -> Result<(A, B, C, D, E, F, G, H), ParsingError> {
-        let (a, (b, (c, (d, (e, (f, (g, (h, ())))))))) = elements_of(alloc, 8, value)?;
+        Self::from_reply(alloc, value)
+    }
+
+    fn from_reply<R: Reply>(
+        alloc: Global,
+        reply: R,
+    ) -> Result<(A, B, C, D, E, F, G, H), ParsingError> {
+        let (a, (b, (c, (d, (e, (f, (g, (h, ())))))))) = elements_of(alloc, 8, reply)?;
         Ok((a, b, c, d, e, f, g, h))
     }
 }
@@ -344,11 +436,20 @@ impl<
         (First E.of_value x.4 (First F.of_value x.5
         (First G.of_value x.6 (First H.of_value x.7 (First I.of_value x.8 NoMore))))))))) };
 
+    ghost reads_tree = { λ _. ⊥ };
+
     fn from_redis_value(
         alloc: Global,
         value: Value,
     ) -> Result<(A, B, C, D, E, F, G, H, I), ParsingError> {
-        let (a, (b, (c, (d, (e, (f, (g, (h, (i, ()))))))))) = elements_of(alloc, 9, value)?;
+        Self::from_reply(alloc, value)
+    }
+
+    fn from_reply<R: Reply>(
+        alloc: Global,
+        reply: R,
+    ) -> Result<(A, B, C, D, E, F, G, H, I), ParsingError> {
+        let (a, (b, (c, (d, (e, (f, (g, (h, (i, ()))))))))) = elements_of(alloc, 9, reply)?;
         Ok((a, b, c, d, e, f, g, h, i))
     }
 }
@@ -380,11 +481,20 @@ impl<
         (First G.of_value x.6 (First H.of_value x.7
         (First I.of_value x.8 (First J.of_value x.9 NoMore)))))))))) };
 
+    ghost reads_tree = { λ _. ⊥ };
+
     fn from_redis_value(
         alloc: Global,
         value: Value,
     ) -> Result<(A, B, C, D, E, F, G, H, I, J), ParsingError> {
-        let (a, (b, (c, (d, (e, (f, (g, (h, (i, (j, ())))))))))) = elements_of(alloc, 10, value)?;
+        Self::from_reply(alloc, value)
+    }
+
+    fn from_reply<R: Reply>(
+        alloc: Global,
+        reply: R,
+    ) -> Result<(A, B, C, D, E, F, G, H, I, J), ParsingError> {
+        let (a, (b, (c, (d, (e, (f, (g, (h, (i, (j, ())))))))))) = elements_of(alloc, 10, reply)?;
         Ok((a, b, c, d, e, f, g, h, i, j))
     }
 }
@@ -417,12 +527,21 @@ impl<
         (First G.of_value x.6 (First H.of_value x.7
         (First I.of_value x.8 (First J.of_value x.9 (First K.of_value x.10 NoMore))))))))))) };
 
+    ghost reads_tree = { λ _. ⊥ };
+
     fn from_redis_value(
         alloc: Global,
         value: Value,
     ) -> Result<(A, B, C, D, E, F, G, H, I, J, K), ParsingError> {
+        Self::from_reply(alloc, value)
+    }
+
+    fn from_reply<R: Reply>(
+        alloc: Global,
+        reply: R,
+    ) -> Result<(A, B, C, D, E, F, G, H, I, J, K), ParsingError> {
         let (a, (b, (c, (d, (e, (f, (g, (h, (i, (j, (k, ()))))))))))) = elements_of(
-            alloc, 11, value,
+            alloc, 11, reply,
         )?;
         Ok((a, b, c, d, e, f, g, h, i, j, k))
     }
@@ -458,12 +577,21 @@ impl<
         (First I.of_value x.8 (First J.of_value x.9
         (First K.of_value x.10 (First L.of_value x.11 NoMore)))))))))))) };
 
+    ghost reads_tree = { λ _. ⊥ };
+
     fn from_redis_value(
         alloc: Global,
         value: Value,
     ) -> Result<(A, B, C, D, E, F, G, H, I, J, K, L), ParsingError> {
+        Self::from_reply(alloc, value)
+    }
+
+    fn from_reply<R: Reply>(
+        alloc: Global,
+        reply: R,
+    ) -> Result<(A, B, C, D, E, F, G, H, I, J, K, L), ParsingError> {
         let (a, (b, (c, (d, (e, (f, (g, (h, (i, (j, (k, (l, ())))))))))))) = elements_of(
-            alloc, 12, value,
+            alloc, 12, reply,
         )?;
         Ok((a, b, c, d, e, f, g, h, i, j, k, l))
     }

@@ -2,8 +2,9 @@
 
 use crate::checks::{Test, assert_text, reply};
 use crate::testing::debug_text;
-use resp_core::{FlatReply, Items, RedisResult, Text, Value, from_redis_value};
-use resp_from_flat::{FromFlatValue, from_flat_reply};
+use resp_core::{
+    FlatReply, FromRedisValue, Items, RedisResult, Text, Value, from_flat_reply, from_redis_value,
+};
 use std::collections::{BTreeMap, BTreeSet};
 use std::fmt::Debug;
 
@@ -35,7 +36,7 @@ const REPLIES: &[&[u8]] = &[
 ];
 
 /// The flat form of the reply converts as the reply itself does.
-fn agrees<T: FromFlatValue + Debug>(rt: &impl Test, bytes: &[u8]) {
+fn agrees<T: FromRedisValue + Debug>(rt: &impl Test, bytes: &[u8]) {
     let value = reply(rt, bytes);
     let mut flat = FlatReply::new(rt.alloc());
     flat.append(&value).expect(rt, "memory");

@@ -3,10 +3,9 @@
 use crate::heap::{Test, made, refuse, shows};
 use resp_core::{
     FlatReply, FromRedisValue, IncrexResult, Items, ParsingError, RedisError, RedisResult, Role,
-    Text, Value, ValueType, from_redis_value, from_redis_value_by, from_redis_value_ref,
-    parse_redis_value,
+    Text, Value, ValueType, from_flat_reply, from_redis_value, from_redis_value_by,
+    from_redis_value_ref, parse_redis_value,
 };
-use resp_from_flat::{FromFlatValue, from_flat_reply};
 use std::boxed::BoxedSlice;
 use std::collections::{BTreeMap, BTreeSet, HashMap, HashSet};
 use std::fmt::Debug;
@@ -42,14 +41,14 @@ fn converts_borrowed<T: FromRedisValue + Debug>(rt: &impl Test, borrowed: &Value
 }
 
 /// The flat form of a reply converts to what shows like this.
-fn converts_flat<T: FromFlatValue + Debug>(rt: &impl Test, reply: &[u8], wanted: &str) {
+fn converts_flat<T: FromRedisValue + Debug>(rt: &impl Test, reply: &[u8], wanted: &str) {
     let mut flat = FlatReply::new(rt.alloc());
     flat.append(&value_of(rt, reply)).expect(rt, "no refusal");
     refuse(rt.alloc());
     converted(rt, from_flat_reply::<T>(rt.alloc(), &flat), wanted);
     let root = flat.root().expect(rt, "a token");
     refuse(rt.alloc());
-    converted(rt, T::from_flat_value(rt.alloc(), root), wanted);
+    converted(rt, T::from_reply(rt.alloc(), root), wanted);
 }
 
 const ABC: &[u8] = b"$3\r\nabc\r\n";

@@ -10,7 +10,7 @@ ghost use Rattle.resp_types.specs.Roles.{AreRole, HasItems, HasRole};
 ghost use Rattle.resp_types.specs.declared.role.Role.TheVariants as part;
 
 use resp_from::FromRedisValue;
-use resp_from::parts::{Elements, Ignored, refuse, strip_attribute};
+use resp_from::parts::{Elements, Ignored, refuse, strip_attribute, take_elements};
 use resp_value::{Items, ParsingError, Text, Value};
 use std::alloc::{AllocError, Global};
 use std::vec::IntoIter;
@@ -176,7 +176,7 @@ fn first_items<P: Elements>(alloc: Global, reply: Value) -> Result<P, ParsingErr
         result }
 {
     let mut items = items_of(alloc, reply)?;
-    P::take(alloc, &mut items)
+    take_elements(alloc, &mut items)
 }
 
 /// An array, a set or nothing, of an address, a port and an offset; more is ignored. At most one
@@ -203,7 +203,7 @@ impl FromRedisValue for ReplicaInfo {
 fn primary(alloc: Global, items: &mut IntoIter<Value>) -> Result<Role, ParsingError>
     ensures converts { Converts (HasRole (codes "master") (into_iter_items items.old)) result }
 {
-    let (replication_offset, (replicas, Ignored)) = Elements::take(alloc, items)?;
+    let (replication_offset, (replicas, Ignored)) = take_elements(alloc, items)?;
     Ok(Role::Primary {
         replication_offset,
         replicas,
@@ -214,7 +214,7 @@ fn replica(alloc: Global, items: &mut IntoIter<Value>) -> Result<Role, ParsingEr
     ensures converts { Converts (HasRole (codes "slave") (into_iter_items items.old)) result }
 {
     let (primary_ip, (primary_port, (replication_state, (data_received, Ignored)))) =
-        Elements::take(alloc, items)?;
+        take_elements(alloc, items)?;
     Ok(Role::Replica {
         primary_ip,
         primary_port,
@@ -226,7 +226,7 @@ fn replica(alloc: Global, items: &mut IntoIter<Value>) -> Result<Role, ParsingEr
 fn sentinel(alloc: Global, items: &mut IntoIter<Value>) -> Result<Role, ParsingError>
     ensures converts { Converts (HasRole (codes "sentinel") (into_iter_items items.old)) result }
 {
-    let (primary_names, Ignored) = Elements::take(alloc, items)?;
+    let (primary_names, Ignored) = take_elements(alloc, items)?;
     Ok(Role::Sentinel { primary_names })
 }
 

@@ -1,5 +1,0 @@
-use Rattle.resp_from.proofs.Conversions.{Converts-shape}
-use Rattle.resp_from.proofs.tuples.Tuple10FromRedisValue.from_redis_value.Goals as goal
-
-pub returns-in_err-a-clause-converts : goal.returns-in_err-a-clause-converts
-returns-in_err-a-clause-converts g c = Converts-shape _ _ _ _ c.from_residual.ensures c.in_err-a.ensures.converts (λ x h. ((x.0, (x.1, (x.2, (x.3, (x.4, (x.5, (x.6, (x.7, (x.8, (x.9, tt)))))))))), h))

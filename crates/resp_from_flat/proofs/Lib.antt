@@ -1,9 +1,0 @@
-pub mod Answering
-pub mod Elements
-pub mod ErrorValues
-pub mod Filling
-pub mod Levels
-pub mod OneByOne
-pub mod OneEach
-pub mod Parts
-pub mod Stripping

@@ -1,4 +1,0 @@
-use Rattle.resp_from_flat.proofs.conversion.from_flat_reply.Goals as goal
-
-pub returns-in-None-clause-first : goal.returns-in-None-clause-first
-returns-in-None-clause-first g c = λ v shows readable. absurd (c.in-None.ensures.first v shows)
