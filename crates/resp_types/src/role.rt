@@ -213,8 +213,9 @@ fn primary(alloc: Global, items: &mut IntoIter<Value>) -> Result<Role, ParsingEr
 fn replica(alloc: Global, items: &mut IntoIter<Value>) -> Result<Role, ParsingError>
     ensures converts { Converts (HasRole (codes "slave") (into_iter_items items.old)) result }
 {
-    let (primary_ip, (primary_port, (replication_state, (data_received, Ignored)))) =
-        take_elements(alloc, items)?;
+    let (primary_ip, (primary_port, (replication_state, (data_received, Ignored)))) = take_elements(
+        alloc, items,
+    )?;
     Ok(Role::Replica {
         primary_ip,
         primary_port,
