@@ -1,4 +1,4 @@
-use Rattle.std.proofs.Common.{List, [], ◌∷◌, ◌++◌, sym, subst, refl, ◌∙◌, Option, Some, Result, Ok, Err, OnOk}
+use Rattle.std.proofs.Common.{rules, List, [], ◌∷◌, ◌++◌, sym, subst, refl, ◌∙◌, Option, Some, Result, Ok, Err, OnOk}
 use Rattle.std.specs.Iterator.{Yields}
 use Rattle.std.specs.Result.{IsErr}
 use Rattle.resp_errors.specs.declared.redis_error.RedisError.{RedisError}
@@ -39,3 +39,6 @@ returns-in_err-write_redis_args g c =
       };
       kept = ensures.kept ∙ c.loop-value.invariant.3;
     }
+
+pub returns-clause-written : goal.returns-clause-written
+returns-clause-written g c = search rules
