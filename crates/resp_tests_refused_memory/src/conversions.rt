@@ -2,8 +2,8 @@
 
 use crate::heap::{Test, made, refuse, shows};
 use resp_core::{
-    FlatReply, FromRedisValue, IncrexResult, Items, ParsingError, RedisError, RedisResult, Role,
-    Text, Value, ValueType, from_flat_reply, from_redis_value, from_redis_value_by,
+    FlatReply, FromRedisValue, IncrexResult, Items, ParsingError, RedisError, RedisResult, Reply,
+    Role, Text, Value, ValueType, from_flat_reply, from_redis_value, from_redis_value_by,
     from_redis_value_ref, parse_redis_value,
 };
 use std::boxed::BoxedSlice;
@@ -120,6 +120,21 @@ fn flat_replies(rt: HostRuntime) {
     converts_flat::<Value>(&rt, ABC, "Ok(bulk-string('\"abc\"'))");
     converts_flat::<Vec<String>>(&rt, TEXTS, "Ok([\"a\", \"12\", \"abc\"])");
     converts_flat::<Vec<(i64, i64)>>(&rt, NUMBERS, "Ok([(1, 2), (3, 4)])");
+}
+
+#[test]
+fn what_a_cursor_stands_at(rt: HostRuntime) {
+    let mut flat = FlatReply::new(rt.alloc());
+    flat.append(&value_of(&rt, ABC)).expect(&rt, "no refusal");
+    let root = flat.root().expect(&rt, "a token");
+    refuse(rt.alloc());
+    converted(&rt, root.into_text(rt.alloc()), "Ok(\"abc\")");
+    refuse(rt.alloc());
+    converted(
+        &rt,
+        root.into_value(rt.alloc()),
+        "Ok(bulk-string('\"abc\"'))",
+    );
 }
 
 /// Lists that the type makes of several replies.

@@ -11,7 +11,7 @@ use resp_core::{
     ArgList, ArgWriter, Boxed, ByteLink, Bytes, Cmd, CommandSink, ConnectionLike, Fields,
     FlatParser, FlatReply, FlatValue, FromRedisValue, History, InfoDict, IntegerReplyOrNoOp, Items,
     Limits, NumericBehavior, Parser, Pipeline, ProtocolVersion, PushKind, Reading, RedisWrite,
-    ReplySource, Text, ToRedisArgs, TokenKind, Value, ValueType, VerbatimFormat, Writing,
+    Reply, ReplySource, Text, ToRedisArgs, TokenKind, Value, ValueType, VerbatimFormat, Writing,
     from_redis_value, from_redis_value_ref, get_push_kind, is_double_text,
     is_valid_16_bytes_hex_digest, parse_redis_value, pipe, verbatim_format,
 };
@@ -227,6 +227,28 @@ fn cursors_over_flat_replies(rt: HostRuntime) {
     let list = root.described().expect(&rt, "a value");
     let truth = list.elements().next().expect(&rt, "an element");
     assert!(rt; truth.as_bool() == Some(true));
+    took_none(&rt);
+}
+
+/// The reply, in whatever form, is an array of a map from `a` to true.
+fn has_parts<R: Reply>(rt: &impl Test, reply: R) {
+    assert!(rt; reply.kind() == TokenKind::Array && reply.len() == 1);
+    let mut elements = reply.into_elements().ok().expect(rt, "a list");
+    let map = R::next_of(&mut elements).expect(rt, "an element");
+    let mut pairs = map.into_pairs().ok().expect(rt, "a map");
+    let (key, truth) = R::next_pair_of(&mut pairs).expect(rt, "a pair");
+    assert!(rt; key.as_line() == Some(b"a".as_slice()) && key.as_int().is_none());
+    assert!(rt; truth.as_bool() == Some(true));
+}
+
+#[test]
+fn forms_of_replies(rt: HostRuntime) {
+    let value: Value = reply(&rt, b"*1\r\n%1\r\n+a\r\n#t\r\n");
+    let mut flat = FlatReply::new(rt.alloc());
+    flat.append(&value).expect(&rt, "no refusal");
+    refuse_all(rt.alloc());
+    has_parts(&rt, flat.root().expect(&rt, "a token"));
+    has_parts(&rt, value);
     took_none(&rt);
 }
 
