@@ -1,5 +1,7 @@
 -- What the server answers to a command about keys, and what becomes of what they hold.
-use Rattle.std.specs.Prelude.{◌≡◌, ℕ, ◌-◌, ◌&&◌, Bool, true, false, List, [], ◌∷◌, length, map, count_by, Option, None, Some, is_some, is_none, Result, Ok, Err, is_ok, MatchBool, MatchResult, Vec, ℤ, pos, ◌-ℤ◌, ◌^◌, if◌then◌else◌}
+use Rattle.std.specs.Prelude.{◌≡◌, ℕ, ◌-◌, ◌&&◌, Bool, true, false, List, [], ◌∷◌, length, map, count_by, Option, None}
+use Rattle.std.specs.Prelude.{Some, is_some, is_none, Result, Ok, Err, is_ok, MatchBool, MatchResult, Vec, ℤ, pos, ◌-ℤ◌}
+use Rattle.std.specs.Prelude.{◌^◌, if◌then◌else◌}
 use Rattle.std.specs.declared.alloc.Global.{Global}
 use Rattle.std.specs.BTreeMap.{BTreeMap, IsUnchanged, Updates, get, insert_entry, is_at}
 use Rattle.std.specs.Map.{remove_entry}

@@ -1,5 +1,6 @@
 -- What a refusal says.
-use Rattle.std.specs.Prelude.{ℕ, ◌-◌, ◌==◌, ◌||◌, nat_lt, List, [], ◌∷◌, ◌++◌, length, take, map, codes, Vec, if◌then◌else◌}
+use Rattle.std.specs.Prelude.{ℕ, ◌-◌, ◌==◌, ◌||◌, nat_lt, List, [], ◌∷◌, ◌++◌, length, take, map, codes, Vec}
+use Rattle.std.specs.Prelude.{if◌then◌else◌}
 use Rattle.std.specs.Char.{to_ascii_uppercase}
 use Rattle.std.specs.declared.alloc.Global.{Global}
 use Rattle.resp_containers.specs.Lossy.{lossy}

@@ -1,5 +1,6 @@
 -- What the calls of a parser mean for the session that holds it.
-use Rattle.std.proofs.Common.{◌≡◌, ◌≢◌, ◌⊎◌, ◌↔◌, ℕ, true, false, List, [], ◌∷◌, Option, Some, None, inl, Result, Ok, Err, is_err, IsSome, refl, sym, ap, subst, ◌∙◌, IfSome}
+use Rattle.std.proofs.Common.{◌≡◌, ◌≢◌, ◌⊎◌, ◌↔◌, ℕ, true, false, List, [], ◌∷◌, Option, Some, None, inl, Result, Ok}
+use Rattle.std.proofs.Common.{Err, is_err, IsSome, refl, sym, ap, subst, ◌∙◌, IfSome}
 use Rattle.std.specs.Option.{unwrap_or}
 use Rattle.std.proofs.lemmas.Bool.{false_from_ne_true}
 use Rattle.resp_errors.specs.declared.kinds.FrameFault.{FrameFault}
@@ -45,8 +46,10 @@ IsParse (form.Parse p) = Unit {0}
 IsParse _ = ⊥
 
 -- the fault that was answered is the one that shows
-pub has_fault : (l : Limits) (b : List ℕ) (f : FrameFault) → CannotTake l b (form.Parse (parsing.Fault f)) → HasFault l b f
-has_fault l b f (CannotTake.malformed g eq shown) = subst (λ (h : FrameFault). HasFault l b h) (sym (ap (fault_or f) eq)) shown
+pub has_fault : (l : Limits) (b : List ℕ) (f : FrameFault) → CannotTake l b (form.Parse (parsing.Fault f))
+    → HasFault l b f
+has_fault l b f (CannotTake.malformed g eq shown) = subst (λ (h : FrameFault). HasFault l b h)
+    (sym (ap (fault_or f) eq)) shown
 has_fault l b f (CannotTake.out_of_memory eq) = absurd (subst IsParse eq tt)
 
 -- what a parser that worked answers where there is no value
@@ -59,13 +62,16 @@ memory_ran_out s t e w h =
     Taken.memory refl w (failed_after t.parser s.parser.since (after s.parser.since (stands_now s.parser w))) after
 
 -- where a fault shows of which an offset was kept
-shown_at : (l : Limits) (bytes : List ℕ) (taken : ℕ) (o p : Option ℕ) → IsSome o → p ≡ o → IfSome p (FaultShownAt l bytes) → taken ≡ unwrap_or p 0 → FaultShownAt l bytes taken
+shown_at : (l : Limits) (bytes : List ℕ) (taken : ℕ) (o p : Option ℕ) → IsSome o → p ≡ o
+    → IfSome p (FaultShownAt l bytes) → taken ≡ unwrap_or p 0 → FaultShownAt l bytes taken
 shown_at l bytes taken o (Some n) some same shown is = subst (FaultShownAt l bytes) (sym is) shown
 shown_at l bytes taken o None some same shown is = absurd (true_is_not_false (sym (subst IsSome (sym same) some)))
 
 -- m is the session after its parser refused, which told this place
-pub refused : (s m : Session) (e : RedisError) (p : Option ℕ) (place : ℕ) → Works s → Refuses s m e → HasOffset e m.parser.fault_offset → p ≡ m.parser.fault_offset
-    → ((b : List ℕ) → FailedAfter m.parser b → IfSome p (FaultShownAt m.parser.limits b)) → place ≡ unwrap_or p 0 → Taken s (with_fault e place m) (status_of e)
+pub refused : (s m : Session) (e : RedisError) (p : Option ℕ) (place : ℕ) → Works s → Refuses s m e
+    → HasOffset e m.parser.fault_offset → p ≡ m.parser.fault_offset
+    → ((b : List ℕ) → FailedAfter m.parser b → IfSome p (FaultShownAt m.parser.limits b)) → place ≡ unwrap_or p 0
+    → Taken s (with_fault e place m) (status_of e)
 refused s m (form.Parse (parsing.Fault f)) p place w h some same shows is = Taken.malformed refl w (λ b g. record {
   fault = f;
   shown = has_fault m.parser.limits b f (h b g).0;
@@ -82,13 +88,17 @@ refused s m (form.Pipeline es) p place w h some same shows is = memory_ran_out s
 refused s m (form.Aborted es) p place w h some same shows is = memory_ran_out s m _ w h
 refused s m form.OutOfMemory p place w h some same shows is = memory_ran_out s m _ w h
 
-pub note_refused : (s m t : Session) (e : RedisError) (p : Option ℕ) (place status : ℕ) → Works s → Refuses s m e → HasOffset e m.parser.fault_offset → p ≡ m.parser.fault_offset
-    → ((b : List ℕ) → FailedAfter m.parser b → IfSome p (FaultShownAt m.parser.limits b)) → place ≡ unwrap_or p 0 → status ≡ status_of e → t ≡ with_fault e place m → Taken s t status
+pub note_refused : (s m t : Session) (e : RedisError) (p : Option ℕ) (place status : ℕ) → Works s → Refuses s m e
+    → HasOffset e m.parser.fault_offset → p ≡ m.parser.fault_offset
+    → ((b : List ℕ) → FailedAfter m.parser b → IfSome p (FaultShownAt m.parser.limits b)) → place ≡ unwrap_or p 0
+    → status ≡ status_of e → t ≡ with_fault e place m → Taken s t status
 note_refused s m t e p place status w h some same shows is status_is noted =
-    subst (Taken s t) (sym status_is) (subst (λ (u : Session). Taken s u (status_of e)) (sym noted) (refused s m e p place w h some same shows is))
+    subst (Taken s t) (sym status_is) (subst (λ (u : Session). Taken s u (status_of e)) (sym noted)
+    (refused s m e p place w h some same shows is))
 
 -- what is kept where a fault is noted, and all where none is
-pub with_fault-keeps : (e : RedisError) (place : ℕ) (m : Session) → ((with_fault e place m).parser ≡ m.parser) × ((with_fault e place m).reply ≡ m.reply) × ((status_of e ≡ 2 → ⊥) → with_fault e place m ≡ m)
+pub with_fault-keeps : (e : RedisError) (place : ℕ) (m : Session) → ((with_fault e place m).parser ≡ m.parser)
+    × ((with_fault e place m).reply ≡ m.reply) × ((status_of e ≡ 2 → ⊥) → with_fault e place m ≡ m)
 with_fault-keeps (form.Parse (parsing.Fault f)) place m = (refl, refl, λ fine. absurd (fine refl))
 with_fault-keeps (form.Parse (parsing.Described d)) place m = (refl, refl, λ fine. refl)
 with_fault-keeps (form.Parse parsing.OutOfMemory) place m = (refl, refl, λ fine. refl)
@@ -104,11 +114,13 @@ pub works_unless : (s : Session) → (false ≡ true ↔ HasFailed s) → Works 
 works_unless s h = false_from_ne_true s.parser.failed (λ f. true_is_not_false (sym (h.1 f)))
 
 -- what `in_progress` says of a session that works
-pub none_held : (s : State) → ((b : List ℕ) → StandsAfter s b ⊎ FailedAfter s b → (false ≡ true ↔ (b ≢ []))) → (b : List ℕ) → StandsAfter s b → b ≡ []
+pub none_held : (s : State) → ((b : List ℕ) → StandsAfter s b ⊎ FailedAfter s b → (false ≡ true ↔ (b ≢ [])))
+    → (b : List ℕ) → StandsAfter s b → b ≡ []
 none_held s h b st = none_unless b (λ some. true_is_not_false (sym ((h b (inl st)).1 some)))
 
 -- a refused feed changes nothing
-pub feed_refused : (s t : State) (bytes : List ℕ) (r : Result (Unit {0}) RedisError) → s.failed ≡ false → ((b : List ℕ) → StandsAfter s b → Feeds b bytes s t r) → is_err r ≡ true → t ≡ s
+pub feed_refused : (s t : State) (bytes : List ℕ) (r : Result (Unit {0}) RedisError) → s.failed ≡ false
+    → ((b : List ℕ) → StandsAfter s b → Feeds b bytes s t r) → is_err r ≡ true → t ≡ s
 feed_refused s t bytes (Ok u) w h e = absurd (true_is_not_false (sym e))
 feed_refused s t bytes (Err x) w h e = (h s.since (stands_now s w)).1
 
@@ -117,23 +129,36 @@ no_place : (o p : Option ℕ) (taken : ℕ) → o ≡ None → p ≡ o → taken
 no_place o p taken none same is = is ∙ ap (λ (q : Option ℕ). unwrap_or q 0) (same ∙ none)
 
 -- why there is no value
-pub first_refused : (l : Limits) (bytes : List ℕ) (taken : ℕ) (m : Session) (e : RedisError) (o p : Option ℕ) → CannotTake l bytes e → l ≡ m.parser.limits
-    → HasOffset e o → p ≡ o → IfSome p (FaultShownAt l bytes) → taken ≡ unwrap_or p 0 → FirstOf bytes taken (with_fault e taken m) (status_of e)
+pub first_refused : (l : Limits) (bytes : List ℕ) (taken : ℕ) (m : Session) (e : RedisError) (o p : Option ℕ)
+    → CannotTake l bytes e → l ≡ m.parser.limits
+    → HasOffset e o → p ≡ o → IfSome p (FaultShownAt l bytes) → taken ≡ unwrap_or p 0
+    → FirstOf bytes taken (with_fault e taken m) (status_of e)
 first_refused l bytes taken m (form.Parse (parsing.Fault f)) o p h le some same shown is =
     FirstOf.malformed refl f (subst (λ (n : Limits). HasFault n bytes f) le (has_fault l bytes f h)) refl
     (subst (λ (n : Limits). FaultShownAt n bytes taken) le (shown_at l bytes taken o p some same shown is)) refl
-first_refused l bytes taken m (form.Parse (parsing.Described d)) o p h le none same shown is = FirstOf.memory refl (no_place o p taken none same is)
-first_refused l bytes taken m (form.Parse parsing.OutOfMemory) o p h le none same shown is = FirstOf.memory refl (no_place o p taken none same is)
-first_refused l bytes taken m (form.General k x d) o p h le none same shown is = FirstOf.memory refl (no_place o p taken none same is)
-first_refused l bytes taken m (form.Io k) o p h le none same shown is = FirstOf.memory refl (no_place o p taken none same is)
-first_refused l bytes taken m (form.Server e) o p h le none same shown is = FirstOf.memory refl (no_place o p taken none same is)
-first_refused l bytes taken m (form.Pipeline es) o p h le none same shown is = FirstOf.memory refl (no_place o p taken none same is)
-first_refused l bytes taken m (form.Aborted es) o p h le none same shown is = FirstOf.memory refl (no_place o p taken none same is)
-first_refused l bytes taken m form.OutOfMemory o p h le none same shown is = FirstOf.memory refl (no_place o p taken none same is)
+first_refused l bytes taken m (form.Parse (parsing.Described d)) o p h le none same shown is = FirstOf.memory refl
+    (no_place o p taken none same is)
+first_refused l bytes taken m (form.Parse parsing.OutOfMemory) o p h le none same shown is = FirstOf.memory refl
+    (no_place o p taken none same is)
+first_refused l bytes taken m (form.General k x d) o p h le none same shown is = FirstOf.memory refl
+    (no_place o p taken none same is)
+first_refused l bytes taken m (form.Io k) o p h le none same shown is = FirstOf.memory refl
+    (no_place o p taken none same is)
+first_refused l bytes taken m (form.Server e) o p h le none same shown is = FirstOf.memory refl
+    (no_place o p taken none same is)
+first_refused l bytes taken m (form.Pipeline es) o p h le none same shown is = FirstOf.memory refl
+    (no_place o p taken none same is)
+first_refused l bytes taken m (form.Aborted es) o p h le none same shown is = FirstOf.memory refl
+    (no_place o p taken none same is)
+first_refused l bytes taken m form.OutOfMemory o p h le none same shown is = FirstOf.memory refl
+    (no_place o p taken none same is)
 
 -- the same after the session has noted it
-pub first_noted : (l : Limits) (bytes : List ℕ) (taken : ℕ) (m t : Session) (e : RedisError) (o p : Option ℕ) (status : ℕ) → CannotTake l bytes e → l ≡ m.parser.limits
-    → HasOffset e o → p ≡ o → IfSome p (FaultShownAt l bytes) → taken ≡ unwrap_or p 0 → status ≡ status_of e → t ≡ with_fault e taken m → FirstOf bytes taken t status
+pub first_noted : (l : Limits) (bytes : List ℕ) (taken : ℕ) (m t : Session) (e : RedisError) (o p : Option ℕ)
+    (status : ℕ) → CannotTake l bytes e → l ≡ m.parser.limits
+    → HasOffset e o → p ≡ o → IfSome p (FaultShownAt l bytes) → taken ≡ unwrap_or p 0 → status ≡ status_of e
+    → t ≡ with_fault e taken m → FirstOf bytes taken t status
 first_noted l bytes taken m t e o p status h le some same shown is status_is noted =
-    subst (FirstOf bytes taken t) (sym status_is) (subst (λ (u : Session). FirstOf bytes taken u (status_of e)) (sym noted)
+    subst (FirstOf bytes taken t) (sym status_is)
+    (subst (λ (u : Session). FirstOf bytes taken u (status_of e)) (sym noted)
     (first_refused l bytes taken m e o p h le some same shown is))

@@ -72,7 +72,8 @@ option_send : (R : RattleType) → IsSend R → IsSend (as_row (option.the_field
 option_send R s = as_row_send (option.the_field R) (option_sent.the_field_send R s)
 
 vec_send : (R : RattleType) → IsSend R → IsSend (as_row (vec.the_field R heap.the_row ghosts))
-vec_send R s = as_row_send (vec.the_field R heap.the_row ghosts) (vec_sent.the_send R heap.the_row ghosts s heap_send frees)
+vec_send R s = as_row_send (vec.the_field R heap.the_row ghosts)
+    (vec_sent.the_send R heap.the_row ghosts s heap_send frees)
 
 elements_kind_send : IsSend (as_row elements_kind.the_field)
 elements_kind_send = as_row_send elements_kind.the_field elements_kind_sent.the_field_send
@@ -87,7 +88,8 @@ seen_send : IsSend seen.the_row
 seen_send = record { owned = λ d vs. ((λ vss. (tt, ((λ uss. (tt, tt)), tt))), tt); leaving = λ k f vs. tt }
 
 seen_values_send : IsSend (as_row seen_values.the_field)
-seen_values_send = as_row_send seen_values.the_field (view_send _ _ _ _ _ (declared_send seen_values_inside.the_type (as_row_send seen.the_field seen_send, tt)))
+seen_values_send = as_row_send seen_values.the_field
+    (view_send _ _ _ _ _ (declared_send seen_values_inside.the_type (as_row_send seen.the_field seen_send, tt)))
 
 open_aggregate_send : IsSend open_aggregate.the_row
 open_aggregate_send = declared_send open_aggregate.the_type (search (leaves, seen_values_send) depth 60)
@@ -95,7 +97,8 @@ open_aggregate_send = declared_send open_aggregate.the_type (search (leaves, see
 open_aggregates_send : IsSend open_aggregates.the_row
 open_aggregates_send =
     let outer = vec_send open_aggregate.the_row open_aggregate_send in
-    view_send _ _ _ _ _ (declared_send open_aggregates_inside.the_type (search (leaves, seen_values_send, outer) depth 60))
+    view_send _ _ _ _ _ (declared_send open_aggregates_inside.the_type
+    (search (leaves, seen_values_send, outer) depth 60))
 
 builder_send : IsSend builder.the_row
 builder_send =
@@ -119,7 +122,8 @@ decoder_send =
     let offset = option_send usize (search sendable depth 12) in
     let since = as_row_send history.the_field history_sent.the_send in
     let counts = as_row_send counter.the_field counter_sent.the_send in
-    view_send _ _ _ _ _ (declared_send (decoder_inside.the_type builder.the_row unit reply.the_row flat_builder.ghosts) (search (leaves, machine_send, buffer, offset, since, counts) depth 60))
+    view_send _ _ _ _ _ (declared_send (decoder_inside.the_type builder.the_row unit reply.the_row flat_builder.ghosts)
+    (search (leaves, machine_send, buffer, offset, since, counts) depth 60))
 
 parser_send : IsSend parser.the_row
 parser_send = view_send _ _ _ _ _ (declared_send parser_inside.the_type (search (leaves, decoder_send) depth 60))
@@ -138,9 +142,13 @@ lies_keyless R s (block_ptr b o) x = part_keyless R s full_share x b o
 lies_keyless R s null_ptr x = tt
 
 -- the session on the heap, and the right to free its memory
-owned_keyless : (a : Global) (p : Ptr) (o : Option Session) → Keyless (owns_some (box_owns (ghosts.dealloc_token a) session.the_row p) o)
+owned_keyless : (a : Global) (p : Ptr) (o : Option Session)
+    → Keyless (owns_some (box_owns (ghosts.dealloc_token a) session.the_row p) o)
 owned_keyless a p None = tt
-owned_keyless a p (Some x) = (lies_keyless session.the_row session_send p x, frees.frees a (raw (lone session.the_row.mir)) p)
+owned_keyless a p (Some x) = (
+  lies_keyless session.the_row session_send p x,
+  frees.frees a (raw (lone session.the_row.mir)) p,
+)
 
 pub slot_send : IsSend slot.the_row
 slot_send = owning_send slot.the_type (search sendable depth 12) (λ d. owned_keyless d.alloc d.at d.value) (λ k x w. tt)

@@ -14,14 +14,17 @@ unequal a b apart = by_test (nat_eq a b) refl
     by_test false e = e
 
 -- a cursor's place that was passed is at no later argument
-pub passed : (place : ℕ) (args : Args) (cursor : ℕ) (cursors : List ℕ) → cursor < place → shown_from place args (cursor ∷ cursors) ≡ shown_from place args cursors
+pub passed : (place : ℕ) (args : Args) (cursor : ℕ) (cursors : List ℕ) → cursor < place
+    → shown_from place args (cursor ∷ cursors) ≡ shown_from place args cursors
 passed place [] cursor cursors l = refl
 passed place (arg ∷ args) cursor cursors l =
     let apart : nat_eq place cursor ≡ false = unequal place cursor (λ e. omega arith) in
-    let rest : shown_from (place + 1) args (cursor ∷ cursors) ≡ shown_from (place + 1) args cursors = passed (place + 1) args cursor cursors (omega arith) in
+    let rest : shown_from (place + 1) args (cursor ∷ cursors) ≡ shown_from (place + 1) args cursors = passed (place + 1)
+    args cursor cursors (omega arith) in
     rw (apart, rest) refl
 
-pub none_at : (place from end : ℕ) (cursors : List ℕ) → place < from → AscendWithin from end cursors → list_any (nat_eq place) cursors ≡ false
+pub none_at : (place from end : ℕ) (cursors : List ℕ) → place < from → AscendWithin from end cursors
+    → list_any (nat_eq place) cursors ≡ false
 none_at place from end [] l h = refl
 none_at place from end (cursor ∷ cursors) l h =
     let m = h.0 in

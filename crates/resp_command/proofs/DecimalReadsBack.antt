@@ -1,5 +1,6 @@
 -- The number that a length's decimal text writes is the length.
-use Rattle.std.proofs.Common.{◌≡◌, ℕ, ◌<◌, ◌^◌, ◌&&◌, ◌==◌, true, false, List, [], ◌∷◌, length, nat_lt, nat_le, Some, pos, refl, ap, ◌∙◌, arith}
+use Rattle.std.proofs.Common.{◌≡◌, ℕ, ◌<◌, ◌^◌, ◌&&◌, ◌==◌, true, false, List, [], ◌∷◌, length, nat_lt, nat_le, Some}
+use Rattle.std.proofs.Common.{pos, refl, ap, ◌∙◌, arith}
 use Rattle.std.proofs.lemmas.Bool.Decides.{nat_tests}
 use Rattle.std.proofs.lemmas.Bool.{and_parts, and_from, lt-ltb, leb-true}
 use Rattle.std.proofs.lemmas.Fmt.{IsAscii-decimal, digits_decimal, digits_value-decimal, decimal_nonempty}
@@ -8,7 +9,8 @@ use Rattle.std.proofs.lemmas.Str.Parse.{IsNumeralModel, numerals_by_value, tells
 use Rattle.std.specs.Char.{is_ascii_digit, is_whitespace}
 use Rattle.std.specs.Fmt.{decimal}
 use Rattle.std.specs.List.{list_all}
-use Rattle.std.specs.Str.{IsAscii, all_ascii_digits, chars, trim, trim_start, trim_end, skip_leading_whitespace, drop_trailing_whitespace, encode_utf8_all}
+use Rattle.std.specs.Str.{IsAscii, all_ascii_digits, chars, trim, trim_start, trim_end, skip_leading_whitespace}
+use Rattle.std.specs.Str.{drop_trailing_whitespace, encode_utf8_all}
 use Rattle.std.specs.Str.Parse.{digits_value, starts_with_minus, without_leading_plus}
 use Rattle.resp_parse.specs.Number.{number, plain_number}
 
@@ -37,7 +39,8 @@ trim-digits : (ds : List ℕ) → IsAscii ds → all_ascii_digits ds ≡ true �
 unfolding trim_start trim_end
 trim-digits ds ascii h =
     let spelled = encodes-IsAscii ds ascii in
-    let prefix : encode_utf8_all (skip_leading_whitespace (chars ds)) ≡ ds = rw (chars-IsAscii ds ascii, nothing_skipped ds h) spelled in
+    let prefix : encode_utf8_all (skip_leading_whitespace (chars ds))
+    ≡ ds = rw (chars-IsAscii ds ascii, nothing_skipped ds h) spelled in
     rw (prefix, chars-IsAscii ds ascii, nothing_dropped ds h) spelled
 
 -- a digit is no sign
@@ -55,10 +58,12 @@ digits-same : (ds : List ℕ) → list_all is_ascii_digit ds ≡ all_ascii_digit
 digits-same [] = refl
 digits-same (c ∷ cs) = ap (λ rest. is_ascii_digit c && rest) (digits-same cs)
 
-plain_number-digits : (ds : List ℕ) (n : ℕ) → all_ascii_digits ds ≡ true → 0 < length ds → digits_value 10 ds ≡ n → n < 2 ^ 63 → plain_number ds ≡ Some (pos n)
+plain_number-digits : (ds : List ℕ) (n : ℕ) → all_ascii_digits ds ≡ true → 0 < length ds → digits_value 10 ds ≡ n
+    → n < 2 ^ 63 → plain_number ds ≡ Some (pos n)
 plain_number-digits ds n h some value small =
     let s = no_sign ds h in
-    let tests = and_from (nat_lt 0 (length ds)) (list_all is_ascii_digit ds) (lt-ltb 0 (length ds) some) (digits-same ds ∙ h) in
+    let tests = and_from (nat_lt 0 (length ds)) (list_all is_ascii_digit ds) (lt-ltb 0 (length ds) some)
+    (digits-same ds ∙ h) in
     let fits : nat_lt n (2 ^ 63) ≡ true = lt-ltb n (2 ^ 63) small in
     rw (s.0, s.1, tests, value, fits) refl
 
@@ -67,4 +72,5 @@ unfolding number
 number-decimal n small =
     let wide : n < 2 ^ 64 = omega arith in
     let h = digits_decimal own n wide in
-    rw (trim-digits (decimal n) (IsAscii-decimal n wide) h) (plain_number-digits (decimal n) n h (decimal_nonempty n wide) (digits_value-decimal own n wide) small)
+    rw (trim-digits (decimal n) (IsAscii-decimal n wide) h)
+    (plain_number-digits (decimal n) n h (decimal_nonempty n wide) (digits_value-decimal own n wide) small)

@@ -1,5 +1,7 @@
 -- The last argument of a command, as an ordinary one that grows.
-use Rattle.std.proofs.Common.{IsTrue, ◌≡◌, ℕ, suc, zero, ◌+◌, ◌-◌, ◌<◌, Bool, true, false, nat_lt, List, [], ◌∷◌, ◌++◌, length, take, Option, None, Some, MatchOption, filter, length-append, refl, sym, ap, ◌∙◌, arith, subst, zero-add}
+use Rattle.std.proofs.Common.{IsTrue, ◌≡◌, ℕ, suc, zero, ◌+◌, ◌-◌, ◌<◌, Bool, true, false, nat_lt, List, [], ◌∷◌, ◌++◌}
+use Rattle.std.proofs.Common.{length, take, Option, None, Some, MatchOption, filter, length-append, refl, sym, ap, ◌∙◌}
+use Rattle.std.proofs.Common.{arith, subst, zero-add}
 use Rattle.std.specs.Prelude.{decimal, map, slice_get}
 use Rattle.std.specs.Option.{unwrap_or}
 use Rattle.std.proofs.lemmas.List.{append-nil, map-append, length-map}
@@ -13,7 +15,8 @@ use Rattle.resp_command.specs.ShownArgs.{EndsInCursor}
 use Rattle.resp_command.specs.Pieces.{Keeps, Pieces, cursor_places, ordinary, sent, sent_args, text_of, interleaved}
 use Rattle.resp_command.proofs.FramedArgs.{extended-then}
 use Rattle.resp_command.proofs.CursorArgs.{ascend_room}
-use Rattle.resp_command.proofs.PiecesAgree.{ascends, ge-test, lt-test, ordinary-append, places-append, interleaves, Interleaves}
+use Rattle.resp_command.proofs.PiecesAgree.{ascends, ge-test, lt-test, ordinary-append, places-append, interleaves}
+use Rattle.resp_command.proofs.PiecesAgree.{Interleaves}
 
 -- pieces before the last one, and the last one
 record LastPiece (pieces : Pieces) : Type 0 where
@@ -41,7 +44,8 @@ all_but_last xs x =
     ap (λ k. take k (xs ++ x ∷ [])) n ∙ take-append_seam xs (x ∷ [])
 
 -- places below an end
-below : (from end : ℕ) (places : List ℕ) (i place : ℕ) → AscendWithin from end places → slice_get places i ≡ Some place → place < end
+below : (from end : ℕ) (places : List ℕ) (i place : ℕ) → AscendWithin from end places → slice_get places i ≡ Some place
+    → place < end
 below from end [] i place h e = cc
 below from end (first ∷ places) zero place h e =
     let l = ascend_room (first + 1) end places h.1 in
@@ -52,7 +56,8 @@ below from end (first ∷ places) zero place h e =
     first_of first places e = cc
 below from end (first ∷ places) (suc i) place h e = below (first + 1) end places i place h.1 e
 
-kept : (from end : ℕ) (places more : List ℕ) → AscendWithin from end places → filter (λ place. nat_lt place end) (places ++ more) ≡ places ++ filter (λ place. nat_lt place end) more
+kept : (from end : ℕ) (places more : List ℕ) → AscendWithin from end places
+    → filter (λ place. nat_lt place end) (places ++ more) ≡ places ++ filter (λ place. nat_lt place end) more
 kept from end [] more h = refl
 kept from end (first ∷ places) more h =
     let l = ascend_room (first + 1) end places h.1 in
@@ -64,7 +69,9 @@ not_kept : (place : ℕ) → filter (λ p. nat_lt p place) (place ∷ []) ≡ []
 not_kept place = let no = ge-test place place (omega arith) in rw no refl
 
 -- where there is a cursor argument, a cursor was set
-pub set_text : (cursor : Option ℕ) (cursors : List ℕ) (i place n : ℕ) → MatchOption cursor (cursors ≡ []) (λ c. Unit {0}) → slice_get cursors i ≡ Some place → n ≡ unwrap_or cursor 0 → decimal n ≡ text_of cursor
+pub set_text : (cursor : Option ℕ) (cursors : List ℕ) (i place n : ℕ)
+    → MatchOption cursor (cursors ≡ []) (λ c. Unit {0}) → slice_get cursors i ≡ Some place → n ≡ unwrap_or cursor 0
+    → decimal n ≡ text_of cursor
 set_text None cursors i place n none e f = absurd (nothing i (ap (λ ps. slice_get ps i) (sym none) ∙ e))
   where
     nothing : (i : ℕ) → slice_get [] i ≡ Some place → ⊥
@@ -73,12 +80,14 @@ set_text None cursors i place n none e f = absurd (nothing i (ap (λ ps. slice_g
 set_text (Some c) cursors i place n h e f = ap decimal f
 
 -- the last argument has more bytes, and is no cursor argument
-pub record Grown (cursor : Option ℕ) (cursors : List ℕ) (args : Args) (more : List ℕ) (cursors' : List ℕ) (args' : Args) : Type 0 where
+pub record Grown (cursor : Option ℕ) (cursors : List ℕ) (args : Args) (more : List ℕ) (cursors' : List ℕ)
+    (args' : Args) : Type 0 where
   pub keeps : Keeps cursor cursors' args'
   pub sent_are : sent_args cursor cursors' args' ≡ extended (sent_args cursor cursors args) more
   pub places_are : cursors' ≡ filter (λ place. nat_lt place (length (sent_args cursor cursors args) - 1)) cursors
 
-module _ (cursor : Option ℕ) (cursors : List ℕ) (args : Args) (more : List ℕ) (k : Keeps cursor cursors args) (some : 0 < length (sent_args cursor cursors args)) where
+module _ (cursor : Option ℕ) (cursors : List ℕ) (args : Args) (more : List ℕ) (k : Keeps cursor cursors args)
+    (some : 0 < length (sent_args cursor cursors args)) where
   counted : length (sent_args cursor cursors args) ≡ length (interleaved 0 cursors args)
   counted = length-map (interleaved 0 cursors args) (sent (text_of cursor))
 
@@ -90,7 +99,8 @@ module _ (cursor : Option ℕ) (cursors : List ℕ) (args : Args) (more : List �
     size = let n = ap length split in let m = length-append init (last ∷ []) in omega (arith, counted, n, m)
 
     places : cursors ≡ cursor_places 0 init ++ cursor_places (length init) (last ∷ [])
-    places = k.are_interleaved.cursors_are ∙ ap (cursor_places 0) split ∙ places-append 0 init (last ∷ []) ∙ ap (λ n. cursor_places 0 init ++ cursor_places n (last ∷ [])) (zero-add (length init))
+    places = k.are_interleaved.cursors_are ∙ ap (cursor_places 0) split ∙ places-append 0 init (last ∷ [])
+        ∙ ap (λ n. cursor_places 0 init ++ cursor_places n (last ∷ [])) (zero-add (length init))
 
     ordinaries : args ≡ ordinary init ++ ordinary (last ∷ [])
     ordinaries = k.are_interleaved.args_are ∙ ap ordinary split ∙ ordinary-append init (last ∷ [])
@@ -102,65 +112,90 @@ module _ (cursor : Option ℕ) (cursors : List ℕ) (args : Args) (more : List �
     sent_split = ap (map (sent (text_of cursor))) split ∙ map-append (sent (text_of cursor)) init (last ∷ [])
 
     -- pieces whose last one has these bytes more
-    grown : (cursors' : List ℕ) (args' : Args) → cursors' ≡ cursor_places 0 init → args' ≡ ordinary init ++ (sent (text_of cursor) last ++ more) ∷ [] → filter (λ place. nat_lt place (length init)) cursors ≡ cursor_places 0 init
+    grown : (cursors' : List ℕ) (args' : Args) → cursors' ≡ cursor_places 0 init
+        → args' ≡ ordinary init ++ (sent (text_of cursor) last ++ more) ∷ []
+        → filter (λ place. nat_lt place (length init)) cursors ≡ cursor_places 0 init
         → MatchOption cursor (cursors' ≡ []) (λ c. Unit {0}) → Grown cursor cursors args more cursors' args'
     grown cursors' args' c a f unset =
         let text : List ℕ = sent (text_of cursor) last ++ more in
-        let w : Interleaves cursors' args' (init ++ Simple text ∷ []) = interleaves cursors' args' (init ++ Simple text ∷ [])
+        let w : Interleaves cursors' args' (init ++ Simple text ∷ []) = interleaves cursors' args'
+        (init ++ Simple text ∷ [])
         (c ∙ sym (append-nil (cursor_places 0 init)) ∙ sym (places-append 0 init (Simple text ∷ [])))
         (a ∙ sym (ordinary-append init (Simple text ∷ []))) in
         record {
           keeps = record { are_interleaved = w.are_interleaved; unset = unset };
-          sent_are = ap (map (sent (text_of cursor))) w.view ∙ map-append (sent (text_of cursor)) init (Simple text ∷ []) ∙ sym (ap (λ xs. extended xs more) sent_split ∙ extended-then (map (sent (text_of cursor)) init) (sent (text_of cursor) last) more);
+          sent_are = ap (map (sent (text_of cursor))) w.view ∙ map-append (sent (text_of cursor)) init
+              (Simple text ∷ []) ∙ sym (ap (λ xs. extended xs more) sent_split ∙ extended-then
+              (map (sent (text_of cursor)) init) (sent (text_of cursor) last) more);
           places_are = c ∙ sym f ∙ ap (λ n. filter (λ place. nat_lt place n) cursors) (sym size);
         }
 
-  ends_here : (init : Pieces) → interleaved 0 cursors args ≡ init ++ Cursor ∷ [] → slice_get cursors (length cursors - 1) ≡ Some (length (sent_args cursor cursors args) - 1)
-  ends_here init split = ap (λ ps. slice_get ps (length ps - 1)) (places init Cursor split) ∙ last_of (cursor_places 0 init) (length init) ∙ ap Some (sym (size init Cursor split))
+  ends_here : (init : Pieces) → interleaved 0 cursors args ≡ init ++ Cursor ∷ []
+      → slice_get cursors (length cursors - 1) ≡ Some (length (sent_args cursor cursors args) - 1)
+  ends_here init split = ap (λ ps. slice_get ps (length ps - 1)) (places init Cursor split)
+      ∙ last_of (cursor_places 0 init) (length init) ∙ ap Some (sym (size init Cursor split))
 
-  pub grown_cursor : slice_get cursors (length cursors - 1) ≡ Some (length (sent_args cursor cursors args) - 1) → Grown cursor cursors args more (take (length cursors - 1) cursors) (args ++ (text_of cursor ++ more) ∷ [])
+  pub grown_cursor : slice_get cursors (length cursors - 1) ≡ Some (length (sent_args cursor cursors args) - 1)
+      → Grown cursor cursors args more (take (length cursors - 1) cursors) (args ++ (text_of cursor ++ more) ∷ [])
   grown_cursor ends = by_last split_up.init split_up.last split_up.split
     where
-      unset : (cursor : Option ℕ) → MatchOption cursor (cursors ≡ []) (λ c. Unit {0}) → MatchOption cursor (take (length cursors - 1) cursors ≡ []) (λ c. Unit {0})
+      unset : (cursor : Option ℕ) → MatchOption cursor (cursors ≡ []) (λ c. Unit {0})
+          → MatchOption cursor (take (length cursors - 1) cursors ≡ []) (λ c. Unit {0})
       unset None none = rw none refl
       unset (Some c) h = tt
 
-      by_last : (init : Pieces) (last : Arg (List ℕ)) → interleaved 0 cursors args ≡ init ++ last ∷ [] → Grown cursor cursors args more (take (length cursors - 1) cursors) (args ++ (text_of cursor ++ more) ∷ [])
+      by_last : (init : Pieces) (last : Arg (List ℕ)) → interleaved 0 cursors args ≡ init ++ last ∷ []
+          → Grown cursor cursors args more (take (length cursors - 1) cursors) (args ++ (text_of cursor ++ more) ∷ [])
       by_last init (Simple arg) split =
           let e : cursors ≡ cursor_places 0 init = places init (Simple arg) split ∙ append-nil (cursor_places 0 init) in
-          let h : AscendWithin 0 (length init) cursors = subst (λ ps. AscendWithin 0 (length init) ps) (sym e) (rises init (Simple arg) split) in
-          absurd (let l = below 0 (length init) cursors (length cursors - 1) (length (sent_args cursor cursors args) - 1) h ends in omega (arith, l, size init (Simple arg) split))
+          let h : AscendWithin 0 (length init) cursors = subst (λ ps. AscendWithin 0 (length init) ps) (sym e)
+          (rises init (Simple arg) split) in
+          absurd (let l = below 0 (length init) cursors (length cursors - 1)
+          (length (sent_args cursor cursors args) - 1) h ends in omega (arith, l, size init (Simple arg) split))
       by_last init Cursor split =
           let e = places init Cursor split in
           let o : args ≡ ordinary init = ordinaries init Cursor split ∙ append-nil (ordinary init) in
-          let left : take (length cursors - 1) cursors ≡ cursor_places 0 init = ap (λ ps. take (length ps - 1) ps) e ∙ all_but_last (cursor_places 0 init) (length init) in
-          let f : filter (λ place. nat_lt place (length init)) cursors ≡ cursor_places 0 init = ap (filter (λ place. nat_lt place (length init))) e ∙ kept 0 (length init) (cursor_places 0 init) (length init ∷ []) (rises init Cursor split)
+          let left : take (length cursors - 1) cursors ≡ cursor_places 0 init = ap (λ ps. take (length ps - 1) ps) e
+          ∙ all_but_last (cursor_places 0 init) (length init) in
+          let f : filter (λ place. nat_lt place (length init)) cursors ≡ cursor_places 0 init = ap
+          (filter (λ place. nat_lt place (length init))) e ∙ kept 0 (length init) (cursor_places 0 init)
+          (length init ∷ []) (rises init Cursor split)
           ∙ ap (λ ps. cursor_places 0 init ++ ps) (not_kept (length init)) ∙ append-nil (cursor_places 0 init) in
-          grown init Cursor split (take (length cursors - 1) cursors) (args ++ (text_of cursor ++ more) ∷ []) left (ap (λ xs. xs ++ (text_of cursor ++ more) ∷ []) o) f (unset cursor k.unset)
+          grown init Cursor split (take (length cursors - 1) cursors) (args ++ (text_of cursor ++ more) ∷ []) left
+          (ap (λ xs. xs ++ (text_of cursor ++ more) ∷ []) o) f (unset cursor k.unset)
 
-  pub some_simple : (slice_get cursors (length cursors - 1) ≡ Some (length (sent_args cursor cursors args) - 1) → ⊥) → 0 < length args
+  pub some_simple : (slice_get cursors (length cursors - 1) ≡ Some (length (sent_args cursor cursors args) - 1) → ⊥)
+      → 0 < length args
   some_simple apart = by_last split_up.init split_up.last split_up.split
     where
       by_last : (init : Pieces) (last : Arg (List ℕ)) → interleaved 0 cursors args ≡ init ++ last ∷ [] → 0 < length args
       by_last init Cursor split = absurd (apart (ends_here init split))
-      by_last init (Simple arg) split = let n = ap length (ordinaries init (Simple arg) split) in let m = length-append (ordinary init) (arg ∷ []) in omega (arith, n, m)
+      by_last init (Simple arg) split = let n = ap length (ordinaries init (Simple arg) split) in
+          let m = length-append (ordinary init) (arg ∷ []) in omega (arith, n, m)
 
-  pub grown_simple : (slice_get cursors (length cursors - 1) ≡ Some (length (sent_args cursor cursors args) - 1) → ⊥) → Grown cursor cursors args more cursors (extended args more)
+  pub grown_simple : (slice_get cursors (length cursors - 1) ≡ Some (length (sent_args cursor cursors args) - 1) → ⊥)
+      → Grown cursor cursors args more cursors (extended args more)
   grown_simple apart = by_last split_up.init split_up.last split_up.split
     where
-      by_last : (init : Pieces) (last : Arg (List ℕ)) → interleaved 0 cursors args ≡ init ++ last ∷ [] → Grown cursor cursors args more cursors (extended args more)
+      by_last : (init : Pieces) (last : Arg (List ℕ)) → interleaved 0 cursors args ≡ init ++ last ∷ []
+          → Grown cursor cursors args more cursors (extended args more)
       by_last init Cursor split = absurd (apart (ends_here init split))
       by_last init (Simple arg) split =
           let e : cursors ≡ cursor_places 0 init = places init (Simple arg) split ∙ append-nil (cursor_places 0 init) in
-          let o : extended args more ≡ ordinary init ++ (arg ++ more) ∷ [] = ap (λ xs. extended xs more) (ordinaries init (Simple arg) split) ∙ extended-then (ordinary init) arg more in
+          let o : extended args more ≡ ordinary init ++ (arg ++ more) ∷ [] = ap (λ xs. extended xs more)
+          (ordinaries init (Simple arg) split) ∙ extended-then (ordinary init) arg more in
           let f : filter (λ place. nat_lt place (length init)) cursors ≡ cursor_places 0 init =
-          ap (filter (λ place. nat_lt place (length init))) (e ∙ sym (append-nil (cursor_places 0 init))) ∙ kept 0 (length init) (cursor_places 0 init) [] (rises init (Simple arg) split) ∙ append-nil (cursor_places 0 init) in
+          ap (filter (λ place. nat_lt place (length init))) (e ∙ sym (append-nil (cursor_places 0 init)))
+          ∙ kept 0 (length init) (cursor_places 0 init) [] (rises init (Simple arg) split)
+          ∙ append-nil (cursor_places 0 init) in
           grown init (Simple arg) split cursors (extended args more) e o f k.unset
 
 -- ---- the same of what a contract sees of the command
 
-module _ (cursor : Option ℕ) (cursors : List ℕ) (args : Args) (more : List ℕ) (flag : Bool) (d : Command) (k : Keeps cursor cursors args)
-    (view : record { args = sent_args cursor cursors args; no_response = flag; cursor = cursor; cursors = cursors } ≡ d) (some : 0 < length d.args) where
+module _ (cursor : Option ℕ) (cursors : List ℕ) (args : Args) (more : List ℕ) (flag : Bool) (d : Command)
+    (k : Keeps cursor cursors args)
+    (view : record { args = sent_args cursor cursors args; no_response = flag; cursor = cursor; cursors = cursors } ≡ d)
+    (some : 0 < length d.args) where
   seen_some : 0 < length (sent_args cursor cursors args)
   seen_some = subst (λ c. 0 < length c.args) (sym view) some
 
@@ -170,20 +205,28 @@ module _ (cursor : Option ℕ) (cursors : List ℕ) (args : Args) (more : List �
   pub seen_room : (EndsInCursor d.args d.cursors → IsTrue false) → 0 < length args
   seen_room apart = some_simple cursor cursors args more k seen_some (seen_apart apart)
 
-  pub seen_simple : (args' : Args) → args' ≡ extended args more → (EndsInCursor d.args d.cursors → IsTrue false) → Grown cursor cursors args more cursors args'
-  seen_simple args' e apart = subst (λ xs. Grown cursor cursors args more cursors xs) (sym e) (grown_simple cursor cursors args more k seen_some (seen_apart apart))
+  pub seen_simple : (args' : Args) → args' ≡ extended args more → (EndsInCursor d.args d.cursors → IsTrue false)
+      → Grown cursor cursors args more cursors args'
+  seen_simple args' e apart = subst (λ xs. Grown cursor cursors args more cursors xs) (sym e)
+      (grown_simple cursor cursors args more k seen_some (seen_apart apart))
 
-  pub seen_cursor : (cursors' text : List ℕ) (args' : Args) (n : ℕ) → n ≡ unwrap_or cursor 0 → text ≡ decimal n → cursors' ≡ take (length cursors - 1) cursors → args' ≡ args ++ (text ++ more) ∷ [] → (IsTrue true → EndsInCursor d.args d.cursors)
+  pub seen_cursor : (cursors' text : List ℕ) (args' : Args) (n : ℕ) → n ≡ unwrap_or cursor 0 → text ≡ decimal n
+      → cursors' ≡ take (length cursors - 1) cursors → args' ≡ args ++ (text ++ more) ∷ []
+      → (IsTrue true → EndsInCursor d.args d.cursors)
       → Grown cursor cursors args more cursors' args'
   seen_cursor cursors' text args' n e f c a ends =
-      let here : EndsInCursor (sent_args cursor cursors args) cursors = subst (λ s. EndsInCursor s.args s.cursors) (sym view) (ends refl) in
-      let t : text ≡ text_of cursor = f ∙ set_text cursor cursors (length cursors - 1) (length (sent_args cursor cursors args) - 1) n k.unset here e in
+      let here : EndsInCursor (sent_args cursor cursors args) cursors = subst (λ s. EndsInCursor s.args s.cursors)
+      (sym view) (ends refl) in
+      let t : text ≡ text_of cursor = f ∙ set_text cursor cursors (length cursors - 1)
+      (length (sent_args cursor cursors args) - 1) n k.unset here e in
       let a' : args' ≡ args ++ (text_of cursor ++ more) ∷ [] = a ∙ ap (λ xs. args ++ (xs ++ more) ∷ []) t in
       rw (c, a') (grown_cursor cursor cursors args more k seen_some here)
 
-  pub seen_args : (cursors' : List ℕ) (args' : Args) → Grown cursor cursors args more cursors' args' → sent_args cursor cursors' args' ≡ extended d.args more
+  pub seen_args : (cursors' : List ℕ) (args' : Args) → Grown cursor cursors args more cursors' args'
+      → sent_args cursor cursors' args' ≡ extended d.args more
   seen_args cursors' args' g = g.sent_are ∙ ap (λ c. extended c.args more) view
 
   pub seen_whole : (cursors' : List ℕ) (args' : Args) → Grown cursor cursors args more cursors' args'
-      → record { args = sent_args cursor cursors' args'; no_response = flag; cursor = cursor; cursors = cursors' } ≡ with_extended_arg more d
+      → record { args = sent_args cursor cursors' args'; no_response = flag; cursor = cursor; cursors = cursors' }
+      ≡ with_extended_arg more d
   seen_whole cursors' args' g = let s = g.sent_are in let p = g.places_are in rw (← view) (cc (s, p))

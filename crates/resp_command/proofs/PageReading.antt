@@ -1,5 +1,6 @@
 -- A page, read by its parts.
-use Rattle.std.proofs.Common.{◌≡◌, ◌≢◌, ℕ, length, true, false, List, [], ◌∷◌, Vec, Global, refl, sym, arith, subst, Option, Some, None, Result, Ok, Err, MatchResult}
+use Rattle.std.proofs.Common.{◌≡◌, ◌≢◌, ℕ, length, true, false, List, [], ◌∷◌, Vec, Global, refl, sym, arith, subst}
+use Rattle.std.proofs.Common.{Option, Some, None, Result, Ok, Err, MatchResult}
 use Rattle.std.proofs.lemmas.Grind.{common_steps}
 use Rattle.std.specs.Result.{result_ok}
 use Rattle.std.specs.List.{AllZip}
@@ -44,7 +45,8 @@ pub list_has_items : (list : Value) → is_list_like (out-Value list) ≡ true �
 list_has_items list h = listed (out-Value list) h
 
 -- so only want of memory keeps its items from being had
-pub only_memory : (list : Value) → is_list_like (out-Value list) ≡ true → (e : ParsingError) → RefusesIf e ((items : List Value) → IsListOf list items → ⊥) → e ≡ parsing.OutOfMemory
+pub only_memory : (list : Value) → is_list_like (out-Value list) ≡ true → (e : ParsingError)
+    → RefusesIf e ((items : List Value) → IsListOf list items → ⊥) → e ≡ parsing.OutOfMemory
 only_memory list h (parsing.Described text) none = let some = list_has_items list h in absurd (none some.0 some.1)
 only_memory list h (parsing.Fault fault) none = absurd none
 only_memory list h parsing.OutOfMemory none = refl
@@ -57,13 +59,17 @@ Cursor v cursor = OfInteger (UnsignedNumber 64) (UnsignedText 64) v cursor
 abbrev Are : Option (List Value) → (List Value → Type 0) → Type 0
 Are found Fits = elim found [ Some values ↦ Fits values | None ↦ ⊥ ]
 
-page_of : (found : Option (List Value)) (cursor : ℕ) (list : Value) (items : List Value) → Are found (First Cursor cursor (First (λ v l. v ≡ l) list NoMore)) → IsListOf list items → Are found (First Cursor cursor (First IsListOf items NoMore))
+page_of : (found : Option (List Value)) (cursor : ℕ) (list : Value) (items : List Value)
+    → Are found (First Cursor cursor (First (λ v l. v ≡ l) list NoMore)) → IsListOf list items
+    → Are found (First Cursor cursor (First IsListOf items NoMore))
 page_of None cursor list items h l = h
 page_of (Some []) cursor list items h l = h
 page_of (Some (a ∷ [])) cursor list items h l = h
 page_of (Some (a ∷ b ∷ more)) cursor list items h l = (h.0, (subst (λ v. IsListOf v items) (sym h.1.0) l, h.1.1))
 
-parts_of : (found : Option (List Value)) (cursor : ℕ) (items : List Value) → Are found (First Cursor cursor (First IsListOf items NoMore)) → (list : Value) × IsListOf list items × Are found (First Cursor cursor (First (λ v l. v ≡ l) list NoMore))
+parts_of : (found : Option (List Value)) (cursor : ℕ) (items : List Value)
+    → Are found (First Cursor cursor (First IsListOf items NoMore)) → (list : Value) × IsListOf list items
+    × Are found (First Cursor cursor (First (λ v l. v ≡ l) list NoMore))
 parts_of None cursor items h = absurd h
 parts_of (Some []) cursor items h = absurd h
 parts_of (Some (a ∷ [])) cursor items h = absurd h.1
@@ -79,7 +85,10 @@ in_turn_other (p ∷ []) h = absurd (h refl)
 in_turn_other (p ∷ q ∷ pairs) h = of_length_other 2 (in_turn (p ∷ q ∷ pairs)) (λ e. absurd (omega (arith, e)))
 
 module _ {X : Type 0} (n : ℕ) (Of : Value → X → Type 0) (reply : Value) where
-  pub page_read : (cursor : ℕ) (list : Value) (r : Result (Vec (Result X ParsingError) Global) ParsingError) (results : Option (Vec (Result X ParsingError) Global)) → HasParts reply cursor list → MatchResult r (λ v. OfItems n Of list v.items) (λ e. e ≡ parsing.OutOfMemory) → results ≡ result_ok r → ReadsPage n Of reply (record { cursor = cursor; results = results })
+  pub page_read : (cursor : ℕ) (list : Value) (r : Result (Vec (Result X ParsingError) Global) ParsingError)
+      (results : Option (Vec (Result X ParsingError) Global)) → HasParts reply cursor list
+      → MatchResult r (λ v. OfItems n Of list v.items) (λ e. e ≡ parsing.OutOfMemory) → results ≡ result_ok r
+      → ReadsPage n Of reply (record { cursor = cursor; results = results })
   page_read cursor list (Ok v) results h m e = record {
     items = m.items;
     page = page_of (values_of_width 2 (out-Value (stripped reply))) cursor list m.items h.values m.listed;

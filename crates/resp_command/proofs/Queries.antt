@@ -1,5 +1,6 @@
 -- What a call of a connection answers, as what a query over it answers.
-use Rattle.std.proofs.Common.{◌≡◌, ℕ, List, [], ◌∷◌, ◌++◌, length, refl, Option, None, Some, Result, Ok, Err, ap, sym, ◌∙◌, subst, append-nil, arith}
+use Rattle.std.proofs.Common.{◌≡◌, ℕ, List, [], ◌∷◌, ◌++◌, length, refl, Option, None, Some, Result, Ok, Err, ap, sym}
+use Rattle.std.proofs.Common.{◌∙◌, subst, append-nil, arith}
 use Rattle.std.specs.Io.KnownBytes.{Appends, Consumes}
 use Rattle.resp_value.specs.declared.value.Value.{Value, Nil}
 use Rattle.resp_errors.specs.declared.redis_error.RedisError.{RedisError}
@@ -9,7 +10,8 @@ use Rattle.resp_errors.specs.declared.parsing_error.ParsingError.TheVariants.{Fa
 use Rattle.resp_command.specs.Call.{Call, CommandCall, Refuses, broken_link, no_command, AnswersReply, Answers, needed}
 use Rattle.resp_command.specs.Command.{Command}
 use Rattle.resp_command.specs.CommandQuery.{CommandQuery}
-use Rattle.resp_command.specs.Connection.{Connection, Bytes, ExchangeOf, Exchange, replied, malformed, early_end, sink_failed, source_failed, out_of_memory}
+use Rattle.resp_command.specs.Connection.{Connection, Bytes, ExchangeOf, Exchange, replied, malformed, early_end}
+use Rattle.resp_command.specs.Connection.{sink_failed, source_failed, out_of_memory}
 use Rattle.resp_command.specs.Packed.{packed}
 use Rattle.resp_command.proofs.PackedReadsBack.{packed_reads_only}
 use Rattle.resp_command.proofs.OneTaking.{takes_one_thing}
@@ -20,28 +22,31 @@ refuses_ok old new a f h = let k = h.answer in cc
 
 module _ {A B : Type 0} (old new : Connection) (q : List ℕ) (n : ℕ) (answers answers' : List Value → Type 0) where
   -- the same error, of another type of answers
-  exchange_of_err : (bytes : Bytes) (e : RedisError) → ((replies : List Value) → answers replies → ⊥) → ExchangeOf {A = A} bytes old new q n (Err e) answers → ExchangeOf {A = B} bytes old new q n (Err e) answers'
+  exchange_of_err : (bytes : Bytes) (e : RedisError) → ((replies : List Value) → answers replies → ⊥)
+      → ExchangeOf {A = A} bytes old new q n (Err e) answers → ExchangeOf {A = B} bytes old new q n (Err e) answers'
   exchange_of_err bytes e none (replied h) = absurd (none h.replies h.answer)
-  exchange_of_err bytes e none (malformed h) = let i : e ≡ Parse (Fault h.frame_fault) = (let k = h.answer in cc) in malformed (record {
-    frame_fault = h.frame_fault;
-    pushes = h.pushes;
-    sent = h.sent;
-    takes = h.takes;
-    listed = h.listed;
-    broken = h.broken;
-    no_failure = h.no_failure;
-    answer = ap Err i;
-  })
-  exchange_of_err bytes e none (early_end h) = let i : e ≡ Io UnexpectedEof = (let k = h.answer in cc) in early_end (record {
-    pushes = h.pushes;
-    sent = h.sent;
-    takes = h.takes;
-    end = h.end;
-    listed = h.listed;
-    broken = h.broken;
-    no_failure = h.no_failure;
-    answer = ap Err i;
-  })
+  exchange_of_err bytes e none (malformed h) = let i : e ≡ Parse (Fault h.frame_fault) = (let k = h.answer in cc) in
+      malformed (record {
+        frame_fault = h.frame_fault;
+        pushes = h.pushes;
+        sent = h.sent;
+        takes = h.takes;
+        listed = h.listed;
+        broken = h.broken;
+        no_failure = h.no_failure;
+        answer = ap Err i;
+      })
+  exchange_of_err bytes e none (early_end h) = let i : e ≡ Io UnexpectedEof = (let k = h.answer in cc) in
+      early_end (record {
+        pushes = h.pushes;
+        sent = h.sent;
+        takes = h.takes;
+        end = h.end;
+        listed = h.listed;
+        broken = h.broken;
+        no_failure = h.no_failure;
+        answer = ap Err i;
+      })
   exchange_of_err bytes e none (sink_failed h) = sink_failed (record {
     sent = h.sent;
     unread = h.unread;
@@ -61,13 +66,23 @@ module _ {A B : Type 0} (old new : Connection) (q : List ℕ) (n : ℕ) (answers
     sink = h.sink;
     answer = h.answer;
   })
-  exchange_of_err bytes e none (out_of_memory h) = let i : e ≡ OutOfMemory = (let k = h.answer in cc) in out_of_memory (record { answer = ap Err i; no_failure = h.no_failure; left = h.left })
+  exchange_of_err bytes e none (out_of_memory h) = let i : e ≡ OutOfMemory = (let k = h.answer in cc) in
+      out_of_memory (record { answer = ap Err i; no_failure = h.no_failure; left = h.left })
 
-  exchange_err : (e : RedisError) → ((replies : List Value) → answers replies → ⊥) → Exchange {A = A} old new q n (Err e) answers → Exchange {A = B} old new q n (Err e) answers'
-  exchange_err e none h = record { arrived = h.arrived; gone = h.gone; moves = h.moves; needed = h.needed; of = exchange_of_err _ e none h.of }
+  exchange_err : (e : RedisError) → ((replies : List Value) → answers replies → ⊥)
+      → Exchange {A = A} old new q n (Err e) answers → Exchange {A = B} old new q n (Err e) answers'
+  exchange_err e none h = record {
+    arrived = h.arrived;
+    gone = h.gone;
+    moves = h.moves;
+    needed = h.needed;
+    of = exchange_of_err _ e none h.of;
+  }
 
   -- what the replies are answered with, turned into another answer
-  exchange_of_ok : (bytes : Bytes) (a : A) (r : Result B RedisError) → ((replies : List Value) → length replies ≡ n → answers replies → answers' replies) → ExchangeOf {A = A} bytes old new q n (Ok a) answers → ExchangeOf {A = B} bytes old new q n r answers'
+  exchange_of_ok : (bytes : Bytes) (a : A) (r : Result B RedisError)
+      → ((replies : List Value) → length replies ≡ n → answers replies → answers' replies)
+      → ExchangeOf {A = A} bytes old new q n (Ok a) answers → ExchangeOf {A = B} bytes old new q n r answers'
   exchange_of_ok bytes a r turn (replied h) = replied (record {
     replies = h.replies;
     pushes = h.pushes;
@@ -85,13 +100,22 @@ module _ {A B : Type 0} (old new : Connection) (q : List ℕ) (n : ℕ) (answers
   exchange_of_ok bytes a r turn (source_failed h) = absurd h.answer
   exchange_of_ok bytes a r turn (out_of_memory h) = absurd (let k = h.answer in cc)
 
-  exchange_ok : (a : A) (r : Result B RedisError) → ((replies : List Value) → length replies ≡ n → answers replies → answers' replies) → Exchange {A = A} old new q n (Ok a) answers → Exchange {A = B} old new q n r answers'
-  exchange_ok a r turn h = record { arrived = h.arrived; gone = h.gone; moves = h.moves; needed = h.needed; of = exchange_of_ok _ a r turn h.of }
+  exchange_ok : (a : A) (r : Result B RedisError)
+      → ((replies : List Value) → length replies ≡ n → answers replies → answers' replies)
+      → Exchange {A = A} old new q n (Ok a) answers → Exchange {A = B} old new q n r answers'
+  exchange_ok a r turn h = record {
+    arrived = h.arrived;
+    gone = h.gone;
+    moves = h.moves;
+    needed = h.needed;
+    of = exchange_of_ok _ a r turn h.of;
+  }
 
   refuses_err : (e f : RedisError) → Refuses {A = A} old new f (Err e) → Refuses {A = B} old new f (Err e)
   refuses_err e f h = record { answer = (let i : e ≡ f = (let k = h.answer in cc) in ap Err i); same = h.same }
 
-  pub call_err : (IsEmpty : Type 0) (e : RedisError) → ((replies : List Value) → answers replies → ⊥) → Call {A = A} old new IsEmpty q n (Err e) answers → Call {A = B} old new IsEmpty q n (Err e) answers'
+  pub call_err : (IsEmpty : Type 0) (e : RedisError) → ((replies : List Value) → answers replies → ⊥)
+      → Call {A = A} old new IsEmpty q n (Err e) answers → Call {A = B} old new IsEmpty q n (Err e) answers'
   call_err IsEmpty e none h = record {
     same = h.same;
     when_broken = λ b. refuses_err e broken_link (h.when_broken b);
@@ -99,7 +123,9 @@ module _ {A B : Type 0} (old new : Connection) (q : List ℕ) (n : ℕ) (answers
     otherwise = λ b m. exchange_err e none (h.otherwise b m);
   }
 
-  pub call_ok : (IsEmpty : Type 0) (a : A) (r : Result B RedisError) → ((replies : List Value) → length replies ≡ n → answers replies → answers' replies) → Call {A = A} old new IsEmpty q n (Ok a) answers → Call {A = B} old new IsEmpty q n r answers'
+  pub call_ok : (IsEmpty : Type 0) (a : A) (r : Result B RedisError)
+      → ((replies : List Value) → length replies ≡ n → answers replies → answers' replies)
+      → Call {A = A} old new IsEmpty q n (Ok a) answers → Call {A = B} old new IsEmpty q n r answers'
   call_ok IsEmpty a r turn h = record {
     same = h.same;
     when_broken = λ b. absurd (refuses_ok old new a broken_link (h.when_broken b));
@@ -112,8 +138,10 @@ kept-known : (known : Option (List ℕ)) → Consumes known known [] × Appends 
 kept-known None = (tt, tt)
 kept-known (Some xs) = (refl, sym (append-nil xs))
 
-pub nothing_done : {A : Type 0} {old new : Connection} {q : List ℕ} {n : ℕ} {r : Result A RedisError} {answers : List Value → Type 0} → new ≡ old →
-    ExchangeOf (record { incoming = old.received ++ []; left = new.received; sent = [] }) old new q n r answers → Exchange old new q n r answers
+pub nothing_done : {A : Type 0} {old new : Connection} {q : List ℕ} {n : ℕ} {r : Result A RedisError}
+    {answers : List Value → Type 0} → new ≡ old →
+    ExchangeOf (record { incoming = old.received ++ []; left = new.received; sent = [] }) old new q n r answers
+    → Exchange old new q n r answers
 nothing_done {old = old} {new = new} same h = record {
   arrived = [];
   gone = [];
@@ -123,7 +151,14 @@ nothing_done {old = old} {new = new} same h = record {
     to_come = subst (λ (c : Connection). Consumes old.to_come c.to_come []) (sym same) (kept-known old.to_come).0;
     holds = subst (λ (c : Connection). Appends old.holds c.holds []) (sym same) (kept-known old.holds).1;
   };
-  needed = record { before = []; last = []; whole = refl; some = λ _. refl; size = omega arith; short = λ some. absurd (some refl) };
+  needed = record {
+    before = [];
+    last = [];
+    whole = refl;
+    some = λ _. refl;
+    size = omega arith;
+    short = λ some. absurd (some refl);
+  };
   of = h;
 }
 
@@ -138,22 +173,26 @@ none_answered e (reply ∷ []) h = cc
 none_answered e (reply ∷ next ∷ more) h = h
 
 -- a reply that is answered, and then converted
-reply_answered : {X : Type 0} (Of : Value → X → Type 0) (v : Value) (r : Result X RedisError) → Answers Of r v → (replies : List Value) → ReplyIs (Ok v) replies → AnswersReply (Answers Of r) replies
+reply_answered : {X : Type 0} (Of : Value → X → Type 0) (v : Value) (r : Result X RedisError) → Answers Of r v
+    → (replies : List Value) → ReplyIs (Ok v) replies → AnswersReply (Answers Of r) replies
 reply_answered Of v r h [] e = let i : v ≡ Nil = cc in subst (Answers Of r) i h
 reply_answered Of v r h (reply ∷ []) e = let i : v ≡ reply = cc in subst (Answers Of r) i h
 reply_answered Of v r h (reply ∷ next ∷ more) e = e
 
 module _ {X : Type 0} (old new : Connection) (c : Command) (Of : Value → X → Type 0) where
-  pub command_refused : (sent : Result Value RedisError) (e : RedisError) → sent ≡ Err e → CommandCall old new c sent (λ reply. sent ≡ Ok reply) → CommandQuery old new c Of (Err e)
+  pub command_refused : (sent : Result Value RedisError) (e : RedisError) → sent ≡ Err e
+      → CommandCall old new c sent (λ reply. sent ≡ Ok reply) → CommandQuery old new c Of (Err e)
   command_refused sent e is h = record {
     reads_only = packed_reads_only c.args;
     takes_one = λ arrived. takes_one_thing old.limits (needed c) (old.received ++ arrived);
     call = call_err old new (packed c.args) (needed c) (ReplyIs (Err e)) _ _ e (none_answered e) (rw is at h);
   }
 
-  pub command_answered : (sent : Result Value RedisError) (v : Value) (r : Result X RedisError) → sent ≡ Ok v → Answers Of r v → CommandCall old new c sent (λ reply. sent ≡ Ok reply) → CommandQuery old new c Of r
+  pub command_answered : (sent : Result Value RedisError) (v : Value) (r : Result X RedisError) → sent ≡ Ok v
+      → Answers Of r v → CommandCall old new c sent (λ reply. sent ≡ Ok reply) → CommandQuery old new c Of r
   command_answered sent v r is answer h = record {
     reads_only = packed_reads_only c.args;
     takes_one = λ arrived. takes_one_thing old.limits (needed c) (old.received ++ arrived);
-    call = call_ok old new (packed c.args) (needed c) (ReplyIs (Ok v)) _ _ v r (λ replies _. reply_answered Of v r answer replies) (rw is at h);
+    call = call_ok old new (packed c.args) (needed c) (ReplyIs (Ok v)) _ _ v r
+        (λ replies _. reply_answered Of v r answer replies) (rw is at h);
   }

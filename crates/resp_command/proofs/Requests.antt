@@ -1,5 +1,6 @@
 -- What packed commands spell, one after another.
-use Rattle.std.proofs.Common.{ℕ, ◌<◌, ◌^◌, List, [], ◌∷◌, ◌++◌, length, map, refl, sym, ap, ◌∙◌, subst, arith, length-append, append-nil}
+use Rattle.std.proofs.Common.{ℕ, ◌<◌, ◌^◌, List, [], ◌∷◌, ◌++◌, length, map, refl, sym, ap, ◌∙◌, subst, arith}
+use Rattle.std.proofs.Common.{length-append, append-nil}
 use Rattle.std.specs.List.{flat_map}
 use Rattle.resp_value.specs.declared.value.Value.{Value}
 use Rattle.resp_args.specs.Args.{Args}
@@ -11,9 +12,11 @@ use Rattle.resp_command.proofs.PackedReadsBack.{packed_reads_only, joined_once}
 
 -- bytes that are joined of one value spell it
 only_one : (d : ℕ) (b : List ℕ) (v : Value) → Joined (WellFormed d) b (v ∷ []) → WellFormed d b v
-only_one d b v h = subst (λ (l : List ℕ). WellFormed d l v) (sym (h.whole ∙ ap (λ t. h.first ++ t) h.others_are ∙ append-nil h.first)) h.first_is
+only_one d b v h = subst (λ (l : List ℕ). WellFormed d l v)
+    (sym (h.whole ∙ ap (λ t. h.first ++ t) h.others_are ∙ append-nil h.first)) h.first_is
 
-joined_values : (lists : List Args) → length (flat_map packed lists) < 2 ^ 63 → Joined (WellFormed 100) (flat_map packed lists) (map as_value lists)
+joined_values : (lists : List Args) → length (flat_map packed lists) < 2 ^ 63
+    → Joined (WellFormed 100) (flat_map packed lists) (map as_value lists)
 unfolding Reads
 joined_values [] small = refl
 joined_values (args ∷ lists) small =

@@ -1,5 +1,6 @@
 -- Values that are read one after another, and the replies among them.
-use Rattle.std.proofs.Common.{◌≡◌, ℕ, ◌+◌, None, Some, is_none, List, [], ◌∷◌, ◌++◌, length, refl, sym, ap, ◌∙◌, append_assoc, append-nil, length-append, arith, rules}
+use Rattle.std.proofs.Common.{◌≡◌, ℕ, ◌+◌, None, Some, is_none, List, [], ◌∷◌, ◌++◌, length, refl, sym, ap, ◌∙◌}
+use Rattle.std.proofs.Common.{append_assoc, append-nil, length-append, arith, rules}
 use Rattle.std.proofs.lemmas.List.Elements.{filter-append, filter_map-append}
 use Rattle.resp_value.specs.declared.value.Value.{Value, Push, the_lemmas}
 use Rattle.resp_value.specs.declared.names.PushKind.{PushKind}
@@ -9,10 +10,12 @@ use Rattle.resp_parse.specs.Limited.{WellFormedWithin, ReadsWithin, HasValue}
 use Rattle.resp_command.specs.Taken.{as_push, replies_in, pushes_in, PrefixReads, EndsAtReply}
 
 -- a push is one
-pub as_push-Push : (kind : PushKind) (payload : List Value) → as_push (Push kind payload) ≡ Some (record { kind = kind; payload = payload })
+pub as_push-Push : (kind : PushKind) (payload : List Value)
+    → as_push (Push kind payload) ≡ Some (record { kind = kind; payload = payload })
 as_push-Push kind payload = search (rules, the_lemmas)
 
-Joined-append : (P : List ℕ → Value → Type 0) (x y : List ℕ) (vs ws : List Value) → Joined P x vs → Joined P y ws → Joined P (x ++ y) (vs ++ ws)
+Joined-append : (P : List ℕ → Value → Type 0) (x y : List ℕ) (vs ws : List Value) → Joined P x vs → Joined P y ws
+    → Joined P (x ++ y) (vs ++ ws)
 Joined-append P x y [] ws e h = rw e h
 Joined-append P x y (v ∷ vs) ws j h = record {
   first = j.first;
@@ -31,10 +34,17 @@ unfolding ReadsWithin
 reads_one l b rest v h = record {
   prefix = h.prefix;
   whole = h.whole;
-  reads = record { first = h.prefix; others = []; whole = sym (append-nil h.prefix); first_is = h.well_formed; others_are = refl };
+  reads = record {
+    first = h.prefix;
+    others = [];
+    whole = sym (append-nil h.prefix);
+    first_is = h.well_formed;
+    others_are = refl;
+  };
 }
 
-pub reads_both : (l : Limits) (b mid rest : List ℕ) (vs ws : List Value) → PrefixReads l b vs mid → PrefixReads l mid ws rest → PrefixReads l b (vs ++ ws) rest
+pub reads_both : (l : Limits) (b mid rest : List ℕ) (vs ws : List Value) → PrefixReads l b vs mid
+    → PrefixReads l mid ws rest → PrefixReads l b (vs ++ ws) rest
 unfolding ReadsWithin
 reads_both l b mid rest vs ws h k = record {
   prefix = h.prefix ++ k.prefix;
@@ -49,7 +59,8 @@ pub pushes_in-append : (vs ws : List Value) → pushes_in (vs ++ ws) ≡ pushes_
 pushes_in-append vs ws = filter_map-append as_push vs ws
 
 -- as many replies as both hold
-pub count-append : (vs ws : List Value) → length (replies_in (vs ++ ws)) ≡ length (replies_in vs) + length (replies_in ws)
+pub count-append : (vs ws : List Value) → length (replies_in (vs ++ ws)) ≡ length (replies_in vs) + length
+    (replies_in ws)
 count-append vs ws = ap length (replies_in-append vs ws) ∙ length-append (replies_in vs) (replies_in ws)
 
 -- where a beginning of two lists joined ends: within the first, or in the second
@@ -74,12 +85,15 @@ ends_at_nothing = record { enough = refl; least = λ before after v e. absurd (n
     none [] after v e = cc
     none (x ∷ before) after v e = cc
 
-pub ends_after_pushes : (vs : List Value) (v : Value) → replies_in vs ≡ [] → as_push v ≡ None → EndsAtReply 1 (vs ++ v ∷ [])
+pub ends_after_pushes : (vs : List Value) (v : Value) → replies_in vs ≡ [] → as_push v ≡ None
+    → EndsAtReply 1 (vs ++ v ∷ [])
 ends_after_pushes vs v none reply = record {
   enough = count-append vs (v ∷ []) ∙ rw (none, reply) refl;
   least = λ before after w e. elim (ending vs (v ∷ []) before after w e) [
-    | within more k ↦ (let c = count-append before (w ∷ more) in let z : length (replies_in (before ++ w ∷ more)) ≡ 0 = ap (λ l. length (replies_in l)) (sym k) ∙ ap length none in omega arith)
-    | beyond more k l ↦ (let m : more ≡ [] = nothing_before more w after l in let z : length (replies_in before) ≡ 0 = ap (λ l. length (replies_in l)) (k ∙ ap (λ l. vs ++ l) m ∙ append-nil vs) ∙ ap length none in omega arith)
+    | within more k ↦ (let c = count-append before (w ∷ more) in let z : length (replies_in (before ++ w ∷ more))
+        ≡ 0 = ap (λ l. length (replies_in l)) (sym k) ∙ ap length none in omega arith)
+    | beyond more k l ↦ (let m : more ≡ [] = nothing_before more w after l in let z : length (replies_in before)
+        ≡ 0 = ap (λ l. length (replies_in l)) (k ∙ ap (λ l. vs ++ l) m ∙ append-nil vs) ∙ ap length none in omega arith)
   ];
 }
   where
@@ -88,11 +102,13 @@ ends_after_pushes vs v none reply = record {
     nothing_before (x ∷ []) w after e = cc
     nothing_before (x ∷ y ∷ more) w after e = cc
 
-pub ends_after_both : (m n : ℕ) (vs ws : List Value) → EndsAtReply m vs → EndsAtReply n ws → EndsAtReply (m + n) (vs ++ ws)
+pub ends_after_both : (m n : ℕ) (vs ws : List Value) → EndsAtReply m vs → EndsAtReply n ws
+    → EndsAtReply (m + n) (vs ++ ws)
 ends_after_both m n vs ws h k = record {
   enough = (let c = count-append vs ws in let a = h.enough in let b = k.enough in omega arith);
   least = λ before after v e. elim (ending vs ws before after v e) [
     | within more i ↦ (let l = h.least before more v i in omega arith)
-    | beyond more i j ↦ (let l = k.least more after v j in let a = h.enough in let c = ap (λ l. length (replies_in l)) i ∙ count-append vs more in omega arith)
+    | beyond more i j ↦ (let l = k.least more after v j in let a = h.enough in let c = ap (λ l. length (replies_in l)) i
+        ∙ count-append vs more in omega arith)
   ];
 }

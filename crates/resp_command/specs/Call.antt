@@ -1,5 +1,6 @@
 -- What a call over a connection answers.
-use Rattle.std.specs.Prelude.{◌≡◌, ℕ, true, false, List, [], ◌∷◌, drop, Result, Ok, Err, None, codes, if◌then◌else◌, MatchOption, IsOkAnd}
+use Rattle.std.specs.Prelude.{◌≡◌, ℕ, true, false, List, [], ◌∷◌, drop, Result, Ok, Err, None, codes, if◌then◌else◌}
+use Rattle.std.specs.Prelude.{MatchOption, IsOkAnd}
 use Rattle.resp_value.specs.declared.value.Value.{Value, Nil}
 use Rattle.resp_errors.specs.declared.kinds.ErrorKind.TheVariants as kind
 use Rattle.resp_errors.specs.declared.redis_error.RedisError.{RedisError}

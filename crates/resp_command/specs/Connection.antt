@@ -1,5 +1,6 @@
 -- What is known of a connection, and what one exchange over it leaves.
-use Rattle.std.specs.Prelude.{◌≡◌, ℕ, ◌<◌, ◌⊎◌, Bool, true, false, List, [], ◌++◌, length, Option, None, Some, Result, Err, IsErrAnd}
+use Rattle.std.specs.Prelude.{◌≡◌, ℕ, ◌<◌, ◌⊎◌, Bool, true, false, List, [], ◌++◌, length, Option, None, Some, Result}
+use Rattle.std.specs.Prelude.{Err, IsErrAnd}
 use Rattle.std.specs.Io.KnownBytes.{Appends, Consumes, IsAtEnd}
 use Rattle.resp_value.specs.declared.value.Value.{Value}
 use Rattle.resp_value.specs.declared.value.PushInfo.{PushInfo}
@@ -12,7 +13,8 @@ use Rattle.resp_parse.specs.Source.{FailureCounted}
 use Rattle.resp_parse.specs.declared.limits.Limits.{Limits}
 use Rattle.resp_parse.specs.Limits.{usual}
 use Rattle.resp_parse.specs.Limited.{Awaits}
-use Rattle.resp_command.specs.Taken.{ArrivedAsNeeded, Taken, took, met_fault, ended_early, PrefixReads, ListsPushes, pushes_in, replies_in}
+use Rattle.resp_command.specs.Taken.{ArrivedAsNeeded, Taken, took, met_fault, ended_early, PrefixReads, ListsPushes}
+use Rattle.resp_command.specs.Taken.{pushes_in, replies_in}
 
 pub record Connection : Type 0 where
   -- whether several commands may be sent at once

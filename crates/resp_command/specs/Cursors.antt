@@ -1,6 +1,7 @@
 -- Cursor arguments (SCAN and its like take a cursor, an integer in decimal, and answer the next
 -- one): each is sent as the latest cursor of its command.
-use Rattle.std.specs.Prelude.{◌≡◌, ℕ, ◌+◌, ◌-◌, ◌≤◌, List, [], ◌∷◌, ◌++◌, Option, Some, length, decimal, filter, nat_lt, slice_get, slice_set, MatchOption}
+use Rattle.std.specs.Prelude.{◌≡◌, ℕ, ◌+◌, ◌-◌, ◌≤◌, List, [], ◌∷◌, ◌++◌, Option, Some, length, decimal, filter, nat_lt}
+use Rattle.std.specs.Prelude.{slice_get, slice_set, MatchOption}
 use Rattle.resp_args.specs.Args.{Args, extended}
 use Rattle.resp_command.specs.Command.{Command}
 

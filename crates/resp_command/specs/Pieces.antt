@@ -1,6 +1,7 @@
 -- How a command keeps its arguments: the ordinary ones by themselves, and the places of its
 -- cursor arguments, which say where these stand among them.
-use Rattle.std.specs.Prelude.{◌≡◌, ℕ, ◌+◌, List, [], ◌∷◌, map, decimal, nat_lt, Option, None, Some, MatchOption, if◌then◌else◌}
+use Rattle.std.specs.Prelude.{◌≡◌, ℕ, ◌+◌, List, [], ◌∷◌, map, decimal, nat_lt, Option, None, Some, MatchOption}
+use Rattle.std.specs.Prelude.{if◌then◌else◌}
 use Rattle.resp_args.specs.Args.{Args}
 use Rattle.resp_command.specs.declared.args_iter.Arg.{Arg}
 use Rattle.resp_command.specs.declared.args_iter.Arg.TheVariants.{Simple, Cursor}

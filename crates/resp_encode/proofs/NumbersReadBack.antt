@@ -1,5 +1,7 @@
 -- The number that an integer's decimal text writes is the integer; a length's too.
-use Rattle.std.proofs.Common.{◌≡◌, ℕ, zero, suc, ◌<◌, ◌≤◌, ◌^◌, ◌&&◌, Bool, true, false, nat_lt, nat_le, List, [], ◌∷◌, length, All, Option, Some, None, Result, Ok, Err, ℤ, pos, negsuc, cond, refl, ap, subst, ◌∙◌, arith}
+use Rattle.std.proofs.Common.{◌≡◌, ℕ, zero, suc, ◌<◌, ◌≤◌, ◌^◌, ◌&&◌, Bool, true, false, nat_lt, nat_le, List, [], ◌∷◌}
+use Rattle.std.proofs.Common.{length, All, Option, Some, None, Result, Ok, Err, ℤ, pos, negsuc, cond, refl, ap, subst}
+use Rattle.std.proofs.Common.{◌∙◌, arith}
 use Rattle.std.proofs.lemmas.Bool.{and_parts, and_from, lt-ltb, ltb-true, leb-true, le-leb}
 use Rattle.std.proofs.lemmas.Bool.Decides.{nat_tests}
 use Rattle.std.proofs.lemmas.Fmt.{digits_decimal, digits_value-decimal, decimal_nonempty}
@@ -9,7 +11,8 @@ use Rattle.std.proofs.lemmas.Str.Parse.{IsNumeralModel, numerals_by_value, tells
 use Rattle.std.specs.Char.{is_ascii_digit, is_whitespace}
 use Rattle.std.specs.Fmt.{decimal, signed_decimal}
 use Rattle.std.specs.List.{list_all}
-use Rattle.std.specs.Str.{IsAscii, IsUtf8, all_ascii_digits, trim, trim_start, trim_end, skip_leading_whitespace, drop_trailing_whitespace, encode_utf8_all}
+use Rattle.std.specs.Str.{IsAscii, IsUtf8, all_ascii_digits, trim, trim_start, trim_end, skip_leading_whitespace}
+use Rattle.std.specs.Str.{drop_trailing_whitespace, encode_utf8_all}
 use Rattle.std.specs.Str.Parse.{digits_value, starts_with_minus, without_leading_sign, signed_digits_value}
 use Rattle.resp_parse.specs.Lines.{NoBreak}
 use Rattle.std.specs.Prelude.{neg_ℤ}
@@ -34,8 +37,10 @@ not_white c e = let r = graphic-range c e in let low = r.0 in let high = r.1 in 
 
 ascii : (text : List ℕ) → Graphic text → All (λ b. b < 128) text
 ascii [] h k d l = absurd (omega arith)
-ascii (c ∷ text) h zero d l = let p = and_parts (is_graphic c) (list_all is_graphic text) h in let r = graphic-range c p.0 in omega (arith, r.1)
-ascii (c ∷ text) h (suc k) d l = let p = and_parts (is_graphic c) (list_all is_graphic text) h in ascii text p.1 k d (omega arith)
+ascii (c ∷ text) h zero d l = let p = and_parts (is_graphic c) (list_all is_graphic text) h in
+    let r = graphic-range c p.0 in omega (arith, r.1)
+ascii (c ∷ text) h (suc k) d l = let p = and_parts (is_graphic c) (list_all is_graphic text) h in
+    ascii text p.1 k d (omega arith)
 
 skipped : (text : List ℕ) → Graphic text → skip_leading_whitespace text ≡ text
 skipped [] h = refl
@@ -43,14 +48,17 @@ skipped (c ∷ text) h = let p = and_parts (is_graphic c) (list_all is_graphic t
 
 kept : (text : List ℕ) → Graphic text → drop_trailing_whitespace text ≡ text
 kept [] h = refl
-kept (c ∷ text) h = let p = and_parts (is_graphic c) (list_all is_graphic text) h in rw (not_white c p.0) (ap (λ x. c ∷ x) (kept text p.1))
+kept (c ∷ text) h = let p = and_parts (is_graphic c) (list_all is_graphic text) h in
+    rw (not_white c p.0) (ap (λ x. c ∷ x) (kept text p.1))
 
 pub trim-graphic : (text : List ℕ) → Graphic text → trim text ≡ text
 unfolding trim_start trim_end
 trim-graphic text h =
     let a : IsAscii text = IsAscii-from_all text (ascii text h) in
-    let s : trim_start text ≡ text = ap (λ x. encode_utf8_all (skip_leading_whitespace x)) (chars-IsAscii text a) ∙ ap encode_utf8_all (skipped text h) ∙ encodes-IsAscii text a in
-    let e : trim_end text ≡ text = ap (λ x. encode_utf8_all (drop_trailing_whitespace x)) (chars-IsAscii text a) ∙ ap encode_utf8_all (kept text h) ∙ encodes-IsAscii text a in
+    let s : trim_start text ≡ text = ap (λ x. encode_utf8_all (skip_leading_whitespace x)) (chars-IsAscii text a)
+    ∙ ap encode_utf8_all (skipped text h) ∙ encodes-IsAscii text a in
+    let e : trim_end text ≡ text = ap (λ x. encode_utf8_all (drop_trailing_whitespace x)) (chars-IsAscii text a)
+    ∙ ap encode_utf8_all (kept text h) ∙ encodes-IsAscii text a in
     ap trim_end s ∙ e
 
 pub utf8-graphic : (text : List ℕ) → Graphic text → IsUtf8 text
@@ -64,7 +72,8 @@ unbroken-graphic (c ∷ cs) h [] y e =
     let r = graphic-range c (and_parts (is_graphic c) (list_all is_graphic cs) h).0 in
     let low : 32 < c = r.0 in
     omega arith
-unbroken-graphic (c ∷ cs) h (x ∷ xs) y e = unbroken-graphic cs (and_parts (is_graphic c) (list_all is_graphic cs) h).1 xs y (cc)
+unbroken-graphic (c ∷ cs) h (x ∷ xs) y e = unbroken-graphic cs (and_parts (is_graphic c) (list_all is_graphic cs) h).1
+    xs y (cc)
 
 -- ---- digits
 
@@ -84,7 +93,8 @@ digit-graphic c e =
 
 pub digits-graphic : (ds : List ℕ) → list_all is_ascii_digit ds ≡ true → Graphic ds
 digits-graphic [] h = refl
-digits-graphic (c ∷ cs) h = let p = and_parts (is_ascii_digit c) (list_all is_ascii_digit cs) h in and_from (is_graphic c) (list_all is_graphic cs) (digit-graphic c p.0) (digits-graphic cs p.1)
+digits-graphic (c ∷ cs) h = let p = and_parts (is_ascii_digit c) (list_all is_ascii_digit cs) h in
+    and_from (is_graphic c) (list_all is_graphic cs) (digit-graphic c p.0) (digits-graphic cs p.1)
 
 decimal-digits : (n : ℕ) → n < 2 ^ 64 → list_all is_ascii_digit (decimal n) ≡ true
 decimal-digits n wide = digits-same (decimal n) ∙ digits_decimal own n wide
@@ -106,7 +116,8 @@ number-minus n small =
     let ds = decimal (suc n) in
     let g : Graphic (45 ∷ ds) = decimal-graphic (suc n) wide in
     let v = digits_value-decimal own (suc n) wide in
-    let d : is_decimal (45 ∷ ds) ≡ true = and_from (nat_lt 0 (length ds)) (list_all is_ascii_digit ds) (lt-ltb 0 (length ds) (decimal_nonempty (suc n) wide)) (decimal-digits (suc n) wide) in
+    let d : is_decimal (45 ∷ ds) ≡ true = and_from (nat_lt 0 (length ds)) (list_all is_ascii_digit ds)
+    (lt-ltb 0 (length ds) (decimal_nonempty (suc n) wide)) (decimal-digits (suc n) wide) in
     let f : fits_i64 (45 ∷ ds) ≡ true = rw v (le-leb (suc n) (2 ^ 63) (omega arith)) in
     let s : signed_digits_value 10 (45 ∷ ds) ≡ negsuc n = rw v refl in
     ap plain_number (trim-graphic (45 ∷ ds) g) ∙ rw (d, f) (ap Some s)
@@ -121,33 +132,39 @@ signed-graphic (negsuc n) h = decimal-graphic (suc n) (let s = ltb-true n (2 ^ 6
 
 -- ---- what a line writes fits
 
-fits-number : (minus : Bool) (n : ℕ) → cond minus (nat_le n (2 ^ 63)) (nat_lt n (2 ^ 63)) ≡ true → encoding.fits_i64 (cond minus (neg_ℤ (pos n)) (pos n)) ≡ true
+fits-number : (minus : Bool) (n : ℕ) → cond minus (nat_le n (2 ^ 63)) (nat_lt n (2 ^ 63)) ≡ true
+    → encoding.fits_i64 (cond minus (neg_ℤ (pos n)) (pos n)) ≡ true
 fits-number true zero h = refl
-fits-number true (suc n) h = let small : suc n ≤ 2 ^ 63 = leb-true (suc n) (2 ^ 63) h in lt-ltb n (2 ^ 63) (omega (arith, small))
+fits-number true (suc n) h = let small : suc n ≤ 2 ^ 63 = leb-true (suc n) (2 ^ 63) h in
+    lt-ltb n (2 ^ 63) (omega (arith, small))
 fits-number false n h = h
 
 plain-fits : (text : List ℕ) (n : ℤ) → plain_number text ≡ Some n → encoding.fits_i64 n ≡ true
 plain-fits text n e = by (is_decimal text && fits_i64 text) refl e
   where
-    by : (b : Bool) → (is_decimal text && fits_i64 text) ≡ b → cond b (Some (signed_digits_value 10 text)) None ≡ Some n → encoding.fits_i64 n ≡ true
+    by : (b : Bool) → (is_decimal text && fits_i64 text) ≡ b → cond b (Some (signed_digits_value 10 text)) None ≡ Some n
+        → encoding.fits_i64 n ≡ true
     by true h i =
         let z : signed_digits_value 10 text ≡ n = cc in
         let p = and_parts (is_decimal text) (fits_i64 text) h in
-        subst (λ k. encoding.fits_i64 k ≡ true) z (fits-number (starts_with_minus text) (digits_value 10 (without_leading_sign text)) p.1)
+        subst (λ k. encoding.fits_i64 k ≡ true) z
+        (fits-number (starts_with_minus text) (digits_value 10 (without_leading_sign text)) p.1)
     by false h i = absurd (cc)
 
 pub integer-fits : (text : List ℕ) (n : ℤ) → integer_in text ≡ Ok n → encoding.fits_i64 n ≡ true
 unfolding number
 integer-fits text n e = by (number text) refl e
   where
-    by : (o : Option ℤ) → number text ≡ o → (elim o as (λ _. Result ℤ FrameFault) [ Some k ↦ Ok k | None ↦ Err NotInteger ]) ≡ Ok n → encoding.fits_i64 n ≡ true
+    by : (o : Option ℤ) → number text ≡ o → (elim o as (λ _. Result ℤ FrameFault)
+        [ Some k ↦ Ok k | None ↦ Err NotInteger ]) ≡ Ok n → encoding.fits_i64 n ≡ true
     by (Some k) h i = let z : k ≡ n = cc in subst (λ k. encoding.fits_i64 k ≡ true) z (plain-fits (trim text) k h)
     by None h i = absurd (cc)
 
 pub length-fits : (text : List ℕ) (n : ℕ) → length_in text ≡ Ok n → n < 2 ^ 63
 length-fits text n e = by (integer_in text) refl e
   where
-    by : (r : Result ℤ FrameFault) → integer_in text ≡ r → (elim r as (λ _. Result ℕ FrameFault) [ Ok k ↦ as_length k | Err f ↦ Err f ]) ≡ Ok n → n < 2 ^ 63
+    by : (r : Result ℤ FrameFault) → integer_in text ≡ r
+        → (elim r as (λ _. Result ℕ FrameFault) [ Ok k ↦ as_length k | Err f ↦ Err f ]) ≡ Ok n → n < 2 ^ 63
     by (Ok (pos k)) h i = let z : k ≡ n = cc in rw (← z) (ltb-true k (2 ^ 63) (integer-fits text (pos k) h))
     by (Ok (negsuc k)) h i = absurd (cc)
     by (Err f) h i = absurd (cc)

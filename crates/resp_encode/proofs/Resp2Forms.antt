@@ -2,8 +2,10 @@
 use Rattle.std.proofs.Common.{◌≡◌, Bool, true, cond, List, [], ◌∷◌, map, refl, ap, sym, subst, ◌∙◌, ℤ, pos, ℕ}
 use Rattle.std.proofs.lemmas.Bool.{and_parts, and_from}
 use Rattle.std.specs.List.{list_all}
-use Rattle.resp_value.specs.declared.value.Value.{Value, Nil, Okay, Int, SimpleString, BulkString, Array, ServerError, roll-Value, map-Value, ind-Value, fold-roll-Value}
-use Rattle.resp_value.specs.declared.value.Value.TheVariants.{rolls-Nil, rolls-Okay, rolls-Int, rolls-SimpleString, rolls-BulkString, rolls-Array, rolls-ServerError}
+use Rattle.resp_value.specs.declared.value.Value.{Value, Nil, Okay, Int, SimpleString, BulkString, Array, ServerError}
+use Rattle.resp_value.specs.declared.value.Value.{roll-Value, map-Value, ind-Value, fold-roll-Value}
+use Rattle.resp_value.specs.declared.value.Value.TheVariants.{rolls-Nil, rolls-Okay, rolls-Int, rolls-SimpleString}
+use Rattle.resp_value.specs.declared.value.Value.TheVariants.{rolls-BulkString, rolls-Array, rolls-ServerError}
 use Rattle.resp_value.specs.declared.value.Value.TheOpen.{Value-F}
 use Rattle.resp_value.specs.Names.{name_of_push_kind}
 use Rattle.resp_errors.specs.declared.server_error.ServerError.{ServerError as Error}
@@ -60,7 +62,8 @@ typed-elements : (ps : List Typed) → list_all (λ b. b) (map is_resp2 (map res
 typed-elements [] = refl
 typed-elements (p ∷ ps) = and_from _ _ p.1 (typed-elements ps)
 
-typed-pairs : (ps : List (Typed × Typed)) → list_all (λ b. b) (map is_resp2 (flat (map pair_form (map typed_pair ps)))) ≡ true
+typed-pairs : (ps : List (Typed × Typed)) → list_all (λ b. b) (map is_resp2 (flat (map pair_form (map typed_pair ps))))
+    ≡ true
 typed-pairs [] = refl
 typed-pairs (p ∷ ps) = and_from _ _ p.0.1 (and_from _ _ p.1.1 (typed-pairs ps))
 
@@ -79,7 +82,8 @@ typed-layer (Value-F.Double text) = is_resp2-BulkString text
 typed-layer (Value-F.BigNumber bytes) = is_resp2-BulkString bytes
 typed-layer (Value-F.Set ps) = is_resp2-Array _ (typed-elements ps)
 typed-layer (Value-F.VerbatimString format text) = is_resp2-BulkString text
-typed-layer (Value-F.Push kind ps) = is_resp2-Array _ (and_from _ _ (is_resp2-BulkString (name_of_push_kind kind)) (typed-elements ps))
+typed-layer (Value-F.Push kind ps) = is_resp2-Array _
+    (and_from _ _ (is_resp2-BulkString (name_of_push_kind kind)) (typed-elements ps))
 
 pub typed : (v : Value) → IsResp2 (resp2_of v)
 typed = ind-Value (λ v. IsResp2 (resp2_of v)) (λ x layer e.
@@ -92,7 +96,8 @@ Own = (v : Value) × (IsResp2 v → resp2_of v ≡ v)
 abbrev own_value : Own → Value
 own_value p = p.0
 
-own-elements : (ps : List Own) → list_all (λ b. b) (map is_resp2 (map own_value ps)) ≡ true → map resp2_of (map own_value ps) ≡ map own_value ps
+own-elements : (ps : List Own) → list_all (λ b. b) (map is_resp2 (map own_value ps)) ≡ true
+    → map resp2_of (map own_value ps) ≡ map own_value ps
 own-elements [] h = refl
 own-elements (p ∷ ps) h =
     let parts = and_parts _ _ h in
@@ -100,7 +105,8 @@ own-elements (p ∷ ps) h =
     let later : map resp2_of (map own_value ps) ≡ map own_value ps = own-elements ps parts.1 in
     λ i. first i ∷ later i
 
-own-layer : (layer : Value-F Own) → is_typed (map-Value Own Value own_value layer) ≡ true → form (map-Value Own Value own_value layer) ≡ roll-Value (map-Value Own Value own_value layer)
+own-layer : (layer : Value-F Own) → is_typed (map-Value Own Value own_value layer) ≡ true
+    → form (map-Value Own Value own_value layer) ≡ roll-Value (map-Value Own Value own_value layer)
 own-layer Value-F.Nil h = sym rolls-Nil
 own-layer Value-F.Okay h = sym rolls-Okay
 own-layer (Value-F.Int n) h = sym (rolls-Int n)
@@ -119,7 +125,8 @@ own-layer (Value-F.Push kind ps) h = absurd (cc)
 
 pub unchanged : (v : Value) → IsResp2 v → resp2_of v ≡ v
 unchanged = ind-Value (λ v. IsResp2 v → resp2_of v ≡ v) (λ x layer e h.
-    rolled-form x ∙ subst (λ y. is_typed y ≡ true → form y ≡ roll-Value y) e (own-layer layer) (sym (rolled-typed x) ∙ h))
+    rolled-form x ∙ subst (λ y. is_typed y ≡ true → form y ≡ roll-Value y) e (own-layer layer)
+    (sym (rolled-typed x) ∙ h))
 
 pub idempotent : (v : Value) → resp2_of (resp2_of v) ≡ resp2_of v
 idempotent v = unchanged (resp2_of v) (typed v)

@@ -1,5 +1,6 @@
 -- What a function that appends a text answers, and what it leaves.
-use Rattle.std.specs.Prelude.{◌≡◌, ℕ, ◌^◌, nat_lt, decimal, List, ◌∷◌, ◌++◌, length, take, Option, None, Some, Result, Ok, Err}
+use Rattle.std.specs.Prelude.{◌≡◌, ℕ, ◌^◌, nat_lt, decimal, List, ◌∷◌, ◌++◌, length, take, Option, None, Some, Result}
+use Rattle.std.specs.Prelude.{Ok, Err}
 use Rattle.std.specs.Fmt.{◌++?◌}
 use Rattle.resp_parse.specs.Lines.{crlf}
 use Rattle.resp_encode.specs.Encoding.{given}

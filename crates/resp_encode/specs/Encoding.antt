@@ -1,5 +1,6 @@
 -- The one spelling of a value that a server writes (RESP3), of all that the grammar reads as it.
-use Rattle.std.specs.Prelude.{◌≡◌, ℕ, zero, suc, ◌^◌, Bool, true, false, cond, not, ◌&&◌, ◌||◌, ◌==◌, nat_lt, List, [], ◌∷◌, ◌++◌, length, codes, ℤ, pos, negsuc, Option, None, Some, decimal}
+use Rattle.std.specs.Prelude.{◌≡◌, ℕ, zero, suc, ◌^◌, Bool, true, false, cond, not, ◌&&◌, ◌||◌, ◌==◌, nat_lt, List, []}
+use Rattle.std.specs.Prelude.{◌∷◌, ◌++◌, length, codes, ℤ, pos, negsuc, Option, None, Some, decimal}
 use Rattle.std.specs.Fmt.{◌++?◌, signed_decimal}
 use Rattle.std.specs.List.{list_all, position_or_len}
 use Rattle.std.specs.Str.{is_utf8, bytes_eq}

@@ -2,7 +2,8 @@
 -- its own types stands for).
 use Rattle.std.specs.Prelude.{◌≡◌, Bool, true, false, cond, List, [], ◌∷◌, pos}
 use Rattle.std.specs.List.{list_all}
-use Rattle.resp_value.specs.declared.value.Value.{Value, Nil, Okay, Int, SimpleString, BulkString, Array, ServerError, fold-Value}
+use Rattle.resp_value.specs.declared.value.Value.{Value, Nil, Okay, Int, SimpleString, BulkString, Array, ServerError}
+use Rattle.resp_value.specs.declared.value.Value.{fold-Value}
 use Rattle.resp_value.specs.declared.value.Value.TheOpen.{Value-F}
 use Rattle.resp_value.specs.Names.{name_of_push_kind}
 

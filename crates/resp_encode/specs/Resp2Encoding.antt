@@ -1,5 +1,6 @@
 -- The bytes that a server sends for a value to a client of RESP2.
-use Rattle.std.specs.Prelude.{◌≡◌, ℕ, zero, suc, ◌*◌, ◌==◌, ◌||◌, Bool, true, false, cond, List, [], ◌∷◌, length, codes, Option, None, Some}
+use Rattle.std.specs.Prelude.{◌≡◌, ℕ, zero, suc, ◌*◌, ◌==◌, ◌||◌, Bool, true, false, cond, List, [], ◌∷◌, length, codes}
+use Rattle.std.specs.Prelude.{Option, None, Some}
 use Rattle.resp_value.specs.declared.value.Value.{Value, BulkString, out-Value}
 use Rattle.resp_value.specs.declared.value.Value.TheOpen.{Value-F}
 use Rattle.resp_value.specs.Names.{name_of_push_kind}
@@ -12,7 +13,8 @@ use Rattle.resp_encode.specs.Encoding.{given, is_line, line, body_of, aggregate,
 
 -- an error's text in a line
 abbrev pub resp2_error_of : Error → Option (List ℕ)
-resp2_error_of error = cond (is_own_code error) (given (is_line (text_of error)) (line type_byte.SimpleError (text_of error))) None
+resp2_error_of error = cond (is_own_code error)
+    (given (is_line (text_of error)) (line type_byte.SimpleError (text_of error))) None
 
 -- the bytes for a value, where those for its elements are known
 abbrev pub resp2_spelling : (Value → Option (List ℕ)) → Value-F Value → Option (List ℕ)

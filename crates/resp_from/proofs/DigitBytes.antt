@@ -14,7 +14,8 @@ digits_utf8 bytes at all digits =
     IsUtf8-from_ascii bytes (IsAscii-from_digits bytes (subst (AllDigits 10) (take_all at bytes all) digits))
 
 -- what up to 18 digits write
-pub digits_small : (bytes : List ℕ) (at : ℕ) → length bytes ≤ 18 → AllDigits 10 (take at bytes) → digits_value 10 (take at bytes) < 10 ^ 18
+pub digits_small : (bytes : List ℕ) (at : ℕ) → length bytes ≤ 18 → AllDigits 10 (take at bytes)
+    → digits_value 10 (take at bytes) < 10 ^ 18
 digits_small bytes at few digits =
     let bound = digits_value-lt 10 (take at bytes) digits in
     let places : length (take at bytes) ≤ 18 = grind (arith, common_steps) in

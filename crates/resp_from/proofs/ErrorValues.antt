@@ -9,7 +9,8 @@ use Rattle.resp_from.specs.Results.{OfResult}
 use Rattle.resp_from.proofs.TopLayer.{out-ServerError}
 
 -- what is no error of the server is a result only as a value
-pub as_value : {X : Type 0} (Of : Value → X → Type 0) (v : Value) → (kind_of v ≡ kind.ServerError → ⊥) → (x : Result X RedisError) → OfResult Of v x → (y : X) × Of v y
+pub as_value : {X : Type 0} (Of : Value → X → Type 0) (v : Value) → (kind_of v ≡ kind.ServerError → ⊥)
+    → (x : Result X RedisError) → OfResult Of v x → (y : X) × Of v y
 as_value Of v other (Ok y) h = (y, h.1)
 as_value Of v other (Err (form.Server error)) h = absurd (other (ap kind_of h ∙ ap kind_in (out-ServerError error)))
 as_value Of v other (Err _) h = absurd h

@@ -30,27 +30,35 @@ unfolding IsReadable
 more_levels zero v h = absurd h
 more_levels (suc d) v h = layer-more (IsReadable d) (IsReadable (suc d)) (more_levels d) (out-Value v) h
 
-elements-layer : (P : Value → Type 0) (y : Value-F Value) → is_list y ≡ true → IsReadableLayer P y → All P (elements_in y)
+elements-layer : (P : Value → Type 0) (y : Value-F Value) → is_list y ≡ true → IsReadableLayer P y
+    → All P (elements_in y)
 elements-layer P (Value-F.Array elements) is h = h
 elements-layer P (Value-F.Set elements) is h = h
 elements-layer P _ is h = absurd (cc)
 
-each-element : (d : ℕ) (v : Value) → is_list (out-Value v) ≡ true → IsReadable (suc d) v → All (IsReadable d) (elements_of v)
+each-element : (d : ℕ) (v : Value) → is_list (out-Value v) ≡ true → IsReadable (suc d) v
+    → All (IsReadable d) (elements_of v)
 unfolding IsReadable
 each-element d v is h = elements-layer (IsReadable d) (out-Value v) is h
 
 -- the elements of a list are as readable as it
-pub elements_readable : (v : Value) → is_list (out-Value v) ≡ true → IsReadable 1000 v → All (IsReadable 1000) (elements_of v)
-elements_readable v is h = All-weaker (IsReadable 999) (IsReadable 1000) (more_levels 999) (elements_of v) (each-element 999 v is h)
+pub elements_readable : (v : Value) → is_list (out-Value v) ≡ true → IsReadable 1000 v
+    → All (IsReadable 1000) (elements_of v)
+elements_readable v is h = All-weaker (IsReadable 999) (IsReadable 1000) (more_levels 999) (elements_of v)
+    (each-element 999 v is h)
 
-pairs-layer : (P : Value → Type 0) (y : Value-F Value) → kind_in y ≡ kind.Map → IsReadableLayer P y → All (BothAre P) (pairs_in y)
+pairs-layer : (P : Value → Type 0) (y : Value-F Value) → kind_in y ≡ kind.Map → IsReadableLayer P y
+    → All (BothAre P) (pairs_in y)
 pairs-layer P (Value-F.Map pairs) is h = h
 pairs-layer P _ is h = absurd (cc)
 
-each-pair : (d : ℕ) (v : Value) → kind_of v ≡ kind.Map → IsReadable (suc d) v → All (BothAre (IsReadable d)) (pairs_of v)
+each-pair : (d : ℕ) (v : Value) → kind_of v ≡ kind.Map → IsReadable (suc d) v
+    → All (BothAre (IsReadable d)) (pairs_of v)
 unfolding IsReadable
 each-pair d v is h = pairs-layer (IsReadable d) (out-Value v) is h
 
 -- the pairs of a map are as readable as it
-pub pairs_readable : (v : Value) → kind_of v ≡ kind.Map → IsReadable 1000 v → All (BothAre (IsReadable 1000)) (pairs_of v)
-pairs_readable v is h = pairs-more (IsReadable 999) (IsReadable 1000) (more_levels 999) (pairs_of v) (each-pair 999 v is h)
+pub pairs_readable : (v : Value) → kind_of v ≡ kind.Map → IsReadable 1000 v
+    → All (BothAre (IsReadable 1000)) (pairs_of v)
+pairs_readable v is h = pairs-more (IsReadable 999) (IsReadable 1000) (more_levels 999) (pairs_of v)
+    (each-pair 999 v is h)

@@ -20,5 +20,7 @@ pub out-ServerError : (error : Failure) → out-Value (ServerError error) ≡ Va
 out-ServerError error = search (rules, the_lemmas)
 
 -- a conversion to a list of what a reply's top shows is one of the reply
-pub OfVec-layer : {X : Type 0} (n : ℕ) (each : Bool) (Of : Value → X → Type 0) (reply : Value) (layer : Value-F Value) (r : Result (Vec X Global) ParsingError) → out-Value reply ≡ layer → ConvertsList (IsVec n each Of layer) r → ConvertsList (OfVec n each Of reply) r
+pub OfVec-layer : {X : Type 0} (n : ℕ) (each : Bool) (Of : Value → X → Type 0) (reply : Value) (layer : Value-F Value)
+    (r : Result (Vec X Global) ParsingError) → out-Value reply ≡ layer → ConvertsList (IsVec n each Of layer) r
+    → ConvertsList (OfVec n each Of reply) r
 OfVec-layer n each Of reply layer r e h = subst (λ w. ConvertsList (IsVec n each Of w) r) (sym e) h

@@ -1,6 +1,7 @@
 -- The rules by which a list of replies, or a bulk string, is many values of one type (RESP,
 -- "Arrays", "Bulk strings"; RESP3, "Maps", "Sets").
-use Rattle.std.specs.Prelude.{◌≡◌, ℕ, ◌*◌, ◌==◌, ◌||◌, ◌⊎◌, pos, Bool, false, cond, List, [], ◌∷◌, length, map, Result, Err}
+use Rattle.std.specs.Prelude.{◌≡◌, ℕ, ◌*◌, ◌==◌, ◌||◌, ◌⊎◌, pos, Bool, false, cond, List, [], ◌∷◌, length, map, Result}
+use Rattle.std.specs.Prelude.{Err}
 use Rattle.std.specs.Bool.{MatchBool}
 use Rattle.std.specs.List.{AllZip, AllByRecursion, flat_map, list_all}
 use Rattle.resp_errors.specs.declared.parsing_error.ParsingError.{ParsingError}

@@ -17,5 +17,6 @@ agreeing_by Fits Alike f (Err (parsing.Described text)) (Ok y) h k = absurd (h y
 agreeing_by Fits Alike f (Err (parsing.Fault fault)) (Ok y) h k = absurd h
 agreeing_by Fits Alike f (Err d) (Err e) h k = tt
 
-pub agreeing : {X : Type 0} (Fits : X → Type 0) (r s : Result X ParsingError) → Converts Fits r → Converts Fits s → Agree Fits r s
+pub agreeing : {X : Type 0} (Fits : X → Type 0) (r s : Result X ParsingError) → Converts Fits r → Converts Fits s
+    → Agree Fits r s
 agreeing Fits r s h k = agreeing_by Fits (λ x y. Fits x × Fits y) (λ x y p q. (p, q)) r s h k

@@ -1,5 +1,6 @@
 -- A request, and then its replies.
-use Rattle.std.proofs.Common.{◌≡◌, ℕ, ◌<◌, List, [], ◌∷◌, ◌++◌, length, true, false, Bool, append-nil, sym, ap, ◌∙◌, refl, subst, Option, None, Some, Result, Ok, Err, inr}
+use Rattle.std.proofs.Common.{◌≡◌, ℕ, ◌<◌, List, [], ◌∷◌, ◌++◌, length, true, false, Bool, append-nil, sym, ap, ◌∙◌}
+use Rattle.std.proofs.Common.{refl, subst, Option, None, Some, Result, Ok, Err, inr}
 use Rattle.std.specs.Io.KnownBytes.{Consumes}
 use Rattle.resp_value.specs.declared.value.Value.{Value}
 use Rattle.resp_errors.specs.declared.kinds.IoKind.{IoKind}
@@ -11,13 +12,15 @@ use Rattle.resp_link.specs.Linking.{connection_of, Exchanges}
 use Rattle.resp_link.specs.Sink.{Sink, SendsAll}
 use Rattle.resp_command.specs.Taken.{Taken, took, met_fault, ended_early, pushes_in, replies_in, all, all_but_last}
 use Rattle.resp_command.proofs.Values.{reads_one, reads_both}
-use Rattle.resp_link.specs.Receiving.{Inflow, FollowsPush, StopsReceiving, Receives, CannotReceive, malformed, early_end, source_failed, out_of_memory, no_room}
+use Rattle.resp_link.specs.Receiving.{Inflow, FollowsPush, StopsReceiving, Receives, CannotReceive, malformed}
+use Rattle.resp_link.specs.Receiving.{early_end, source_failed, out_of_memory, no_room}
 use Rattle.resp_link.proofs.Receiving.{needed-none, consumed-nothing}
 use Rattle.resp_command.specs.Call.{Call, needed}
 use Rattle.resp_command.specs.Command.{Command}
 use Rattle.resp_command.specs.Packed.{packed}
 use Rattle.resp_command.specs.Connection as connection
-use Rattle.resp_command.specs.Connection.{Connection, SameKind, Moves, Bytes, Sent, ExchangeOf, Exchange, TookTooFew, TookSome, BrokenMidway}
+use Rattle.resp_command.specs.Connection.{Connection, SameKind, Moves, Bytes, Sent, ExchangeOf, Exchange, TookTooFew}
+use Rattle.resp_command.specs.Connection.{TookSome, BrokenMidway}
 
 -- ---- what was read before it stopped
 
@@ -25,17 +28,40 @@ module _ (n : ℕ) (i i' : Inflow) (e : RedisError) (r : CannotReceive n i i' e)
   abbrev incoming : List ℕ
   incoming = i.received ++ r.reads.arrived
 
-  taken_fault : length (replies_in r.values) < n → (f : FrameFault) → HasFault i.limits r.rest f → Taken i.limits n incoming (met_fault f (pushes_in r.values))
+  taken_fault : length (replies_in r.values) < n → (f : FrameFault) → HasFault i.limits r.rest f
+      → Taken i.limits n incoming (met_fault f (pushes_in r.values))
   unfolding Taken
-  taken_fault few f bad = record { values = r.values; rest = r.rest; prefix = r.reads.prefix; few = few; pushes_are = refl; follows = bad }
+  taken_fault few f bad = record {
+    values = r.values;
+    rest = r.rest;
+    prefix = r.reads.prefix;
+    few = few;
+    pushes_are = refl;
+    follows = bad;
+  }
 
-  taken_early : length (replies_in r.values) < n → Awaits i.limits r.rest → Taken i.limits n incoming (ended_early (pushes_in r.values))
+  taken_early : length (replies_in r.values) < n → Awaits i.limits r.rest
+      → Taken i.limits n incoming (ended_early (pushes_in r.values))
   unfolding Taken
-  taken_early few incomplete = record { values = r.values; rest = r.rest; prefix = r.reads.prefix; few = few; pushes_are = refl; follows = incomplete }
+  taken_early few incomplete = record {
+    values = r.values;
+    rest = r.rest;
+    prefix = r.reads.prefix;
+    few = few;
+    pushes_are = refl;
+    follows = incomplete;
+  }
 
-taken_got : (n : ℕ) (i i' : Inflow) (replies : List Value) (r : Receives n i i' replies) → Taken i.limits n (i.received ++ r.reads.arrived) (took replies (pushes_in r.values) i'.received)
+taken_got : (n : ℕ) (i i' : Inflow) (replies : List Value) (r : Receives n i i' replies)
+    → Taken i.limits n (i.received ++ r.reads.arrived) (took replies (pushes_in r.values) i'.received)
 unfolding Taken
-taken_got n i i' replies r = record { values = r.values; prefix = r.reads.prefix; ends = r.ends; replies_are = r.replies_are; pushes_are = refl }
+taken_got n i i' replies r = record {
+  values = r.values;
+  prefix = r.reads.prefix;
+  ends = r.ends;
+  replies_are = r.replies_are;
+  pushes_are = refl;
+}
 
 -- ---- an exchange of a link
 
@@ -44,15 +70,25 @@ module _ (i i' : Inflow) (k k' : Sink) (b b' : Bool) where
   same_kind : i'.limits ≡ i.limits → SameKind (connection_of i k b) (connection_of i' k' b')
   same_kind limits = record { pipelines = refl; limits = limits; read_size = refl }
 
-  moves : (arrived : List ℕ) → i'.came ≡ i.came ++ arrived → Consumes i.to_come i'.to_come arrived → {q : List ℕ} {r : Result (Unit {0}) IoKind} → (sending : SendsAll k k' q r) → Moves (connection_of i k b) (connection_of i' k' b') arrived sending.gone
-  moves arrived came to_come sending = record { came = came; sent = sending.sent; to_come = to_come; holds = sending.holds }
+  moves : (arrived : List ℕ) → i'.came ≡ i.came ++ arrived → Consumes i.to_come i'.to_come arrived
+      → {q : List ℕ} {r : Result (Unit {0}) IoKind} → (sending : SendsAll k k' q r)
+      → Moves (connection_of i k b) (connection_of i' k' b') arrived sending.gone
+  moves arrived came to_come sending = record {
+    came = came;
+    sent = sending.sent;
+    to_come = to_come;
+    holds = sending.holds;
+  }
 
-  sent_whole : (q incoming left : List ℕ) → (sending : SendsAll k k' q (Ok tt)) → Sent (record { incoming = incoming; left = left; sent = sending.gone }) (connection_of i' k' b') q
+  sent_whole : (q incoming left : List ℕ) → (sending : SendsAll k k' q (Ok tt))
+      → Sent (record { incoming = incoming; left = left; sent = sending.gone }) (connection_of i' k' b') q
   sent_whole q incoming left sending = record { all = sending.part; flushed = sending.flushed }
 
 -- the request wasn't sent whole
-pub unsent : {A : Type 0} (i : Inflow) (k k' : Sink) (b : Bool) (q : List ℕ) (n : ℕ) (kind : IoKind) (answers : List Value → Type 0) →
-    SendsAll k k' q (Err kind) → Exchanges {A = A} (connection_of i k b) (connection_of i k' true) q n (Err (Io kind)) answers
+pub unsent : {A : Type 0} (i : Inflow) (k k' : Sink) (b : Bool) (q : List ℕ) (n : ℕ) (kind : IoKind)
+    (answers : List Value → Type 0) →
+    SendsAll k k' q (Err kind) → Exchanges {A = A} (connection_of i k b) (connection_of i k' true) q n (Err (Io kind))
+    answers
 unsent i k k' b q n kind answers sending =
     record {
       same = same_kind i i k k' b true refl;
@@ -74,8 +110,10 @@ unsent i k k' b q n kind answers sending =
     }
 
 -- the replies came
-pub replied : {A : Type 0} (i i' : Inflow) (k k' : Sink) (b : Bool) (q : List ℕ) (n : ℕ) (replies : List Value) (result : Result A RedisError) (answers : List Value → Type 0) →
-    SendsAll k k' q (Ok tt) → Receives n i i' replies → answers replies → Exchanges (connection_of i k b) (connection_of i' k' false) q n result answers
+pub replied : {A : Type 0} (i i' : Inflow) (k k' : Sink) (b : Bool) (q : List ℕ) (n : ℕ) (replies : List Value)
+    (result : Result A RedisError) (answers : List Value → Type 0) →
+    SendsAll k k' q (Ok tt) → Receives n i i' replies → answers replies
+    → Exchanges (connection_of i k b) (connection_of i' k' false) q n result answers
 replied i i' k k' b q n replies result answers sending r answer = record {
   same = same_kind i i' k k' b false r.reads.limits;
   exchange = record {
@@ -98,7 +136,8 @@ replied i i' k k' b q n replies result answers sending r answer = record {
 }
 
 -- fewer replies came than were needed
-module _ (i i' : Inflow) (k k' : Sink) (b : Bool) (q : List ℕ) (n : ℕ) (e : RedisError) (sending : SendsAll k k' q (Ok tt)) (r : CannotReceive n i i' e) where
+module _ (i i' : Inflow) (k k' : Sink) (b : Bool) (q : List ℕ) (n : ℕ) (e : RedisError)
+    (sending : SendsAll k k' q (Ok tt)) (r : CannotReceive n i i' e) where
   abbrev bytes : Bytes
   bytes = record { incoming = i.received ++ r.reads.arrived; left = i'.received; sent = sending.gone }
 
@@ -108,7 +147,8 @@ module _ (i i' : Inflow) (k k' : Sink) (b : Bool) (q : List ℕ) (n : ℕ) (e : 
   abbrev new : Connection
   new = connection_of i' k' true
 
-  too_few : length (replies_in r.values) < n → Awaits i.limits r.rest → i'.received ≡ r.rest → TookTooFew n bytes old new (pushes_in r.values)
+  too_few : length (replies_in r.values) < n → Awaits i.limits r.rest → i'.received ≡ r.rest
+      → TookTooFew n bytes old new (pushes_in r.values)
   too_few few awaits left = record {
     values = r.values;
     taken = rw left r.reads.prefix;
@@ -134,11 +174,14 @@ module _ (i i' : Inflow) (k k' : Sink) (b : Bool) (q : List ℕ) (n : ℕ) (e : 
   took_but_last : FollowsPush i.limits r.rest i'.received → TookSome bytes i.limits (pushes_in r.values)
   took_but_last p = record {
     values = r.values ++ p.push ∷ [];
-    taken = reads_both i.limits bytes.incoming r.rest i'.received r.values (p.push ∷ []) r.reads.prefix (reads_one i.limits r.rest i'.received p.push p.prefix);
+    taken = reads_both i.limits bytes.incoming r.rest i'.received r.values (p.push ∷ []) r.reads.prefix
+        (reads_one i.limits r.rest i'.received p.push p.prefix);
     listed = all_but_last r.values p.push refl p.is_push refl;
   }
 
-  missed : {A : Type 0} (answers : List Value → Type 0) → StopsReceiving (length (replies_in r.values) < n) i i' r.rest e → ExchangeOf {A = A} bytes old new q n (Err e) answers
+  missed : {A : Type 0} (answers : List Value → Type 0)
+      → StopsReceiving (length (replies_in r.values) < n) i i' r.rest e
+      → ExchangeOf {A = A} bytes old new q n (Err e) answers
   missed answers (malformed f few is bad same) = connection.malformed (record {
     frame_fault = f;
     pushes = pushes_in r.values;
@@ -180,8 +223,10 @@ module _ (i i' : Inflow) (k k' : Sink) (b : Bool) (q : List ℕ) (n : ℕ) (e : 
     left = inr (midway (took_but_last push));
   })
 
-pub unanswered : {A : Type 0} (i i' : Inflow) (k k' : Sink) (b : Bool) (q : List ℕ) (n : ℕ) (e : RedisError) (answers : List Value → Type 0) →
-    SendsAll k k' q (Ok tt) → CannotReceive n i i' e → Exchanges {A = A} (connection_of i k b) (connection_of i' k' true) q n (Err e) answers
+pub unanswered : {A : Type 0} (i i' : Inflow) (k k' : Sink) (b : Bool) (q : List ℕ) (n : ℕ) (e : RedisError)
+    (answers : List Value → Type 0) →
+    SendsAll k k' q (Ok tt) → CannotReceive n i i' e
+    → Exchanges {A = A} (connection_of i k b) (connection_of i' k' true) q n (Err e) answers
 unanswered i i' k k' b q n e answers sending r = record {
   same = same_kind i i' k k' b true r.reads.limits;
   exchange = record {
@@ -194,7 +239,8 @@ unanswered i i' k k' b q n e answers sending r = record {
 }
 
 -- the call of a command that isn't refused
-pub commanded : {A : Type 0} (old new : Connection) (c : Command) (q : List ℕ) (n : ℕ) (r : Result A RedisError) (answers : List Value → Type 0) → old.broken ≡ false → (c.args ≡ [] → ⊥) → q ≡ packed c.args → n ≡ needed c →
+pub commanded : {A : Type 0} (old new : Connection) (c : Command) (q : List ℕ) (n : ℕ) (r : Result A RedisError)
+    (answers : List Value → Type 0) → old.broken ≡ false → (c.args ≡ [] → ⊥) → q ≡ packed c.args → n ≡ needed c →
     Exchanges old new q n r answers → Call old new (c.args ≡ []) (packed c.args) (needed c) r answers
 commanded old new c q n r answers works some is count h = record {
   same = h.same;

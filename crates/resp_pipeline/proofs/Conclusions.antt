@@ -18,8 +18,11 @@ same_ends (x ∷ xs) (y ∷ ys) a b e =
     (ap (λ h. h ∷ xs) first ∙ ap (λ t. y ∷ t) rest.0, rest.1)
 
 -- what the last reply makes after those before it, it makes however all are taken apart
-pub concluded : {X : Type 0} (p : Plan) (Of : Value → X → Type 0) (r : Result X RedisError) (before replies : List Value) (last : Value) → replies ≡ before ++ last ∷ [] → Concludes p Of r (drop 1 before) last
-    → (multi exec : Value) (queued : List Value) → replies ≡ multi ∷ (queued ++ exec ∷ []) → Concludes p Of r queued exec
+pub concluded : {X : Type 0} (p : Plan) (Of : Value → X → Type 0) (r : Result X RedisError)
+    (before replies : List Value) (last : Value) → replies ≡ before ++ last ∷ [] → Concludes p Of r (drop 1 before) last
+    → (multi exec : Value) (queued : List Value) → replies ≡ multi ∷ (queued ++ exec ∷ [])
+    → Concludes p Of r queued exec
 concluded p Of r before replies last was h multi exec queued is =
     let same = same_ends before (multi ∷ queued) last exec (sym was ∙ is) in
-    subst (λ (v : Value). Concludes p Of r queued v) same.1 (subst (λ (vs : List Value). Concludes p Of r (drop 1 vs) last) same.0 h)
+    subst (λ (v : Value). Concludes p Of r queued v) same.1
+    (subst (λ (vs : List Value). Concludes p Of r (drop 1 vs) last) same.0 h)

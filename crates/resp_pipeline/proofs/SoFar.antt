@@ -1,5 +1,6 @@
 -- What the attempts so far came to.
-use Rattle.std.proofs.Common.{◌≡◌, ℕ, ◌+◌, ◌-◌, ◌<◌, Bool, true, false, List, [], ◌∷◌, ◌++◌, length, refl, inl, inr, Result, Ok, Err, length-append, zero-add, arith}
+use Rattle.std.proofs.Common.{◌≡◌, ℕ, ◌+◌, ◌-◌, ◌<◌, Bool, true, false, List, [], ◌∷◌, ◌++◌, length, refl, inl, inr}
+use Rattle.std.proofs.Common.{Result, Ok, Err, length-append, zero-add, arith}
 use Rattle.std.specs.List.{FoldsTo}
 use Rattle.std.proofs.lemmas.Fn.{FoldsTo-push}
 use Rattle.resp_pipeline.specs.Retried.{TriedAgain, Retried}

@@ -5,7 +5,8 @@ use Rattle.resp_value.specs.declared.value.Value.TheOpen.{Value-F}
 use Rattle.resp_errors.specs.declared.server_error.ServerError.{ServerError}
 use Rattle.resp_errors.specs.declared.kinds.ErrorKind.TheVariants.{UnexpectedReturnType}
 use Rattle.resp_errors.specs.declared.redis_error.RedisError.{RedisError}
-use Rattle.resp_errors.specs.declared.redis_error.RedisError.TheVariants.{General, Server, Pipeline, Aborted, OutOfMemory}
+use Rattle.resp_errors.specs.declared.redis_error.RedisError.TheVariants.{General, Server, Pipeline, Aborted}
+use Rattle.resp_errors.specs.declared.redis_error.RedisError.TheVariants.{OutOfMemory}
 use Rattle.resp_from.specs.Conversion.{ConvertsCall}
 use Rattle.resp_command.specs.Call.{Answers}
 use Rattle.resp_pipeline.specs.Pipeline.{Plan}

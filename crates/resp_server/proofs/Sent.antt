@@ -13,10 +13,13 @@ appended : (bytes : Option (List ℕ)) (b : List ℕ) → (Some [] ++? bytes) �
 appended None b e = absurd (cc)
 appended (Some x) b e = e
 
-pub sent : (bytes : Option (List ℕ)) (b : List ℕ) (old new : Sink) (done : Unit {0}) → (Some [] ++? bytes) ≡ Some b → SendsAll old new b (Ok done) → SentBytes bytes old new
+pub sent : (bytes : Option (List ℕ)) (b : List ℕ) (old new : Sink) (done : Unit {0}) → (Some [] ++? bytes) ≡ Some b
+    → SendsAll old new b (Ok done) → SentBytes bytes old new
 sent bytes b old new done e all = record { sent = b; are = appended bytes b e; all = all }
 
-pub failed : (bytes : Option (List ℕ)) (b : List ℕ) (old new : Sink) (kind : IoKind) (answer : Result (Unit {0}) RedisError) → (Some [] ++? bytes) ≡ Some b → SendsAll old new b (Err kind) → IsErr answer × IsErrAnd answer (λ e. e ≡ form.Io kind) → SendsValue bytes old new answer
+pub failed : (bytes : Option (List ℕ)) (b : List ℕ) (old new : Sink) (kind : IoKind)
+    (answer : Result (Unit {0}) RedisError) → (Some [] ++? bytes) ≡ Some b → SendsAll old new b (Err kind)
+    → IsErr answer × IsErrAnd answer (λ e. e ≡ form.Io kind) → SendsValue bytes old new answer
 failed bytes b old new kind (Ok done) e all is = absurd (is.1)
 failed bytes b old new kind (Err error) e all is = inr (record {
   sent = b;

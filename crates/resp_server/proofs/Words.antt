@@ -2,7 +2,8 @@
 use Rattle.std.proofs.Common.{◌≡◌, ◌≢◌, ℕ, true, false, Bool, List, [], ◌∷◌, length, map, refl, sym, ap, ◌∙◌, arith}
 use Rattle.std.proofs.lemmas.Bool.{and_parts, lt-ltb}
 use Rattle.std.specs.List.{list_all}
-use Rattle.resp_value.specs.declared.value.Value.{Value, Array, BulkString, roll-Value, out-Value, roll-out-Value, out-roll-Value}
+use Rattle.resp_value.specs.declared.value.Value.{Value, Array, BulkString, roll-Value, out-Value, roll-out-Value}
+use Rattle.resp_value.specs.declared.value.Value.{out-roll-Value}
 use Rattle.resp_value.specs.declared.value.Value.TheOpen.{Value-F}
 use Rattle.resp_value.specs.declared.value.Value.TheVariants.{rolls-Array, rolls-BulkString}
 use Rattle.resp_value.specs.Views.{is_bulk_string}
@@ -70,5 +71,6 @@ words_in x = elim x [ Value-F.Array words ↦ words_of words | _ ↦ [] ]
 -- of one list of arguments only
 pub made-once : (others args : Args) → as_value others ≡ as_value args → others ≡ args
 made-once others args e =
-    let from : (list : Args) → words_in (out-Value (as_value list)) ≡ list = λ list. ap words_in (out-array (map BulkString list)) ∙ bytes_are list in
+    let from : (list : Args) → words_in (out-Value (as_value list)) ≡ list = λ list. ap words_in
+    (out-array (map BulkString list)) ∙ bytes_are list in
     sym (from others) ∙ ap (λ v. words_in (out-Value v)) e ∙ from args

@@ -1,5 +1,6 @@
 -- Entries that are copied one after another, in the order of their keys.
-use Rattle.std.proofs.Common.{◌≡◌, List, [], ◌∷◌, ◌++◌, String, Global, string_bytes, string_cmp, refl, sym, ap, subst, ◌∙◌, append-nil, append_assoc}
+use Rattle.std.proofs.Common.{◌≡◌, List, [], ◌∷◌, ◌++◌, String, Global, string_bytes, string_cmp, refl, sym, ap, subst}
+use Rattle.std.proofs.Common.{◌∙◌, append-nil, append_assoc}
 use Rattle.std.specs.declared.cmp.Ordering.TheVariants.{Less, Greater}
 use Rattle.std.specs.BTreeMap.{insert_entry}
 use Rattle.std.specs.Cmp.Lexicographic.{slice_cmp}
@@ -25,7 +26,8 @@ appended : (es : List Entry) (key : String Global) (value : Value) → IsPast ke
     → insert_entry string_cmp es key value ≡ es ++ (key, value) ∷ []
 appended [] key value h = refl
 appended (e ∷ es) key value h =
-    ap (λ o. match_ordering o ((key, value) ∷ e ∷ es) ((e.0, value) ∷ es) (e ∷ insert_entry string_cmp es key value)) h.0
+    ap (λ o. match_ordering o ((key, value) ∷ e ∷ es) ((e.0, value) ∷ es) (e ∷ insert_entry string_cmp es key value))
+    h.0
     ∙ ap (λ more. e ∷ more) (appended es key value h.1)
 
 -- keys that ascend are below one that stands after them

@@ -1,5 +1,6 @@
 -- The elements of which each role is made.
-use Rattle.std.proofs.Common.{◌≡◌, ℕ, false, List, [], ◌∷◌, codes, length, Option, None, Some, Result, Ok, Global, MatchOption, IsErrAnd, IsOkAnd, ap, sym, subst, arith}
+use Rattle.std.proofs.Common.{◌≡◌, ℕ, false, List, [], ◌∷◌, codes, length, Option, None, Some, Result, Ok, Global}
+use Rattle.std.proofs.Common.{MatchOption, IsErrAnd, IsOkAnd, ap, sym, subst, arith}
 use Rattle.std.specs.declared.vec.IntoIter.{IntoIter}
 use Rattle.std.specs.Vec.Iter.{into_iter_items}
 use Rattle.resp_errors.specs.declared.parsing_error.ParsingError.{ParsingError}

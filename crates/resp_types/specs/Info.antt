@@ -1,5 +1,6 @@
 -- What a server says of itself, line by line (Redis, INFO).
-use Rattle.std.specs.Prelude.{◌≡◌, ◌==◌, ◌||◌, ℕ, Bool, cond, List, length, Option, None, Some, Result, Ok, Err, String, string_bytes, string_cmp, slice_index}
+use Rattle.std.specs.Prelude.{◌≡◌, ◌==◌, ◌||◌, ℕ, Bool, cond, List, length, Option, None, Some, Result, Ok, Err, String}
+use Rattle.std.specs.Prelude.{string_bytes, string_cmp, slice_index}
 use Rattle.std.specs.List.{AllZip, position_or_len, before_first, after_first, filter_map}
 use Rattle.std.specs.Map.{lookup}
 use Rattle.std.specs.declared.alloc.Global.{Global}

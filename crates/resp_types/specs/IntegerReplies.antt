@@ -2,7 +2,8 @@
 use Rattle.std.specs.Prelude.{◌≡◌, ℤ, pos, negsuc}
 use Rattle.resp_value.specs.declared.value.Value.{Value, Int}
 use Rattle.resp_types.specs.declared.integer_reply.IntegerReplyOrNoOp.{IntegerReplyOrNoOp}
-use Rattle.resp_types.specs.declared.integer_reply.IntegerReplyOrNoOp.TheVariants.{IntegerReply, NotExists, ExistsButNotRelevant}
+use Rattle.resp_types.specs.declared.integer_reply.IntegerReplyOrNoOp.TheVariants.{IntegerReply, NotExists}
+use Rattle.resp_types.specs.declared.integer_reply.IntegerReplyOrNoOp.TheVariants.{ExistsButNotRelevant}
 
 -- the number that stands for the answer: -2, -1, or the number itself
 abbrev pub number_of : IntegerReplyOrNoOp → ℤ

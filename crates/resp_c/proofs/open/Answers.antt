@@ -4,5 +4,9 @@ use Rattle.resp_c.proofs.open.Goals as goal
 
 pub returns : goal.returns
 returns c = record {
-  opened = Opened.done refl (record { session = c.in-Ok-new.session.value; is = c.put.ensures; so = rw c.in-Ok-new.ensures.ok c.in-Ok.ensures.new });
+  opened = Opened.done refl (record {
+    session = c.in-Ok-new.session.value;
+    is = c.put.ensures;
+    so = rw c.in-Ok-new.ensures.ok c.in-Ok.ensures.new;
+  });
 }

@@ -11,7 +11,8 @@ returns-clause-taken c =
       taken = rw same at did.taken;
       limits = did.limits ∙ ap (λ (s : Session). s.parser.limits) same;
       empty = did.empty;
-      fault = λ no. let stays = did.fault no in (stays.0 ∙ ap (λ (s : Session). s.fault) same, stays.1 ∙ ap (λ (s : Session). s.place) same);
+      fault = λ no. let stays = did.fault no in
+          (stays.0 ∙ ap (λ (s : Session). s.fault) same, stays.1 ∙ ap (λ (s : Session). s.place) same);
     })
 
 pub returns-clause-shown : goal.returns-clause-shown

@@ -4,5 +4,6 @@ use Rattle.resp_c.proofs.resp_parser_state.Goals as goal
 
 pub returns : goal.returns
 returns c = record {
-  state = Told.held c.in-Some.session.value (sym c.in-Some.ensures.session) c.put.ensures (rw c.deref.ensures at c.state-state.ensures.state);
+  state = Told.held c.in-Some.session.value (sym c.in-Some.ensures.session) c.put.ensures
+      (rw c.deref.ensures at c.state-state.ensures.state);
 }

@@ -1,7 +1,8 @@
 -- Lemmas: digits without a sign write the number that they are.
 use Rattle.std.specs.Prelude.{◌≡◌, ℕ, ◌==◌, ◌≤◌, ℤ, pos, negsuc, false, cond, neg_ℤ, List, drop}
 use Rattle.std.specs.Int.{Width}
-use Rattle.std.specs.Str.Parse.{IsNumeral, digits_value, signed_digits_value, starts_with_minus, without_leading_plus, without_leading_sign}
+use Rattle.std.specs.Str.Parse.{IsNumeral, digits_value, signed_digits_value, starts_with_minus, without_leading_plus}
+use Rattle.std.specs.Str.Parse.{without_leading_sign}
 use Rattle.std.proofs.Common.{sym, ap, ◌∙◌, subst, get_or}
 use Rattle.std.proofs.lemmas.Bool.{true≢false, ne_eqb, le-leb}
 use Rattle.std.proofs.lemmas.Str.Parse.{digit_at}
@@ -26,16 +27,26 @@ no_sign text digits =
 signed_value : (text : List ℕ) → IsNumeral 10 text → signed_digits_value 10 text ≡ pos (digits_value 10 text)
 signed_value text digits =
     let value : List ℕ → ℤ = λ ds. pos (digits_value 10 ds) in
-    ap (λ b. cond b (neg_ℤ (value (without_leading_sign text))) (value (without_leading_sign text))) (no_minus text digits) ∙ ap value (no_sign text digits)
+    ap (λ b. cond b (neg_ℤ (value (without_leading_sign text))) (value (without_leading_sign text)))
+    (no_minus text digits) ∙ ap value (no_sign text digits)
 
-pub signed_numerals : (w : Width) (text : List ℕ) (x : ℤ) → IsNumeral 10 text → SignedNumber w (pos (digits_value 10 text)) x → SignedText w text x
-signed_numerals w text x digits fits =
-    (subst (IsNumeral 10) (sym (no_sign text digits)) digits, subst (λ n. SignedNumber w n x) (sym (signed_value text digits)) fits)
+pub signed_numerals : (w : Width) (text : List ℕ) (x : ℤ) → IsNumeral 10 text
+    → SignedNumber w (pos (digits_value 10 text)) x → SignedText w text x
+signed_numerals w text x digits fits = (
+  subst (IsNumeral 10) (sym (no_sign text digits)) digits,
+  subst (λ n. SignedNumber w n x)
+      (sym (signed_value text digits)) fits,
+)
 
 abbrev absolute : ℤ → ℕ
 absolute (pos n) = n
 absolute (negsuc n) = n
 
-pub unsigned_numerals : (k : ℕ) (text : List ℕ) (x : ℕ) → IsNumeral 10 text → UnsignedNumber k (pos (digits_value 10 text)) x → UnsignedText k text x
-unsigned_numerals k text x digits fits =
-    (subst (IsNumeral 10) (sym (no_plus text digits)) digits, fits.0, sym (ap absolute fits.1) ∙ ap (digits_value 10) (sym (no_plus text digits)))
+pub unsigned_numerals : (k : ℕ) (text : List ℕ) (x : ℕ) → IsNumeral 10 text
+    → UnsignedNumber k (pos (digits_value 10 text)) x → UnsignedText k text x
+unsigned_numerals k text x digits fits = (
+  subst (IsNumeral 10) (sym (no_plus text digits)) digits,
+  fits.0,
+  sym (ap absolute fits.1) ∙ ap (digits_value 10)
+      (sym (no_plus text digits)),
+)

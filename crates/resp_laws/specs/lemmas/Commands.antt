@@ -1,5 +1,6 @@
 -- Lemmas: a reply is one value at most of each type of a single command.
-use Rattle.std.specs.Prelude.{◌≡◌, ◌==◌, ℕ, ℤ, pos, negsuc, zero, suc, true, false, List, [], ◌∷◌, codes, String, string_bytes, string_cmp, map, get_or}
+use Rattle.std.specs.Prelude.{◌≡◌, ◌==◌, ℕ, ℤ, pos, negsuc, zero, suc, true, false, List, [], ◌∷◌, codes, String}
+use Rattle.std.specs.Prelude.{string_bytes, string_cmp, map, get_or}
 use Rattle.std.specs.Int.{w64}
 use Rattle.std.specs.List.{AllZip}
 use Rattle.std.specs.Ordering.{nat_cmp}
@@ -15,7 +16,8 @@ use Rattle.resp_value.specs.declared.value.Value.TheOpen.{Value-F}
 use Rattle.resp_value.specs.declared.value.Value.TheVariants.{outs-Int}
 use Rattle.resp_from.specs.Attributes.{stripped}
 use Rattle.resp_types.specs.declared.integer_reply.IntegerReplyOrNoOp.{IntegerReplyOrNoOp}
-use Rattle.resp_types.specs.declared.integer_reply.IntegerReplyOrNoOp.TheVariants.{IntegerReply, NotExists, ExistsButNotRelevant}
+use Rattle.resp_types.specs.declared.integer_reply.IntegerReplyOrNoOp.TheVariants.{IntegerReply, NotExists}
+use Rattle.resp_types.specs.declared.integer_reply.IntegerReplyOrNoOp.TheVariants.{ExistsButNotRelevant}
 use Rattle.resp_types.specs.declared.role.ReplicaInfo.{ReplicaInfo}
 use Rattle.resp_types.specs.declared.role.Role.{Role}
 use Rattle.resp_types.specs.declared.role.Role.TheVariants.{Primary, Replica, Sentinel}
@@ -122,7 +124,8 @@ same_primary (a ∷ b ∷ more) offset offset' replicas replicas' h k =
 same_follower : (items : List Value) (ip ip' : List ℕ) (port port' : ℕ) (state state' : List ℕ)
     (received received' : ℕ)
     → First OfText ip (First (OfUnsigned 16) port (First OfText state (First (OfUnsigned 64) received Ignored))) items
-    → First OfText ip' (First (OfUnsigned 16) port' (First OfText state' (First (OfUnsigned 64) received' Ignored))) items
+    → First OfText ip' (First (OfUnsigned 16) port' (First OfText state' (First (OfUnsigned 64) received' Ignored)))
+    items
     → Replica ip port state received ≡ Replica ip' port' state' received'
 same_follower [] ip ip' port port' state state' received received' h k = absurd h
 same_follower (a ∷ []) ip ip' port port' state state' received received' h k = absurd h.1
@@ -145,12 +148,18 @@ same_role : (name : List ℕ) (items : List Value) (x y : Role) → HasRole name
 same_role name items (Primary o r) (Primary o' r') h k = same_primary items o o' r r' h.1 k.1
 same_role name items (Replica a b c d) (Replica a' b' c' d') h k = same_follower items a a' b b' c c' d d' h.1 k.1
 same_role name items (Sentinel n) (Sentinel n') h k = same_watcher items n n' h.1 k.1
-same_role name items (Primary o r) (Replica a b c d) h k = apart name (codes "master") (codes "slave") 97 h.0 k.0 refl refl
-same_role name items (Primary o r) (Sentinel n) h k = apart name (codes "master") (codes "sentinel") 97 h.0 k.0 refl refl
-same_role name items (Replica a b c d) (Primary o r) h k = apart name (codes "slave") (codes "master") 108 h.0 k.0 refl refl
-same_role name items (Replica a b c d) (Sentinel n) h k = apart name (codes "slave") (codes "sentinel") 108 h.0 k.0 refl refl
-same_role name items (Sentinel n) (Primary o r) h k = apart name (codes "sentinel") (codes "master") 101 h.0 k.0 refl refl
-same_role name items (Sentinel n) (Replica a b c d) h k = apart name (codes "sentinel") (codes "slave") 101 h.0 k.0 refl refl
+same_role name items (Primary o r) (Replica a b c d) h k = apart name (codes "master") (codes "slave") 97 h.0 k.0 refl
+    refl
+same_role name items (Primary o r) (Sentinel n) h k = apart name (codes "master") (codes "sentinel") 97 h.0 k.0 refl
+    refl
+same_role name items (Replica a b c d) (Primary o r) h k = apart name (codes "slave") (codes "master") 108 h.0 k.0 refl
+    refl
+same_role name items (Replica a b c d) (Sentinel n) h k = apart name (codes "slave") (codes "sentinel") 108 h.0 k.0 refl
+    refl
+same_role name items (Sentinel n) (Primary o r) h k = apart name (codes "sentinel") (codes "master") 101 h.0 k.0 refl
+    refl
+same_role name items (Sentinel n) (Replica a b c d) h k = apart name (codes "sentinel") (codes "slave") 101 h.0 k.0 refl
+    refl
 
 named_role : (layer : Value-F Value) (items : List Value) (x y : Role)
     → elim layer as (λ l. Type 0) [ Value-F.BulkString name ↦ HasRole name items x | _ ↦ ⊥ ]
@@ -177,5 +186,6 @@ one_info reply x y h k =
     let again = subst (λ text. AllZip IsEntry (entries_of_text text) k.holds.read) same k.holds.each in
     let alike = alike_partners IsEntry entry_seen (λ said e d p q i. ((p.0 ∙ sym q.0) i, (p.1 ∙ sym q.1) i))
     (entries_of_text h.text) h.holds.read k.holds.read h.holds.each again in
-    merged_alike string_cmp string_cmp_total string_bytes (λ x y z e. ap (slice_cmp nat_cmp (string_bytes z)) e) (λ v. v)
+    merged_alike string_cmp string_cmp_total string_bytes (λ x y z e. ap (slice_cmp nat_cmp (string_bytes z)) e)
+    (λ v. v)
     h.holds.read k.holds.read (entries_of x) (entries_of y) alike h.holds.merged k.holds.merged

@@ -1,5 +1,6 @@
 -- Lemmas: entries in order, of which each key finds the same value, have keys that are read alike.
-use Rattle.std.specs.Prelude.{◌≡◌, true, false, List, [], ◌∷◌, map, get_or, drop, Option, None, Some, unwrap_or, is_some}
+use Rattle.std.specs.Prelude.{◌≡◌, true, false, List, [], ◌∷◌, map, get_or, drop, Option, None, Some, unwrap_or}
+use Rattle.std.specs.Prelude.{is_some}
 use Rattle.std.specs.Cmp.{IsTotalOrder, eq_by_cmp_equiv, tied_itself}
 use Rattle.std.specs.List.{AllByRecursion}
 use Rattle.std.specs.List.Sorted.{IsStrictlySortedBy}

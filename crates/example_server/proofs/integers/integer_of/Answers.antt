@@ -1,4 +1,5 @@
-use Rattle.std.proofs.Common.{◌≡◌, ◌<◌, ◌^◌, ℕ, ℤ, List, false, Ok, FitsSigned, sym, ◌∙◌, ap, subst, rules, arith, to_z, of_z}
+use Rattle.std.proofs.Common.{◌≡◌, ◌<◌, ◌^◌, ℕ, ℤ, List, false, Ok, FitsSigned, sym, ◌∙◌, ap, subst, rules, arith, to_z}
+use Rattle.std.proofs.Common.{of_z}
 use Rattle.std.proofs.Math.Facts.{to_z-of_z}
 use Rattle.std.proofs.lemmas.Fmt.{parse-signed_decimal, IsAscii-signed}
 use Rattle.std.proofs.lemmas.Slice.Eq.{bytes_eq-Decides}

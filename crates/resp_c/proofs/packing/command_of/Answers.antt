@@ -13,5 +13,6 @@ loop-size-preserved c =
       command = search rules;
       args = grind (arith, append_assoc, added, c.split_at.ensures.front, next.0, c.loop-size.invariant.args);
       left = sym next.1 ∙ c.loop-size.invariant.left;
-      size = let t = total-drop ns i inside in omega (arith, t, c.loop-size.invariant.size, c.split_at.ensures.back_len, within);
+      size = let t = total-drop ns i inside in
+          omega (arith, t, c.loop-size.invariant.size, c.split_at.ensures.back_len, within);
     }

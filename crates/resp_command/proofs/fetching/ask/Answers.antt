@@ -10,7 +10,8 @@ returns-in_err-reply g c =
 pub returns-in_err-of_reply : goal.returns-in_err-of_reply
 returns-in_err-of_reply g c =
     let p = err_from_is_err_and c.from_residual-in_err-of_reply.result c.from_residual-in_err-of_reply.ensures.1 in
-    rw (p.1, p.2) (later_read _ _ _ _ _ _ _ _ _ c.in_ok-reply.was c.send.ensures (read_refused _ _ c.in_err-of_reply.ensures.decides))
+    rw (p.1, p.2) (later_read _ _ _ _ _ _ _ _ _ c.in_ok-reply.was c.send.ensures
+    (read_refused _ _ c.in_err-of_reply.ensures.decides))
 
 pub returns : goal.returns
 returns g c = later_read _ _ _ _ _ _ _ _ _ c.in_ok-reply.was c.send.ensures (c.in_ok-of_reply.ensures.decides, λ e. cc)

@@ -9,5 +9,6 @@ returns-then-len-lt10-clause-written c = rw (decimal_digit c.args.len (omega ari
 pub returns-then-len-lt100-clause-written : goal.returns-then-len-lt100-clause-written
 returns-then-len-lt100-clause-written c =
     let n : ℕ = c.args.len in
-    let two : decimal n ≡ (48 + n / 10) ∷ (48 + n % 10) ∷ [] = decimal_step n (omega arith) (omega arith) ∙ rw (decimal_digit (n / 10) (omega arith)) refl in
+    let two : decimal n ≡ (48 + n / 10) ∷ (48 + n % 10) ∷ [] = decimal_step n (omega arith) (omega arith)
+    ∙ rw (decimal_digit (n / 10) (omega arith)) refl in
     rw two (search rules)

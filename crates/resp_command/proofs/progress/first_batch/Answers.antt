@@ -9,8 +9,10 @@ returns-in_err-reply g c =
 
 pub returns-in_err-of_first_page : goal.returns-in_err-of_first_page
 returns-in_err-of_first_page g c =
-    let p = err_from_is_err_and c.from_residual-in_err-of_first_page.result c.from_residual-in_err-of_first_page.ensures.1 in
-    rw (p.1, p.2) (first_read _ _ _ _ _ _ _ _ c.in_ok-reply.was c.req_command.ensures (call_refused _ _ c.in_err-of_first_page.ensures.converts))
+    let p = err_from_is_err_and c.from_residual-in_err-of_first_page.result
+    c.from_residual-in_err-of_first_page.ensures.1 in
+    rw (p.1, p.2) (first_read _ _ _ _ _ _ _ _ c.in_ok-reply.was c.req_command.ensures
+    (call_refused _ _ c.in_err-of_first_page.ensures.converts))
 
 pub returns : goal.returns
 returns g c = first_read _ _ _ _ _ _ _ _ c.in_ok-reply.was c.req_command.ensures c.in_ok-of_first_page.ensures.converts

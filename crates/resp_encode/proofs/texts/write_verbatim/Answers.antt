@@ -19,8 +19,11 @@ pub returns : goal.returns
 returns c =
     let own : is_own_format c.args.format.now ≡ true = sym c.in_ok-has_own_format.ensures ∙ c.if-not-branch.false in
     let utf8 = verbatim-utf8 c.args.format.now c.args.text.now (subst IsUtf8 c.name.ensures c.name.utf8) c.utf8.text in
-    let name : c.as_bytes.result.now ≡ name_of_format c.args.format.now = (let v = c.as_bytes.ensures.value in let n = c.name.ensures in cc) in
+    let name : c.as_bytes.result.now ≡ name_of_format c.args.format.now =
+    (let v = c.as_bytes.ensures.value in let n = c.name.ensures in cc) in
     let text : c.as_bytes-2.result.now ≡ c.args.text.now = c.as_bytes-2.ensures.value in
-    let whole : c.as_bytes.result.now ++ (58 ∷ c.as_bytes-2.result.now) ≡ verbatim_body c.args.format.now c.args.text.now = cc in
+    let whole : c.as_bytes.result.now ++ (58 ∷ c.as_bytes-2.result.now) ≡ verbatim_body c.args.format.now
+    c.args.text.now = cc in
     choice_yes c.write_verbatim_body.result _ _ _ _ (and_from _ _ own utf8)
-    (subst (λ b. AppendsText c.write_verbatim_body.result (body_of type_byte.VerbatimString b) c.args.out.now.items c.write_verbatim_body.new.out.items) whole c.write_verbatim_body.ensures)
+    (subst (λ b. AppendsText c.write_verbatim_body.result (body_of type_byte.VerbatimString b) c.args.out.now.items
+    c.write_verbatim_body.new.out.items) whole c.write_verbatim_body.ensures)

@@ -15,9 +15,11 @@ loop-at-preserved c =
     let range = digit_range byte digit in
     let worth = digit_value_digit byte range in
     let more = digits_value_more 10 bytes c.loop-at.at c.loop-at-test.true in
-    let digits = digits_more 10 bytes c.loop-at.at c.loop-at-test.true c.loop-at.invariant.digits (omega (arith, worth, range.1)) in
+    let digits = digits_more 10 bytes c.loop-at.at c.loop-at-test.true c.loop-at.invariant.digits
+    (omega (arith, worth, range.1)) in
     let few : length bytes ≤ 18 = omega arith in
-    let value : c.loop-at.value * 10 + (byte - 48) ≡ digits_value 10 (take (c.loop-at.at + 1) bytes) = omega (arith, more, worth, range.0, c.loop-at.invariant.value) in
+    let value : c.loop-at.value * 10 + (byte - 48) ≡ digits_value 10 (take (c.loop-at.at + 1) bytes) = omega
+    (arith, more, worth, range.0, c.loop-at.invariant.value) in
     record {
       digits = digits;
       value = value;

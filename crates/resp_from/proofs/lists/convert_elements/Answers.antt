@@ -11,8 +11,10 @@ returns-in_err-from_reply g c = record {
       let Shows = g.R.Reply.shows in
       let Of = g.T.FromRedisValue.of_value in
       let at = c.loop-element.invariant vs shown in
-      ConvertsList-err (AllZip Of vs) c.from_residual-in_err-from_reply.result c.in_err-from_reply.field-0.0 c.from_residual-in_err-from_reply.ensures
-      (none_more Shows Of (g.R.Reply.show c.loop-element.elements) (g.R.Reply.show c.next_of.new.elements) c.in-Some.element c.loop-element.all.items vs c.in_err-from_reply.field-0.0
+      ConvertsList-err (AllZip Of vs) c.from_residual-in_err-from_reply.result c.in_err-from_reply.field-0.0
+      c.from_residual-in_err-from_reply.ensures
+      (none_more Shows Of (g.R.Reply.show c.loop-element.elements) (g.R.Reply.show c.next_of.new.elements)
+      c.in-Some.element c.loop-element.all.items vs c.in_err-from_reply.field-0.0
       at (c.in-Some.ensures.next at.others at.left) c.in_err-from_reply.ensures.converts);
 }
 
@@ -24,11 +26,14 @@ loop-element-preserved g c = λ vs shown.
     let Left = g.R.Reply.show c.next_of.new.elements in
     let grown = all ++ (c.in_ok-from_reply.field-0 ∷ []) in
     subst (λ xs. AtSome Left (λ done. AllZip Of done xs) vs) {x = grown} (sym {b = grown} c.in_ok-push.ensures.items)
-    (one_more g.R.Reply.shows Of (g.R.Reply.show c.loop-element.elements) Left c.in-Some.element all vs c.in_ok-from_reply.field-0 at (c.in-Some.ensures.next at.others at.left) c.in_ok-from_reply.ensures.converts)
+    (one_more g.R.Reply.shows Of (g.R.Reply.show c.loop-element.elements) Left c.in-Some.element all vs
+    c.in_ok-from_reply.field-0 at (c.in-Some.ensures.next at.others at.left) c.in_ok-from_reply.ensures.converts)
 
 pub returns : goal.returns
 returns g c = record {
   converts = λ vs shown.
       let at = c.loop-element.invariant vs shown in
-      all_done g.R.Reply.shows (g.R.Reply.show c.next_of.new.elements) (g.R.Reply.show c.loop-element.elements) (λ done. AllZip g.T.FromRedisValue.of_value done c.loop-element.all.items) vs at (c.in_default.ensures.next at.others at.left);
+      all_done g.R.Reply.shows (g.R.Reply.show c.next_of.new.elements) (g.R.Reply.show c.loop-element.elements)
+      (λ done. AllZip g.T.FromRedisValue.of_value done c.loop-element.all.items) vs at
+      (c.in_default.ensures.next at.others at.left);
 }

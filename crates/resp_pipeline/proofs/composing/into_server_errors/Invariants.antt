@@ -8,4 +8,5 @@ abbrev pub invariant-loop-position : goal.invariant-loop-position
 invariant-loop-position l =
     (goal.iterator-loop-position).can_next l.position-iterator ×
     (goal.iterator-loop-position).is_finite l.position-iterator ×
-    (l.errors ++ errors_from (enumerate_count l.position-iterator) (into_iter_items (enumerate_source l.position-iterator)) ≡ errors_of l.fn.items.items)
+    (l.errors ++ errors_from (enumerate_count l.position-iterator)
+    (into_iter_items (enumerate_source l.position-iterator)) ≡ errors_of l.fn.items.items)

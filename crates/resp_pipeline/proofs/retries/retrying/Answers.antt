@@ -1,6 +1,7 @@
 use Rattle.std.proofs.Common.{rules, of_calls, arith, refl}
 use Rattle.resp_pipeline.proofs.SoFar.{one_more, answered, used_up, stopped}
-use Rattle.resp_pipeline.proofs.retries.retrying.Goals.{then-left-eq0-via-then-left-eq0, then-left-eq0-via-else-left-eq0+then-not-again}
+use Rattle.resp_pipeline.proofs.retries.retrying.Goals.{then-left-eq0-via-then-left-eq0}
+use Rattle.resp_pipeline.proofs.retries.retrying.Goals.{then-left-eq0-via-else-left-eq0+then-not-again}
 use Rattle.resp_pipeline.proofs.retries.retrying.Goals as goal
 
 pub returns-in-Ok : goal.returns-in-Ok

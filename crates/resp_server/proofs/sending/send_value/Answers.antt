@@ -8,7 +8,8 @@ returns-in_err-send_all g c =
     let sink = g.K.CommandSink.sink in
     let bytes = encoding_in c.args.protocol 100 c.args.value.now in
     record {
-      sends = failed bytes c.encode.new.out.items (sink c.args.sink.now) (sink c.send_all.new.sink) c.in_err-send_all.field-0.0 _ (search rules) (search rules) c.from_residual-in_err-send_all.ensures;
+      sends = failed bytes c.encode.new.out.items (sink c.args.sink.now) (sink c.send_all.new.sink)
+          c.in_err-send_all.field-0.0 _ (search rules) (search rules) c.from_residual-in_err-send_all.ensures;
     }
 
 pub returns : goal.returns
@@ -16,5 +17,6 @@ returns g c =
     let sink = g.K.CommandSink.sink in
     let bytes = encoding_in c.args.protocol 100 c.args.value.now in
     record {
-      sends = sent bytes c.encode.new.out.items (sink c.args.sink.now) (sink c.send_all.new.sink) c.in_ok-send_all.field-0 (search rules) (search rules);
+      sends = sent bytes c.encode.new.out.items (sink c.args.sink.now) (sink c.send_all.new.sink)
+          c.in_ok-send_all.field-0 (search rules) (search rules);
     }

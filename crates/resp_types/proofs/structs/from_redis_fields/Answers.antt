@@ -3,7 +3,13 @@ use Rattle.resp_types.specs.lemmas.OneReply.{made_of_fields}
 use Rattle.resp_types.proofs.structs.from_redis_fields.Goals as goal
 
 pub returns-in_err-fields : goal.returns-in_err-fields
-returns-in_err-fields g c = record { converts = Converts-shape _ _ _ _ c.from_residual.ensures c.in_err-fields.ensures.converts (λ x made. (made.via, made.fits)) }
+returns-in_err-fields g c = record {
+  converts = Converts-shape _ _ _ _ c.from_residual.ensures
+      c.in_err-fields.ensures.converts (λ x made. (made.via, made.fits));
+}
 
 pub returns : goal.returns
-returns g c = record { converts = made_of_fields g.X.FromFields.of_fields c.args.value c.in_ok-fields.fields c.from_fields.result c.in_ok-fields.ensures.converts c.from_fields.ensures.converts }
+returns g c = record {
+  converts = made_of_fields g.X.FromFields.of_fields c.args.value c.in_ok-fields.fields
+      c.from_fields.result c.in_ok-fields.ensures.converts c.from_fields.ensures.converts;
+}

@@ -5,4 +5,5 @@ use Rattle.example_snippets.specs.Relayed.{sent_for_each}
 use Rattle.example_snippets.proofs.proxy.pushes.bytes_of.Given as goal
 
 abbrev pub invariant-loop-push : goal.invariant-loop-push
-invariant-loop-push l = (Some l.bytes.items ++? sent_for_each (into_iter_items l.push-iterator)) ≡ sent_for_each l.fn.pushes.items
+invariant-loop-push l = (Some l.bytes.items ++? sent_for_each (into_iter_items l.push-iterator))
+    ≡ sent_for_each l.fn.pushes.items

@@ -8,5 +8,13 @@ pub returns-then-is_err : goal.returns-then-is_err
 returns-then-is_err c =
     let s = c.args.self.now in
     let works = works_unless s c.if-is_failed.ensures.failed in
-    let same = feed_refused s.parser c.feed.new.self c.args.bytes.now c.feed.result works c.feed.ensures.feeds (search rules) in
-    record { fed = Fed.memory refl works (ap (λ (p : State). record { parser = p; reply = s.reply; fault = s.fault; place = s.place }) same) }
+    let same = feed_refused s.parser c.feed.new.self c.args.bytes.now c.feed.result works c.feed.ensures.feeds
+    (search rules) in
+    record {
+      fed = Fed.memory refl works (ap (λ (p : State). record {
+        parser = p;
+        reply = s.reply;
+        fault = s.fault;
+        place = s.place;
+      }) same);
+    }

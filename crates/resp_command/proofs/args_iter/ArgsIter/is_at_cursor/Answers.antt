@@ -1,7 +1,8 @@
 use Rattle.std.proofs.Common.{◌≡◌, ◌+◌, ◌<◌, ◌≤◌, Some, None, length, rules}
 use Rattle.std.specs.Prelude.{slice_get}
 use Rattle.std.proofs.lemmas.Option.{slice_get_past, slice_get_within}
-use Rattle.resp_command.proofs.PiecesAgree.{some_within, left_last_cursor, left_cursor, left_nothing, left_only_simple, left_simple}
+use Rattle.resp_command.proofs.PiecesAgree.{some_within, left_last_cursor, left_cursor, left_nothing, left_only_simple}
+use Rattle.resp_command.proofs.PiecesAgree.{left_simple}
 use Rattle.resp_command.proofs.args_iter.ArgsIter.is_at_cursor.Goals as goal
 
 pub returns-else-not-has_arg-clause-cursor : goal.returns-else-not-has_arg-clause-cursor
@@ -41,5 +42,8 @@ pub returns-then-not-has_arg-clause-cursor : goal.returns-then-not-has_arg-claus
 returns-then-not-has_arg-clause-cursor c = λ yes.
     let it = c.args.self.now in
     let there : slice_get it.cursors.now it.passed ≡ Some c.in-Some.place = search rules in
-    let past : length it.encoded_args.now ≤ it.taken = search rules in
-    (slice_get_within it.cursors.now it.passed c.in-Some.place there, left_last_cursor it.encoded_args.now it.cursors.now it.taken it.passed c.in-Some.place there (slice_get_past it.encoded_args.now it.taken past))
+    let past : length it.encoded_args.now ≤ it.taken = search rules in (
+      slice_get_within it.cursors.now it.passed c.in-Some.place there,
+      left_last_cursor it.encoded_args.now it.cursors.now it.taken it.passed c.in-Some.place there
+          (slice_get_past it.encoded_args.now it.taken past),
+    )

@@ -8,7 +8,8 @@ pub returns-clause-shown : goal.returns-clause-shown
 returns-clause-shown c =
     let inside = c.self.inside in
     let h = c.self.invariant.are_interleaved in
-    let left : args_left c.over.result ≡ interleaved 0 inside.cursors.items inside.encoded_args = c.over.ensures ∙ ap (λ (places : List ℕ). interleaved 0 places inside.encoded_args) c.as_slice.ensures.value in
+    let left : args_left c.over.result ≡ interleaved 0 inside.cursors.items inside.encoded_args = c.over.ensures
+    ∙ ap (λ (places : List ℕ). interleaved 0 places inside.encoded_args) c.as_slice.ensures.value in
     rw (← c.self.view_is) (left ∙ sym (shown_pieces inside.cursor inside.cursors.items inside.encoded_args h))
 
 pub returns-clause-cursors : goal.returns-clause-cursors

@@ -10,4 +10,5 @@ returns c =
     let inside = c.self.inside in
     let h = c.self.invariant.are_interleaved in
     let shown = shown_pieces inside.cursor inside.cursors.items inside.encoded_args h in
-    rw (← c.self.view_is) (c.as_bytes.ensures ∙ ap (flat_map bulk) h.args_are ∙ ap (λ (pieces : Pieces). flat_map bulk (ordinary pieces)) (sym shown))
+    rw (← c.self.view_is) (c.as_bytes.ensures ∙ ap (flat_map bulk) h.args_are
+    ∙ ap (λ (pieces : Pieces). flat_map bulk (ordinary pieces)) (sym shown))

@@ -9,11 +9,14 @@ pub returns-then-is_empty-clause-packed : goal.returns-then-is_empty-clause-pack
 returns-then-is_empty-clause-packed c =
     let command = c.args.self.now in
     let none : command.args ≡ [] = search rules in
-    c.new-bytes.ensures.items ∙ sym (ap packed_or_none (none_with_cursor (decimal c.args.cursor) command.cursors command.args none))
+    c.new-bytes.ensures.items ∙ sym (ap packed_or_none
+    (none_with_cursor (decimal c.args.cursor) command.cursors command.args none))
 
 pub returns-clause-packed : goal.returns-clause-packed
 returns-clause-packed c =
     let command = c.args.self.now in
     c.in_ok-append_packed.ensures.written
-    ∙ ap (λ (bytes : List ℕ). bytes ++ packed (with_text_at (decimal c.args.cursor) command.cursors command.args)) c.new-bytes.ensures.items
-    ∙ some_with_cursor (decimal c.args.cursor) command.cursors command.args (λ none. let h = c.if-is_empty.ensures.1 none in cc)
+    ∙ ap (λ (bytes : List ℕ). bytes ++ packed (with_text_at (decimal c.args.cursor) command.cursors command.args))
+    c.new-bytes.ensures.items
+    ∙ some_with_cursor (decimal c.args.cursor) command.cursors command.args
+    (λ none. let h = c.if-is_empty.ensures.1 none in cc)

@@ -7,13 +7,15 @@ use Rattle.resp_command.proofs.command.CmdRedisWrite.open_arg.Goals as goal
 pub invariant_of-self-2 : goal.invariant_of-self-2
 invariant_of-self-2 c =
     let inside = c.self.inside in
-    subst (λ (args : Args). Keeps inside.cursor inside.cursors.items args) (sym c.in_ok-push.ensures) (keeps_appended inside.cursor inside.cursors.items inside.encoded_args ([] ∷ []) c.self.invariant)
+    subst (λ (args : Args). Keeps inside.cursor inside.cursors.items args) (sym c.in_ok-push.ensures)
+    (keeps_appended inside.cursor inside.cursors.items inside.encoded_args ([] ∷ []) c.self.invariant)
 
 pub returns-clause-ok : goal.returns-clause-ok
 returns-clause-ok c =
     let inside = c.self.inside in
     ap (λ (args : Args). sent_args inside.cursor inside.cursors.items args) c.in_ok-push.ensures
-    ∙ sent-appended inside.cursor inside.cursors.items inside.encoded_args ([] ∷ []) c.self.invariant.are_interleaved ∙ ap (λ d. d.args ++ [] ∷ []) c.self.view_is
+    ∙ sent-appended inside.cursor inside.cursors.items inside.encoded_args ([] ∷ []) c.self.invariant.are_interleaved
+    ∙ ap (λ d. d.args ++ [] ∷ []) c.self.view_is
 
 pub returns-in_err-push-clause-rest : goal.returns-in_err-push-clause-rest
 returns-in_err-push-clause-rest c = search rules

@@ -6,11 +6,14 @@ use Rattle.resp_command.specs.declared.encoded_args.Span.{Span}
 use Rattle.resp_command.proofs.FramedArgs.{starts, start-fits, counted}
 use Rattle.resp_command.proofs.encoded_args.EncodedArgs.start_of.Goals as goal
 
-ends : (c : goal.After-deref) → (slice_index_or c.deref.result.now (c.args.index - 1) (record { from = 0; to = 0 })).to + 2 ≡ length (flat_map bulk (take c.args.index (args_at c.self.inside.bytes.items c.self.inside.spans.items)))
+ends : (c : goal.After-deref) → (slice_index_or c.deref.result.now (c.args.index - 1) (record { from = 0; to = 0 })).to
+    + 2 ≡ length (flat_map bulk (take c.args.index (args_at c.self.inside.bytes.items c.self.inside.spans.items)))
 ends c =
     let many = counted _ _ c.self.invariant in
-    ap (λ (spans : List Span). (slice_index_or spans (c.args.index - 1) (record { from = 0; to = 0 })).to + 2) c.deref.ensures
-    ∙ starts _ _ c.self.invariant c.args.index (record { from = 0; to = 0 }) (omega arith) (omega (arith, c.requires, many, ap length c.self.view_is))
+    ap (λ (spans : List Span). (slice_index_or spans (c.args.index - 1) (record { from = 0; to = 0 })).to + 2)
+    c.deref.ensures
+    ∙ starts _ _ c.self.invariant c.args.index (record { from = 0; to = 0 }) (omega arith)
+    (omega (arith, c.requires, many, ap length c.self.view_is))
 
 pub overflow_add-result : goal.overflow_add-result
 overflow_add-result c =

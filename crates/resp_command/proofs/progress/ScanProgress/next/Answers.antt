@@ -18,8 +18,10 @@ pub returns-in_ok-next-in-Results-clause-next : goal.returns-in_ok-next-in-Resul
 returns-in_ok-next-in-Results-clause-next g c =
     let e : into_iter_items c.args.self.now.waiting ≡ [] = grind (arith, common_steps, c.in_default.ensures.cases.0) in
     let f : c.args.self.now.left ≡ Some c.in_ok-left.left = search rules in
-    let n : c.in-Results.results.items ≡ c.in_ok-next-in-Results.field-0 ∷ into_iter_items c.next-in-Results.new.self = search rules in
-    next_fetched _ _ _ _ _ _ _ _ _ _ _ c.fetch-fetched.ensures e f c.in-Results.results c.in_ok-next-in-Results.field-0 _ c.in-Results.is n c.as_answer-in-Results.ensures
+    let n : c.in-Results.results.items ≡ c.in_ok-next-in-Results.field-0 ∷ into_iter_items c.next-in-Results.new.self =
+    search rules in
+    next_fetched _ _ _ _ _ _ _ _ _ _ _ c.fetch-fetched.ensures e f c.in-Results.results c.in_ok-next-in-Results.field-0
+    _ c.in-Results.is n c.as_answer-in-Results.ensures
 
 pub returns-in-Failed-clause-next : goal.returns-in-Failed-clause-next
 returns-in-Failed-clause-next g c =
@@ -33,4 +35,5 @@ returns-else-self-eq0-clause-next g c =
     let e : into_iter_items c.args.self.now.waiting ≡ [] = grind (arith, common_steps, c.in_default.ensures.cases.0) in
     let n : into_iter_items c.next.new.self ≡ [] = sym c.in_default.ensures.items ∙ e in
     let f : c.args.self.now.left ≡ Some c.in_ok-left.left = search rules in
-    next_used_up _ _ _ _ _ _ _ _ _ _ _ c.fetch-fetched.ensures e f _ c.in-Nothing.is n c.if-self-eq0.false c.budget_error.ensures
+    next_used_up _ _ _ _ _ _ _ _ _ _ _ c.fetch-fetched.ensures e f _ c.in-Nothing.is n c.if-self-eq0.false
+    c.budget_error.ensures

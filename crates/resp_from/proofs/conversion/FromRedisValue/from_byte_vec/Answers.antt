@@ -6,7 +6,10 @@ use Rattle.resp_from.proofs.conversion.FromRedisValue.from_byte_vec.Goals as goa
 pub returns-then-BYTES : goal.returns-then-BYTES
 returns-then-BYTES g c =
     let each : g.Self.FromRedisValue.BYTES ≡ true = search rules in
-    record { converts = subst (λ b. ConvertsList (OfBytes b g.Self.FromRedisValue.of_value c.args.bytes.items) c.convert_bytes.result) (sym each) c.convert_bytes.ensures.converts }
+    record {
+      converts = subst (λ b. ConvertsList (OfBytes b g.Self.FromRedisValue.of_value c.args.bytes.items)
+          c.convert_bytes.result) (sym each) c.convert_bytes.ensures.converts;
+    }
 
 pub returns : goal.returns
 returns g c = search rules

@@ -5,4 +5,7 @@ use Rattle.resp_from.proofs.conversion.FromRedisValue.from_redis_values.Goals as
 
 pub returns : goal.returns
 returns g c =
-    record { converts = subst (λ n. ConvertsList (OfList n g.Self.FromRedisValue.of_value c.args.values.items) c.convert_list.result) c.WIDTH.ensures c.convert_list.ensures.converts }
+    record {
+      converts = subst (λ n. ConvertsList (OfList n g.Self.FromRedisValue.of_value c.args.values.items)
+          c.convert_list.result) c.WIDTH.ensures c.convert_list.ensures.converts;
+    }

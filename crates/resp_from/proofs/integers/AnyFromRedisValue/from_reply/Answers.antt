@@ -8,4 +8,5 @@ pub returns-in-Some-clause-converts : goal.returns-in-Some-clause-converts
 returns-in-Some-clause-converts g c = λ v shows.
     let Number = g.T.IntegerFromRedisValue.of_number in
     let Writes = g.T.IntegerFromRedisValue.of_text in
-    converts_alike (OfInteger Number Writes v) (Number c.in-Some.number) c.from_number.result (integer_of_number Number Writes v c.in-Some.number (sym (c.in-Some.ensures.shown v shows))) (search rules)
+    converts_alike (OfInteger Number Writes v) (Number c.in-Some.number) c.from_number.result
+    (integer_of_number Number Writes v c.in-Some.number (sym (c.in-Some.ensures.shown v shows))) (search rules)

@@ -5,6 +5,7 @@ use Rattle.resp_from.proofs.lists.VecFromRedisValue.from_reply.Goals as goal
 pub returns : goal.returns
 returns g c = record {
   converts = λ v shows.
-      as_vector (OfVec g.T.FromRedisValue.WIDTH g.T.FromRedisValue.BYTES g.T.FromRedisValue.of_value v) c.list_of_reply.result (c.list_of_reply.ensures.converts v shows);
+      as_vector (OfVec g.T.FromRedisValue.WIDTH g.T.FromRedisValue.BYTES g.T.FromRedisValue.of_value v)
+      c.list_of_reply.result (c.list_of_reply.ensures.converts v shows);
   refused = λ never none. absurd never;
 }

@@ -10,7 +10,8 @@ returns-in_err-first-in-Some g c = record {
       let Rest = g.E.Elements.of_values in
       let e = c.in_err-first-in-Some.field-0.0 in
       Converts-err (λ p. First Of p.0 (λ ws. Rest ws p.1) vs) c.from_residual.result e c.from_residual.ensures
-      (first_refused g.R.Reply.shows (g.R.Reply.show c.next_of.new.elements) Of Rest c.in-Some.value e vs (c.in-Some.ensures.next vs shown) c.in_err-first-in-Some.ensures.converts);
+      (first_refused g.R.Reply.shows (g.R.Reply.show c.next_of.new.elements) Of Rest c.in-Some.value e vs
+      (c.in-Some.ensures.next vs shown) c.in_err-first-in-Some.ensures.converts);
 }
 
 pub returns-in_err-rest-in-Some : goal.returns-in_err-rest-in-Some
@@ -19,13 +20,16 @@ returns-in_err-rest-in-Some g c = record {
       let Of = g.A.FromRedisValue.of_value in
       let Rest = g.E.Elements.of_values in
       let e = c.in_err-rest-in-Some.field-0.0 in
-      Converts-err (λ p. First Of p.0 (λ ws. Rest ws p.1) vs) c.from_residual-in_err-rest-in-Some.result e c.from_residual-in_err-rest-in-Some.ensures
-      (rest_refused g.R.Reply.shows (g.R.Reply.show c.next_of.new.elements) Of Rest c.in-Some.value e vs (c.in-Some.ensures.next vs shown) c.in_err-rest-in-Some.ensures.converts);
+      Converts-err (λ p. First Of p.0 (λ ws. Rest ws p.1) vs) c.from_residual-in_err-rest-in-Some.result e
+      c.from_residual-in_err-rest-in-Some.ensures
+      (rest_refused g.R.Reply.shows (g.R.Reply.show c.next_of.new.elements) Of Rest c.in-Some.value e vs
+      (c.in-Some.ensures.next vs shown) c.in_err-rest-in-Some.ensures.converts);
 }
 
 pub returns-in_ok-rest-in-Some : goal.returns-in_ok-rest-in-Some
 returns-in_ok-rest-in-Some g c = record {
   converts = λ vs shown.
-      first_and_rest g.R.Reply.shows (g.R.Reply.show c.next_of.new.elements) g.A.FromRedisValue.of_value g.E.Elements.of_values c.in-Some.value c.in_ok-first-in-Some.first _ vs (c.in-Some.ensures.next vs shown)
+      first_and_rest g.R.Reply.shows (g.R.Reply.show c.next_of.new.elements) g.A.FromRedisValue.of_value
+      g.E.Elements.of_values c.in-Some.value c.in_ok-first-in-Some.first _ vs (c.in-Some.ensures.next vs shown)
       c.in_ok-first-in-Some.ensures.converts c.in_ok-rest-in-Some.ensures.converts;
 }

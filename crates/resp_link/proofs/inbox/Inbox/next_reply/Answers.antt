@@ -1,7 +1,8 @@
 use Rattle.std.proofs.Common.{rules, refl, ◌≡◌}
 use Rattle.std.proofs.lemmas.Result.{err_from_is_err_and}
 use Rattle.resp_command.proofs.Values.{as_push-Push}
-use Rattle.resp_link.proofs.Receiving.{only_pushes_none, only_pushes_more, received_one, received_none, no_room, stands_since}
+use Rattle.resp_link.proofs.Receiving.{only_pushes_none, only_pushes_more, received_one, received_none, no_room}
+use Rattle.resp_link.proofs.Receiving.{stands_since}
 use Rattle.resp_link.proofs.inbox.Inbox.next_reply.Goals as goal
 
 pub loop-kind-init : goal.loop-kind-init
@@ -13,36 +14,45 @@ returns-in_err-reply-clause-reply g c =
     let at = c.loop-kind.self in
     let p = err_from_is_err_and c.from_residual.result c.from_residual.ensures.1 in
     rw (p.1, p.2) (received_none _ (source at.source) _ at.parser c.parse_from.new.self _ _ c.loop-kind.invariant.only
-    c.parse_from.ensures.limits (rw c.in_err-reply.was at c.parse_from.ensures.parses at.parser.since (stands_since at.parser c.loop-kind.invariant.rest)))
+    c.parse_from.ensures.limits (rw c.in_err-reply.was at c.parse_from.ensures.parses at.parser.since
+    (stands_since at.parser c.loop-kind.invariant.rest)))
 
 pub returns-in_err-push-in-Push-clause-reply : goal.returns-in_err-push-in-Push-clause-reply
 returns-in_err-push-in-Push-clause-reply g c =
     let source = g.S.ReplySource.source in
     let at = c.loop-kind.self in
-    let p = err_from_is_err_and c.from_residual-in_err-push-in-Push.result c.from_residual-in_err-push-in-Push.ensures.1 in
-    let parsed = rw c.in_ok-reply.was at c.parse_from.ensures.parses at.parser.since (stands_since at.parser c.loop-kind.invariant.rest) in
+    let p = err_from_is_err_and c.from_residual-in_err-push-in-Push.result
+    c.from_residual-in_err-push-in-Push.ensures.1 in
+    let parsed = rw c.in_ok-reply.was at c.parse_from.ensures.parses at.parser.since
+    (stands_since at.parser c.loop-kind.invariant.rest) in
     let same : c.push.new.self.items ≡ at.pushes.items = search rules in
-    rw (p.1, p.2, same) (no_room _ (source at.source) _ at.parser c.parse_from.new.self _ c.in_ok-reply.reply (record { kind = c.in-Push.kind; payload = c.in-Push.payload }) c.loop-kind.invariant.only
+    rw (p.1, p.2, same) (no_room _ (source at.source) _ at.parser c.parse_from.new.self _ c.in_ok-reply.reply
+    (record { kind = c.in-Push.kind; payload = c.in-Push.payload }) c.loop-kind.invariant.only
     c.parse_from.ensures.limits parsed (rw c.in-Push.is (as_push-Push _ _)))
 
 pub loop-kind-preserved : goal.loop-kind-preserved
 loop-kind-preserved g c =
     let source = g.S.ReplySource.source in
     let at = c.loop-kind.self in
-    let parsed = rw c.in_ok-reply.was at c.parse_from.ensures.parses at.parser.since (stands_since at.parser c.loop-kind.invariant.rest) in
+    let parsed = rw c.in_ok-reply.was at c.parse_from.ensures.parses at.parser.since
+    (stands_since at.parser c.loop-kind.invariant.rest) in
     record {
       rest = parsed.rest;
-      only = only_pushes_more _ (source at.source) _ at.parser c.parse_from.new.self _ _ c.in_ok-reply.reply c.loop-kind.invariant.only
-          c.parse_from.ensures.limits parsed (record { kind = c.in-Push.kind; payload = c.in-Push.payload }) (rw c.in-Push.is (as_push-Push _ _)) (search rules);
+      only = only_pushes_more _ (source at.source) _ at.parser c.parse_from.new.self _ _ c.in_ok-reply.reply
+          c.loop-kind.invariant.only
+          c.parse_from.ensures.limits parsed (record { kind = c.in-Push.kind; payload = c.in-Push.payload })
+          (rw c.in-Push.is (as_push-Push _ _)) (search rules);
     }
 
 pub returns-in_default : goal.returns-in_default
 returns-in_default g c =
     let source = g.S.ReplySource.source in
     let at = c.loop-kind.self in
-    let parsed = rw c.in_ok-reply.was at c.parse_from.ensures.parses at.parser.since (stands_since at.parser c.loop-kind.invariant.rest) in
+    let parsed = rw c.in_ok-reply.was at c.parse_from.ensures.parses at.parser.since
+    (stands_since at.parser c.loop-kind.invariant.rest) in
     record {
-      reply = received_one _ (source at.source) _ at.parser c.parse_from.new.self at.pushes.items at.pushes.items c.in_ok-reply.reply c.loop-kind.invariant.only
+      reply = received_one _ (source at.source) _ at.parser c.parse_from.new.self at.pushes.items at.pushes.items
+          c.in_ok-reply.reply c.loop-kind.invariant.only
           c.parse_from.ensures.limits parsed (search rules) refl;
       rest = parsed.rest;
     }

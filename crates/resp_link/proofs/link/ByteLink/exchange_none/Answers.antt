@@ -10,4 +10,7 @@ returns-in_err-send_all g c =
     record { exchanged = rw (p.1, p.2) (unsent _ _ _ _ _ 0 _ _ (rw c.in_err-send_all.was at c.send_all.ensures)) }
 
 pub returns : goal.returns
-returns g c = record { exchanged = replied _ _ _ _ _ _ 0 _ _ _ (rw c.in_ok-send_all.was at c.send_all.ensures) (receives_none _) refl }
+returns g c = record {
+  exchanged = replied _ _ _ _ _ _ 0 _ _ _ (rw c.in_ok-send_all.was at c.send_all.ensures)
+      (receives_none _) refl;
+}

@@ -7,5 +7,10 @@ pub returns-then-len-gt0-clause-marked : goal.returns-then-len-gt0-clause-marked
 returns-then-len-gt0-clause-marked c =
     let p = c.self.inside in
     let set = last_set p.ignored.items (c.len-len.result - 1) (omega (arith, p.ignored.ok.0)) in
-    let marked : List Bool → Plan = λ marks. record { commands = p.commands.items; ignored = marks; atomic = p.atomic; ignores_errors = p.ignores_errors } in
+    let marked : List Bool → Plan = λ marks. record {
+      commands = p.commands.items;
+      ignored = marks;
+      atomic = p.atomic;
+      ignores_errors = p.ignores_errors;
+    } in
     rw (← c.self.view_is) (ap marked set)

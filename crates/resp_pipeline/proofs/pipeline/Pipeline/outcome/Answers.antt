@@ -5,5 +5,6 @@ use Rattle.resp_pipeline.proofs.pipeline.Pipeline.outcome.Goals as goal
 pub returns : goal.returns
 returns g c = record {
   plain = λ plain. absurd (let k : true ≡ false = sym c.if-not-self.false ∙ rw (← c.self.view_is) at plain in cc);
-  atomic = λ _. concluded c.args.self.now g.T.FromRedisValue.of_value c.conclude.result c.pop.new.self.items c.args.replies.items c.in-Some.last (rw c.in-Some.is at c.pop.ensures.items) c.conclude.ensures;
+  atomic = λ _. concluded c.args.self.now g.T.FromRedisValue.of_value c.conclude.result c.pop.new.self.items
+      c.args.replies.items c.in-Some.last (rw c.in-Some.is at c.pop.ensures.items) c.conclude.ensures;
 }
