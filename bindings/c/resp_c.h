@@ -82,7 +82,8 @@ enum resp_fault {
     RESP_NOT_DOUBLE = 8,         /* No floating point number where one stands. */
     RESP_NO_VERBATIM_FORMAT = 9, /* A verbatim string without a colon. */
     RESP_BAD_PUSH_KIND = 10,     /* A push whose first element names no kind. */
-    RESP_TOO_LONG = 11           /* A value of more bytes than the limit on size. */
+    RESP_TOO_LONG = 11,          /* A value of more bytes than the limit on size. */
+    RESP_TOO_MANY_PUSHES = 12    /* A connection's fault; no call of this interface answers it. */
 };
 
 /* Where a parser stands. */

@@ -39,7 +39,8 @@ const char *resp_fault_name(uint32_t fault)
     static const char *const names[] = {
         "RESP_NO_FAULT",    "RESP_TOO_DEEP",           "RESP_UNKNOWN_TYPE",  "RESP_LINE_NOT_UTF8",
         "RESP_NOT_INTEGER", "RESP_NEGATIVE_LENGTH",    "RESP_BODY_END",      "RESP_NOT_BOOLEAN",
-        "RESP_NOT_DOUBLE",  "RESP_NO_VERBATIM_FORMAT", "RESP_BAD_PUSH_KIND", "RESP_TOO_LONG"};
+        "RESP_NOT_DOUBLE",  "RESP_NO_VERBATIM_FORMAT", "RESP_BAD_PUSH_KIND", "RESP_TOO_LONG",
+        "RESP_TOO_MANY_PUSHES"};
 
     return name_in(names, sizeof names / sizeof *names, fault);
 }

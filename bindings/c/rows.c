@@ -23,6 +23,7 @@ struct walk {
 static const char *const fault_names[] = {
     "none",    "TooDeep",    "UnknownType", "LineNotUtf8",      "NotInteger",  "NegativeLength",
     "BodyEnd", "NotBoolean", "NotDouble",   "NoVerbatimFormat", "BadPushKind", "TooLong",
+    "TooManyPushes",
 };
 
 /* Kinds of pushes, and formats, that have a name of their own; the last stands for all others. */
@@ -313,7 +314,7 @@ static bool next_part(struct walk *walk, const char *begin)
 
 static bool same_fault(struct walk *walk, uint32_t fault, size_t offset)
 {
-    return fault <= RESP_TOO_LONG && skip(walk, fault_names[fault]) && skip(walk, "@") &&
+    return fault <= RESP_TOO_MANY_PUSHES && skip(walk, fault_names[fault]) && skip(walk, "@") &&
            skip_number(walk, (long long)offset);
 }
 

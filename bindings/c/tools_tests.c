@@ -321,9 +321,10 @@ static void test_names(void)
     NAMED(resp_fault_name, RESP_NO_VERBATIM_FORMAT);
     NAMED(resp_fault_name, RESP_BAD_PUSH_KIND);
     NAMED(resp_fault_name, RESP_TOO_LONG);
+    NAMED(resp_fault_name, RESP_TOO_MANY_PUSHES);
     check_name("?", resp_status_name(RESP_RANGE + 1));
     check_name("?", resp_kind_name(RESP_PUSH + 1));
-    check_name("?", resp_fault_name(RESP_TOO_LONG + 1));
+    check_name("?", resp_fault_name(RESP_TOO_MANY_PUSHES + 1));
 }
 
 int main(void)

@@ -30,6 +30,8 @@ class Fault(enum.IntEnum):
     """The first element of a push doesn't name its kind."""
     TOO_LONG = 11
     """A value is longer than the limit on the size."""
+    TOO_MANY_PUSHES = 12
+    """A connection was sent more bytes of pushes than it sets aside; a parser never answers it."""
 
 
 class RespError(Exception):

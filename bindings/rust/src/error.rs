@@ -113,10 +113,12 @@ pub enum Fault {
     BadPushKind,
     /// A value is longer than the limit on the size.
     TooLong,
+    /// A connection was sent more bytes of pushes than it sets aside; a parser never answers it.
+    TooManyPushes,
 }
 
 /// The faults by their numbers, from 1.
-const FAULTS: [Fault; 11] = [
+const FAULTS: [Fault; 12] = [
     Fault::TooDeep,
     Fault::UnknownType,
     Fault::LineNotUtf8,
@@ -128,6 +130,7 @@ const FAULTS: [Fault; 11] = [
     Fault::NoVerbatimFormat,
     Fault::BadPushKind,
     Fault::TooLong,
+    Fault::TooManyPushes,
 ];
 
 impl Fault {
@@ -163,6 +166,7 @@ impl Fault {
             Fault::NoVerbatimFormat => "NoVerbatimFormat",
             Fault::BadPushKind => "BadPushKind",
             Fault::TooLong => "TooLong",
+            Fault::TooManyPushes => "TooManyPushes",
         }
     }
 }

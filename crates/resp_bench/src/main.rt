@@ -167,6 +167,7 @@ fn hold(rt: &HostRuntime, file: &str, piece: usize, limit: usize) -> u8 {
     let limits = Limits {
         depth: 1000,
         bytes: limit,
+        ..Limits::default()
     };
     match parse_round(rt.alloc(), limits, Form::Tree, bytes.as_slice(), piece) {
         Ok(_) => say(rt, "none"),

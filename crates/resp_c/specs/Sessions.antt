@@ -27,6 +27,7 @@ number_of frame.NotDouble = 8
 number_of frame.NoVerbatimFormat = 9
 number_of frame.BadPushKind = 10
 number_of frame.TooLong = 11
+number_of frame.TooManyPushes = 12
 
 -- the reply holds these
 pub record Holds (reply : FlatReply) (tokens : List Token) (text : List ℕ) : Type 0 where

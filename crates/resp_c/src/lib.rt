@@ -45,10 +45,15 @@ pub extern "C" fn resp_parser_open_within(
     depth: usize,
     bytes: usize,
 ) -> u32
-    ensures opened { Opened (record { depth = depth; bytes = bytes }) parser.old.slot.value
+    ensures opened { Opened (record usual { depth = depth; bytes = bytes }) parser.old.slot.value
         parser.new.slot.value result }
 {
-    open(alloc, parser, Limits { depth, bytes })
+    let limits = Limits {
+        depth,
+        bytes,
+        ..Limits::default()
+    };
+    open(alloc, parser, limits)
 }
 
 /// Opens a parser within limits.

@@ -170,5 +170,6 @@ fn fault_number(fault: FrameFault) -> u32
         FrameFault::NoVerbatimFormat => 9,
         FrameFault::BadPushKind => 10,
         FrameFault::TooLong => 11,
+        FrameFault::TooManyPushes => 12,
     }
 }

@@ -1,54 +1,67 @@
 -- What an exchange does where the source tells its bytes: those that are left follow what was taken.
-use Rattle.std.proofs.Common.{◌≡◌, ℕ, List, [], ◌++◌, refl, sym, ap, ◌∙◌, subst, append_assoc, append-nil, Option, None}
+use Rattle.std.proofs.Common.{◌≡◌, ℕ, ◌-◌, List, [], ◌∷◌, ◌++◌, refl, sym, ap, ◌∙◌, subst, append_assoc, append-nil, Option, None}
 use Rattle.std.proofs.Common.{Some, Result, inl, inr}
 use Rattle.std.specs.Io.KnownBytes.{Consumes, IsAtEnd}
 use Rattle.resp_errors.specs.declared.kinds.FrameFault.{FrameFault}
 use Rattle.resp_errors.specs.declared.redis_error.RedisError.{RedisError}
 use Rattle.resp_value.specs.declared.value.Value.{Value}
-use Rattle.resp_value.specs.declared.value.PushInfo.{PushInfo}
 use Rattle.resp_parse.specs.declared.limits.Limits.{Limits}
 use Rattle.resp_parse.proofs.LimitedReadings.{HasFault-longer}
-use Rattle.resp_command.specs.Taken.{PrefixReads, Taken, took, met_fault, ended_early}
-use Rattle.resp_command.specs.Connection.{Connection, Bytes, ExchangeOf, Exchange, KnownExchange, replied, malformed}
+use Rattle.resp_command.specs.Taken.{Frame, bytes_of, Aside, PrefixReads, MeetsFault, in_bytes, too_many_pushes, Taken, took}
+use Rattle.resp_command.specs.Taken.{met_fault, ended_early}
+use Rattle.resp_command.specs.Connection.{Connection, push_room, Bytes, ExchangeOf, Exchange, KnownExchange, replied, malformed}
 use Rattle.resp_command.specs.Connection.{early_end, sink_failed, source_failed, out_of_memory, BrokenMidway}
 
-pub prefix-longer : (l : Limits) (b rest x : List ℕ) (vs : List Value) → PrefixReads l b vs rest
-    → PrefixReads l (b ++ x) vs (rest ++ x)
-prefix-longer l b rest x vs h = record {
-  prefix = h.prefix;
-  whole = ap (λ z. z ++ x) h.whole
-      ∙ append_assoc h.prefix rest x;
-  reads = h.reads;
+pub prefix-longer : (l : Limits) (b rest x : List ℕ) (fs : List Frame) → PrefixReads l b fs rest
+    → PrefixReads l (b ++ x) fs (rest ++ x)
+prefix-longer l b rest x fs h = record {
+  whole = ap (λ z. z ++ x) h.whole ∙ append_assoc (bytes_of fs) rest x;
+  frames_are = h.frames_are;
 }
 
-module _ (l : Limits) (n : ℕ) (b x : List ℕ) where
-  took-longer : (replies : List Value) (pushes : List PushInfo) (rest : List ℕ) → Taken l n b (took replies pushes rest)
-      → Taken l n (b ++ x) (took replies pushes (rest ++ x))
+fault-longer : (l : Limits) (room : ℕ) (rest x : List ℕ) (f : FrameFault) → MeetsFault l room rest f
+    → MeetsFault l room (rest ++ x) f
+fault-longer l room rest x f (in_bytes h) = in_bytes (HasFault-longer l rest x f h)
+fault-longer l room rest x f (too_many_pushes e p) = too_many_pushes e (record {
+  later = p.later ++ x;
+  follows = record {
+    push = p.follows.push;
+    prefix = prefix-longer l rest p.later x (p.follows.push ∷ []) p.follows.prefix;
+    is_push = p.follows.is_push;
+  };
+  passes = p.passes;
+})
+
+module _ (l : Limits) (room n : ℕ) (b x : List ℕ) where
+  took-longer : (replies : List Value) (aside : Aside) (rest : List ℕ) → Taken l room n b (took replies aside rest)
+      → Taken l room n (b ++ x) (took replies aside (rest ++ x))
   unfolding Taken
-  took-longer replies pushes rest h = record {
-    values = h.values;
-    prefix = prefix-longer l b rest x h.values h.prefix;
+  took-longer replies aside rest h = record {
+    frames = h.frames;
+    prefix = prefix-longer l b rest x h.frames h.prefix;
     ends = h.ends;
     replies_are = h.replies_are;
-    pushes_are = h.pushes_are;
+    aside_is = h.aside_is;
+    fits = h.fits;
   }
 
-  fault-longer : (f : FrameFault) (pushes : List PushInfo) → Taken l n b (met_fault f pushes)
-      → Taken l n (b ++ x) (met_fault f pushes)
+  fault_met-longer : (f : FrameFault) (aside : Aside) → Taken l room n b (met_fault f aside)
+      → Taken l room n (b ++ x) (met_fault f aside)
   unfolding Taken
-  fault-longer f pushes h = record {
-    values = h.values;
+  fault_met-longer f aside h = record {
+    frames = h.frames;
     rest = h.rest ++ x;
-    prefix = prefix-longer l b h.rest x h.values h.prefix;
+    prefix = prefix-longer l b h.rest x h.frames h.prefix;
     few = h.few;
-    pushes_are = h.pushes_are;
-    follows = HasFault-longer l h.rest x f h.follows;
+    aside_is = h.aside_is;
+    fits = h.fits;
+    follows = fault-longer l (room - aside.bytes) h.rest x f h.follows;
   }
 
-  none-longer : (pushes : List PushInfo) → x ≡ [] → Taken l n b (ended_early pushes)
-      → Taken l n (b ++ x) (ended_early pushes)
-  none-longer pushes e h = subst (λ z. Taken l n z (ended_early pushes)) (sym (append-nil b) ∙ ap (λ z. b ++ z) (sym e))
-      h
+  none-longer : (aside : Aside) → x ≡ [] → Taken l room n b (ended_early aside)
+      → Taken l room n (b ++ x) (ended_early aside)
+  none-longer aside e h =
+      subst (λ z. Taken l room n z (ended_early aside)) (sym (append-nil b) ∙ ap (λ z. b ++ z) (sym e)) h
 
 -- the same bytes, and others that the source has yet to give
 abbrev longer : Bytes → List ℕ → Bytes
@@ -58,14 +71,14 @@ module _ {A : Type 0} (bytes : Bytes) (old new : Connection) (q : List ℕ) (n :
     (answers : List Value → Type 0) (x : List ℕ) (known : new.to_come ≡ Some x) where
   midway-longer : BrokenMidway bytes old new q → BrokenMidway (longer bytes x) old new q
   midway-longer h = record {
-    pushes = h.pushes;
+    aside = h.aside;
     sent = h.sent;
     begun = h.begun;
     takes = record {
-      values = h.takes.values;
-      taken = prefix-longer old.limits bytes.incoming bytes.left x
-          h.takes.values h.takes.taken;
+      frames = h.takes.frames;
+      taken = prefix-longer old.limits bytes.incoming bytes.left x h.takes.frames h.takes.taken;
       listed = h.takes.listed;
+      fits = h.takes.fits;
     };
     listed = h.listed;
     broken = h.broken;
@@ -74,10 +87,10 @@ module _ {A : Type 0} (bytes : Bytes) (old new : Connection) (q : List ℕ) (n :
   exchange-longer : ExchangeOf bytes old new q n result answers → ExchangeOf (longer bytes x) old new q n result answers
   exchange-longer (replied h) = replied (record {
     replies = h.replies;
-    pushes = h.pushes;
+    aside = h.aside;
     enough = h.enough;
     sent = record { all = h.sent.all; flushed = h.sent.flushed };
-    takes = took-longer old.limits n bytes.incoming x h.replies h.pushes bytes.left h.takes;
+    takes = took-longer old.limits (push_room old) n bytes.incoming x h.replies h.aside bytes.left h.takes;
     listed = h.listed;
     usable = h.usable;
     no_failure = h.no_failure;
@@ -85,18 +98,18 @@ module _ {A : Type 0} (bytes : Bytes) (old new : Connection) (q : List ℕ) (n :
   })
   exchange-longer (malformed h) = malformed (record {
     frame_fault = h.frame_fault;
-    pushes = h.pushes;
+    aside = h.aside;
     sent = record { all = h.sent.all; flushed = h.sent.flushed };
-    takes = fault-longer old.limits n bytes.incoming x h.frame_fault h.pushes h.takes;
+    takes = fault_met-longer old.limits (push_room old) n bytes.incoming x h.frame_fault h.aside h.takes;
     listed = h.listed;
     broken = h.broken;
     no_failure = h.no_failure;
     answer = h.answer;
   })
   exchange-longer (early_end h) = early_end (record {
-    pushes = h.pushes;
+    aside = h.aside;
     sent = record { all = h.sent.all; flushed = h.sent.flushed };
-    takes = none-longer old.limits n bytes.incoming x h.pushes (subst IsAtEnd known h.end) h.takes;
+    takes = none-longer old.limits (push_room old) n bytes.incoming x h.aside (subst IsAtEnd known h.end) h.takes;
     end = h.end;
     listed = h.listed;
     broken = h.broken;
@@ -113,13 +126,14 @@ module _ {A : Type 0} (bytes : Bytes) (old new : Connection) (q : List ℕ) (n :
     answer = h.answer;
   })
   exchange-longer (source_failed h) = source_failed (record {
-    pushes = h.pushes;
+    aside = h.aside;
     sent = record { all = h.sent.all; flushed = h.sent.flushed };
     takes = record {
-      values = h.takes.values;
-      taken = prefix-longer old.limits bytes.incoming bytes.left x h.takes.values h.takes.taken;
+      frames = h.takes.frames;
+      taken = prefix-longer old.limits bytes.incoming bytes.left x h.takes.frames h.takes.taken;
       few = h.takes.few;
-      pushes_are = h.takes.pushes_are;
+      aside_is = h.takes.aside_is;
+      fits = h.takes.fits;
       incomplete = h.takes.incomplete;
     };
     listed = h.listed;

@@ -10,7 +10,7 @@ use Rattle.resp_errors.specs.declared.parsing_error.ParsingError.TheVariants.{Fa
 use Rattle.resp_command.specs.Call.{Call, CommandCall, Refuses, broken_link, no_command, AnswersReply, Answers, needed}
 use Rattle.resp_command.specs.Command.{Command}
 use Rattle.resp_command.specs.CommandQuery.{CommandQuery}
-use Rattle.resp_command.specs.Connection.{Connection, Bytes, ExchangeOf, Exchange, replied, malformed, early_end}
+use Rattle.resp_command.specs.Connection.{push_room, Connection, Bytes, ExchangeOf, Exchange, replied, malformed, early_end}
 use Rattle.resp_command.specs.Connection.{sink_failed, source_failed, out_of_memory}
 use Rattle.resp_command.specs.Packed.{packed}
 use Rattle.resp_command.proofs.PackedReadsBack.{packed_reads_only}
@@ -28,7 +28,7 @@ module _ {A B : Type 0} (old new : Connection) (q : List ℕ) (n : ℕ) (answers
   exchange_of_err bytes e none (malformed h) = let i : e ≡ Parse (Fault h.frame_fault) = (let k = h.answer in cc) in
       malformed (record {
         frame_fault = h.frame_fault;
-        pushes = h.pushes;
+        aside = h.aside;
         sent = h.sent;
         takes = h.takes;
         listed = h.listed;
@@ -38,7 +38,7 @@ module _ {A B : Type 0} (old new : Connection) (q : List ℕ) (n : ℕ) (answers
       })
   exchange_of_err bytes e none (early_end h) = let i : e ≡ Io UnexpectedEof = (let k = h.answer in cc) in
       early_end (record {
-        pushes = h.pushes;
+        aside = h.aside;
         sent = h.sent;
         takes = h.takes;
         end = h.end;
@@ -57,7 +57,7 @@ module _ {A B : Type 0} (old new : Connection) (q : List ℕ) (n : ℕ) (answers
     answer = h.answer;
   })
   exchange_of_err bytes e none (source_failed h) = source_failed (record {
-    pushes = h.pushes;
+    aside = h.aside;
     sent = h.sent;
     takes = h.takes;
     listed = h.listed;
@@ -85,7 +85,7 @@ module _ {A B : Type 0} (old new : Connection) (q : List ℕ) (n : ℕ) (answers
       → ExchangeOf {A = A} bytes old new q n (Ok a) answers → ExchangeOf {A = B} bytes old new q n r answers'
   exchange_of_ok bytes a r turn (replied h) = replied (record {
     replies = h.replies;
-    pushes = h.pushes;
+    aside = h.aside;
     enough = h.enough;
     sent = h.sent;
     takes = h.takes;
@@ -184,7 +184,7 @@ module _ {X : Type 0} (old new : Connection) (c : Command) (Of : Value → X →
       → CommandCall old new c sent (λ reply. sent ≡ Ok reply) → CommandQuery old new c Of (Err e)
   command_refused sent e is h = record {
     reads_only = packed_reads_only c.args;
-    takes_one = λ arrived. takes_one_thing old.limits (needed c) (old.received ++ arrived);
+    takes_one = λ arrived. takes_one_thing old.limits (push_room old) (needed c) (old.received ++ arrived);
     call = call_err old new (packed c.args) (needed c) (ReplyIs (Err e)) _ _ e (none_answered e) (rw is at h);
   }
 
@@ -192,7 +192,7 @@ module _ {X : Type 0} (old new : Connection) (c : Command) (Of : Value → X →
       → Answers Of r v → CommandCall old new c sent (λ reply. sent ≡ Ok reply) → CommandQuery old new c Of r
   command_answered sent v r is answer h = record {
     reads_only = packed_reads_only c.args;
-    takes_one = λ arrived. takes_one_thing old.limits (needed c) (old.received ++ arrived);
+    takes_one = λ arrived. takes_one_thing old.limits (push_room old) (needed c) (old.received ++ arrived);
     call = call_ok old new (packed c.args) (needed c) (ReplyIs (Ok v)) _ _ v r
         (λ replies _. reply_answered Of v r answer replies) (rw is at h);
   }

@@ -12,7 +12,7 @@ use Rattle.resp_from.specs.Conversion.{Converts, ConvertsCall, Decides, RefusesI
 use Rattle.resp_from.proofs.Conversions.{RefusesIf-along}
 use Rattle.resp_command.specs.Call.{CommandCall, needed}
 use Rattle.resp_command.specs.Command.{Command}
-use Rattle.resp_command.specs.Connection.{Connection}
+use Rattle.resp_command.specs.Connection.{push_room, Connection}
 use Rattle.resp_command.specs.Cursors.{with_cursor}
 use Rattle.resp_command.specs.ScanReplies.{Given, IsBatch, IsFirstPage, IsListOf, IsPage, ReadsPage}
 use Rattle.resp_command.specs.Scans.{FirstRequest, LaterRequest, SendsPacked, scan_request}
@@ -89,7 +89,7 @@ module _ {X : Type 0} (n : ℕ) (Of : Value → X → Type 0) (old new : Connect
   first_failed answer e is h = record {
     answer = answer;
     reads_only = packed_reads_only c.args;
-    takes_one = λ arrived. takes_one_thing old.limits (needed c) (old.received ++ arrived);
+    takes_one = λ arrived. takes_one_thing old.limits (push_room old) (needed c) (old.received ++ arrived);
     call = h;
     gives = rw is refl;
   }
@@ -100,7 +100,7 @@ module _ {X : Type 0} (n : ℕ) (Of : Value → X → Type 0) (old new : Connect
   first_read answer reply given is h read = record {
     answer = answer;
     reads_only = packed_reads_only c.args;
-    takes_one = λ arrived. takes_one_thing old.limits (needed c) (old.received ++ arrived);
+    takes_one = λ arrived. takes_one_thing old.limits (push_room old) (needed c) (old.received ++ arrived);
     call = h;
     gives = rw is read;
   }
@@ -111,7 +111,7 @@ module _ {X : Type 0} (n : ℕ) (Of : Value → X → Type 0) (old new : Connect
     later_failed answer e is h = record {
       answer = answer;
       reads_only = packed_reads_only (with_cursor u c).args;
-      takes_one = λ arrived. takes_one_thing old.limits 1 (old.received ++ arrived);
+      takes_one = λ arrived. takes_one_thing old.limits (push_room old) 1 (old.received ++ arrived);
       sends = h;
       gives = rw is refl;
     }
@@ -122,7 +122,7 @@ module _ {X : Type 0} (n : ℕ) (Of : Value → X → Type 0) (old new : Connect
     later_read answer reply given is h read = record {
       answer = answer;
       reads_only = packed_reads_only (with_cursor u c).args;
-      takes_one = λ arrived. takes_one_thing old.limits 1 (old.received ++ arrived);
+      takes_one = λ arrived. takes_one_thing old.limits (push_room old) 1 (old.received ++ arrived);
       sends = h;
       gives = rw is read;
     }

@@ -1,74 +1,90 @@
--- Values that are read one after another, and the replies among them.
-use Rattle.std.proofs.Common.{◌≡◌, ℕ, ◌+◌, None, Some, is_none, List, [], ◌∷◌, ◌++◌, length, refl, sym, ap, ◌∙◌}
-use Rattle.std.proofs.Common.{append_assoc, append-nil, length-append, arith, rules}
+-- Frames that are read one after another, and the replies and pushes among them.
+use Rattle.std.proofs.Common.{◌≡◌, ℕ, ◌+◌, ◌≤◌, None, Some, is_none, is_some, List, [], ◌∷◌, ◌++◌, length, filter, refl, sym}
+use Rattle.std.proofs.Common.{ap, ◌∙◌, append_assoc, append-nil, length-append, arith, rules}
+use Rattle.std.proofs.lemmas.List.{map-append}
 use Rattle.std.proofs.lemmas.List.Elements.{filter-append, filter_map-append}
 use Rattle.resp_value.specs.declared.value.Value.{Value, Push, the_lemmas}
 use Rattle.resp_value.specs.declared.names.PushKind.{PushKind}
 use Rattle.resp_parse.specs.declared.limits.Limits.{Limits}
-use Rattle.resp_parse.specs.Grammar.{Joined}
-use Rattle.resp_parse.specs.Limited.{WellFormedWithin, ReadsWithin, HasValue}
-use Rattle.resp_command.specs.Taken.{as_push, replies_in, pushes_in, PrefixReads, EndsAtReply}
+use Rattle.resp_parse.specs.Limited.{HasValue}
+use Rattle.resp_command.specs.Taken.{as_push, Frame, bytes_of, AreFrames, values_of, replies_in, pushes_in, push_bytes}
+use Rattle.resp_command.specs.Taken.{Aside, aside_of, PrefixReads, EndsAtReply}
 
 -- a push is one
 pub as_push-Push : (kind : PushKind) (payload : List Value)
     → as_push (Push kind payload) ≡ Some (record { kind = kind; payload = payload })
 as_push-Push kind payload = search (rules, the_lemmas)
 
-Joined-append : (P : List ℕ → Value → Type 0) (x y : List ℕ) (vs ws : List Value) → Joined P x vs → Joined P y ws
-    → Joined P (x ++ y) (vs ++ ws)
-Joined-append P x y [] ws e h = rw e h
-Joined-append P x y (v ∷ vs) ws j h = record {
-  first = j.first;
-  others = j.others ++ y;
-  whole = ap (λ s. s ++ y) j.whole ∙ append_assoc j.first j.others y;
-  first_is = j.first_is;
-  others_are = Joined-append P j.others y vs ws j.others_are h;
-}
+bytes_of-append : (fs gs : List Frame) → bytes_of (fs ++ gs) ≡ bytes_of fs ++ bytes_of gs
+bytes_of-append [] gs = refl
+bytes_of-append (f ∷ fs) gs = ap (λ z. f.bytes ++ z) (bytes_of-append fs gs)
+    ∙ sym (append_assoc f.bytes (bytes_of fs) (bytes_of gs))
+
+are_frames-append : (l : Limits) (fs gs : List Frame) → AreFrames l fs → AreFrames l gs → AreFrames l (fs ++ gs)
+are_frames-append l [] gs h k = k
+are_frames-append l (f ∷ fs) gs h k = (h.0, are_frames-append l fs gs h.1 k)
 
 pub reads_nothing : (l : Limits) (b : List ℕ) → PrefixReads l b [] b
-unfolding ReadsWithin
-reads_nothing l b = record { prefix = []; whole = refl; reads = refl }
+reads_nothing l b = record { whole = refl; frames_are = tt }
 
-pub reads_one : (l : Limits) (b rest : List ℕ) (v : Value) → HasValue l b v rest → PrefixReads l b (v ∷ []) rest
-unfolding ReadsWithin
+-- the frame of a value at the start
+abbrev pub frame_of : {l : Limits} {b rest : List ℕ} {v : Value} → HasValue l b v rest → Frame
+frame_of {v = v} h = record { bytes = h.prefix; value = v }
+
+pub reads_one : (l : Limits) (b rest : List ℕ) (v : Value) → (h : HasValue l b v rest)
+    → PrefixReads l b (frame_of h ∷ []) rest
 reads_one l b rest v h = record {
-  prefix = h.prefix;
-  whole = h.whole;
-  reads = record {
-    first = h.prefix;
-    others = [];
-    whole = sym (append-nil h.prefix);
-    first_is = h.well_formed;
-    others_are = refl;
-  };
+  whole = h.whole ∙ ap (λ z. z ++ rest) (sym (append-nil h.prefix));
+  frames_are = (h.well_formed, tt);
 }
 
-pub reads_both : (l : Limits) (b mid rest : List ℕ) (vs ws : List Value) → PrefixReads l b vs mid
-    → PrefixReads l mid ws rest → PrefixReads l b (vs ++ ws) rest
-unfolding ReadsWithin
-reads_both l b mid rest vs ws h k = record {
-  prefix = h.prefix ++ k.prefix;
-  whole = h.whole ∙ ap (λ s. h.prefix ++ s) k.whole ∙ sym (append_assoc h.prefix k.prefix rest);
-  reads = Joined-append (WellFormedWithin l) h.prefix k.prefix vs ws h.reads k.reads;
+-- the value of a frame at the start
+pub value_first : (l : Limits) (b rest : List ℕ) (f : Frame) (fs : List Frame) → PrefixReads l b (f ∷ fs) rest
+    → HasValue l b f.value (bytes_of fs ++ rest)
+value_first l b rest f fs h = record {
+  prefix = f.bytes;
+  whole = h.whole ∙ append_assoc f.bytes (bytes_of fs) rest;
+  well_formed = h.frames_are.0;
 }
 
-pub replies_in-append : (vs ws : List Value) → replies_in (vs ++ ws) ≡ replies_in vs ++ replies_in ws
-replies_in-append vs ws = filter-append (λ v. is_none (as_push v)) vs ws
+pub reads_both : (l : Limits) (b mid rest : List ℕ) (fs gs : List Frame) → PrefixReads l b fs mid
+    → PrefixReads l mid gs rest → PrefixReads l b (fs ++ gs) rest
+reads_both l b mid rest fs gs h k = record {
+  whole = h.whole ∙ ap (λ s. bytes_of fs ++ s) k.whole ∙ sym (append_assoc (bytes_of fs) (bytes_of gs) rest)
+      ∙ ap (λ s. s ++ rest) (sym (bytes_of-append fs gs));
+  frames_are = are_frames-append l fs gs h.frames_are k.frames_are;
+}
 
-pub pushes_in-append : (vs ws : List Value) → pushes_in (vs ++ ws) ≡ pushes_in vs ++ pushes_in ws
-pushes_in-append vs ws = filter_map-append as_push vs ws
+values_of-append : (fs gs : List Frame) → values_of (fs ++ gs) ≡ values_of fs ++ values_of gs
+values_of-append fs gs = map-append (λ f. f.value) fs gs
+
+pub replies_in-append : (fs gs : List Frame) → replies_in (fs ++ gs) ≡ replies_in fs ++ replies_in gs
+replies_in-append fs gs = ap (filter (λ v. is_none (as_push v))) (values_of-append fs gs)
+    ∙ filter-append (λ v. is_none (as_push v)) (values_of fs) (values_of gs)
+
+pub pushes_in-append : (fs gs : List Frame) → pushes_in (fs ++ gs) ≡ pushes_in fs ++ pushes_in gs
+pushes_in-append fs gs = ap (filter_map as_push) (values_of-append fs gs)
+    ∙ filter_map-append as_push (values_of fs) (values_of gs)
+
+pub push_bytes-append : (fs gs : List Frame) → push_bytes (fs ++ gs) ≡ push_bytes fs + push_bytes gs
+push_bytes-append fs gs =
+    ap (λ z. length (bytes_of z)) (filter-append (λ f. is_some (as_push f.value)) fs gs)
+    ∙ ap length (bytes_of-append (filter (λ f. is_some (as_push f.value)) fs)
+    (filter (λ f. is_some (as_push f.value)) gs))
+    ∙ length-append (bytes_of (filter (λ f. is_some (as_push f.value)) fs))
+    (bytes_of (filter (λ f. is_some (as_push f.value)) gs))
 
 -- as many replies as both hold
-pub count-append : (vs ws : List Value) → length (replies_in (vs ++ ws)) ≡ length (replies_in vs) + length
-    (replies_in ws)
-count-append vs ws = ap length (replies_in-append vs ws) ∙ length-append (replies_in vs) (replies_in ws)
+pub count-append : (fs gs : List Frame) → length (replies_in (fs ++ gs)) ≡ length (replies_in fs) + length
+    (replies_in gs)
+count-append fs gs = ap length (replies_in-append fs gs) ∙ length-append (replies_in fs) (replies_in gs)
 
 -- where a beginning of two lists joined ends: within the first, or in the second
-data Ending (vs ws before after : List Value) (v : Value) : Type 0 where
-  within : (more : List Value) → vs ≡ before ++ v ∷ more → Ending vs ws before after v
-  beyond : (more : List Value) → before ≡ vs ++ more → ws ≡ more ++ v ∷ after → Ending vs ws before after v
+data Ending (vs ws before after : List Frame) (v : Frame) : Type 0 where
+  within : (more : List Frame) → vs ≡ before ++ v ∷ more → Ending vs ws before after v
+  beyond : (more : List Frame) → before ≡ vs ++ more → ws ≡ more ++ v ∷ after → Ending vs ws before after v
 
-ending : (vs ws before after : List Value) (v : Value) → vs ++ ws ≡ before ++ v ∷ after → Ending vs ws before after v
+ending : (vs ws before after : List Frame) (v : Frame) → vs ++ ws ≡ before ++ v ∷ after → Ending vs ws before after v
 ending [] ws before after v e = beyond before refl e
 ending (x ∷ vs) ws [] after v e = within vs (let k : x ≡ v = cc in ap (λ y. y ∷ vs) k)
 ending (x ∷ vs) ws (y ∷ before) after v e =
@@ -81,11 +97,11 @@ ending (x ∷ vs) ws (y ∷ before) after v e =
 pub ends_at_nothing : EndsAtReply 0 []
 ends_at_nothing = record { enough = refl; least = λ before after v e. absurd (none before after v e) }
   where
-    none : (before after : List Value) (v : Value) → [] ≡ before ++ v ∷ after → ⊥
+    none : (before after : List Frame) (v : Frame) → [] ≡ before ++ v ∷ after → ⊥
     none [] after v e = cc
     none (x ∷ before) after v e = cc
 
-pub ends_after_pushes : (vs : List Value) (v : Value) → replies_in vs ≡ [] → as_push v ≡ None
+pub ends_after_pushes : (vs : List Frame) (v : Frame) → replies_in vs ≡ [] → as_push v.value ≡ None
     → EndsAtReply 1 (vs ++ v ∷ [])
 ends_after_pushes vs v none reply = record {
   enough = count-append vs (v ∷ []) ∙ rw (none, reply) refl;
@@ -97,12 +113,12 @@ ends_after_pushes vs v none reply = record {
   ];
 }
   where
-    nothing_before : (more : List Value) (w : Value) (after : List Value) → v ∷ [] ≡ more ++ w ∷ after → more ≡ []
+    nothing_before : (more : List Frame) (w : Frame) (after : List Frame) → v ∷ [] ≡ more ++ w ∷ after → more ≡ []
     nothing_before [] w after e = refl
     nothing_before (x ∷ []) w after e = cc
     nothing_before (x ∷ y ∷ more) w after e = cc
 
-pub ends_after_both : (m n : ℕ) (vs ws : List Value) → EndsAtReply m vs → EndsAtReply n ws
+pub ends_after_both : (m n : ℕ) (vs ws : List Frame) → EndsAtReply m vs → EndsAtReply n ws
     → EndsAtReply (m + n) (vs ++ ws)
 ends_after_both m n vs ws h k = record {
   enough = (let c = count-append vs ws in let a = h.enough in let b = k.enough in omega arith);

@@ -4,7 +4,7 @@ use Rattle.resp_value.specs.declared.value.Value.{Value}
 use Rattle.resp_errors.specs.declared.redis_error.RedisError.{RedisError}
 use Rattle.resp_command.specs.Call.{CommandCall, Answers, needed}
 use Rattle.resp_command.specs.Command.{Command}
-use Rattle.resp_command.specs.Connection.{Connection}
+use Rattle.resp_command.specs.Connection.{push_room, Connection}
 use Rattle.resp_command.specs.PackingLaw.{LawOfPacking}
 use Rattle.resp_command.specs.Taken.{TakesOneThing}
 
@@ -14,5 +14,5 @@ use Rattle.resp_command.specs.Taken.{TakesOneThing}
 pub record CommandQuery {X : Type 0} (old new : Connection) (c : Command)
     (of_value : Value → X → Type 0) (result : Result X RedisError) : Type 0 where
   pub reads_only : LawOfPacking c.args
-  pub takes_one : (arrived : List ℕ) → TakesOneThing old.limits (needed c) (old.received ++ arrived)
+  pub takes_one : (arrived : List ℕ) → TakesOneThing old.limits (push_room old) (needed c) (old.received ++ arrived)
   pub call : CommandCall old new c result (Answers of_value result)

@@ -1,5 +1,5 @@
 -- What is known of a connection, and what one exchange over it leaves.
-use Rattle.std.specs.Prelude.{◌≡◌, ℕ, ◌<◌, ◌⊎◌, Bool, true, false, List, [], ◌++◌, length, Option, None, Some, Result}
+use Rattle.std.specs.Prelude.{◌≡◌, ℕ, ◌+◌, ◌-◌, ◌<◌, ◌≤◌, ◌⊎◌, Bool, true, false, List, [], ◌++◌, length, Option, None, Some, Result}
 use Rattle.std.specs.Prelude.{Err, IsErrAnd}
 use Rattle.std.specs.Io.KnownBytes.{Appends, Consumes, IsAtEnd}
 use Rattle.resp_value.specs.declared.value.Value.{Value}
@@ -14,7 +14,7 @@ use Rattle.resp_parse.specs.declared.limits.Limits.{Limits}
 use Rattle.resp_parse.specs.Limits.{usual}
 use Rattle.resp_parse.specs.Limited.{Awaits}
 use Rattle.resp_command.specs.Taken.{ArrivedAsNeeded, Taken, took, met_fault, ended_early, PrefixReads, ListsPushes}
-use Rattle.resp_command.specs.Taken.{pushes_in, replies_in}
+use Rattle.resp_command.specs.Taken.{Frame, Aside, aside_of, no_pushes, replies_in}
 
 pub record Connection : Type 0 where
   -- whether several commands may be sent at once
@@ -26,10 +26,12 @@ pub record Connection : Type 0 where
   pub unflushed : Bool
   -- the bytes that came and aren't taken, those of a value in progress included
   pub received : List ℕ
-  -- the pushes that were set aside and aren't taken
+  -- the pushes that were set aside and aren't taken, and how many bytes spelled them
   pub pushes : List PushInfo
+  pub push_bytes : ℕ
   pub broken : Bool
-  -- how deep and how long the values may be that are read
+  -- how deep and how long the values may be that are read, and how many bytes of pushes are set
+  -- aside
   pub limits : Limits
   -- how many bytes one read asks for at most
   pub read_size : ℕ
@@ -49,6 +51,7 @@ idle broken = record {
   unflushed = false;
   received = [];
   pushes = [];
+  push_bytes = 0;
   broken = broken;
   limits = usual;
   read_size = 0;
@@ -57,6 +60,15 @@ idle broken = record {
   to_come = None;
   holds = None;
 }
+
+-- how many bytes of pushes may still be set aside
+abbrev pub push_room : Connection → ℕ
+push_room c = c.limits.pushes - c.push_bytes
+
+-- these pushes were set aside, too
+pub record SetsAside (old new : Connection) (aside : Aside) : Type 0 where
+  pub pushes : new.pushes ≡ old.pushes ++ aside.pushes
+  pub bytes : new.push_bytes ≡ old.push_bytes + aside.bytes
 
 -- what no call changes
 pub record SameKind (old new : Connection) : Type 0 where
@@ -98,11 +110,11 @@ pub record NoFailure (old new : Connection) : Type 0 where
 pub record Replied (bytes : Bytes) (old new : Connection) (q : List ℕ) (n : ℕ)
     (answers : List Value → Type 0) : Type 0 where
   pub replies : List Value
-  pub pushes : List PushInfo
+  pub aside : Aside
   pub enough : length replies ≡ n
   pub sent : Sent bytes new q
-  pub takes : Taken old.limits n bytes.incoming (took replies pushes bytes.left)
-  pub listed : new.pushes ≡ old.pushes ++ pushes
+  pub takes : Taken old.limits (push_room old) n bytes.incoming (took replies aside bytes.left)
+  pub listed : SetsAside old new aside
   pub usable : new.broken ≡ false
   pub no_failure : NoFailure old new
   pub answer : answers replies
@@ -111,10 +123,10 @@ pub record Replied (bytes : Bytes) (old new : Connection) (q : List ℕ) (n : �
 pub record FaultMet {A : Type 0} (bytes : Bytes) (old new : Connection) (q : List ℕ) (n : ℕ)
     (result : Result A RedisError) : Type 0 where
   pub frame_fault : FrameFault
-  pub pushes : List PushInfo
+  pub aside : Aside
   pub sent : Sent bytes new q
-  pub takes : Taken old.limits n bytes.incoming (met_fault frame_fault pushes)
-  pub listed : new.pushes ≡ old.pushes ++ pushes
+  pub takes : Taken old.limits (push_room old) n bytes.incoming (met_fault frame_fault aside)
+  pub listed : SetsAside old new aside
   pub broken : new.broken ≡ true
   pub no_failure : NoFailure old new
   pub answer : result ≡ Err (Parse (Fault frame_fault))
@@ -122,11 +134,11 @@ pub record FaultMet {A : Type 0} (bytes : Bytes) (old new : Connection) (q : Lis
 -- the source ends too early
 pub record EndedEarly {A : Type 0} (bytes : Bytes) (old new : Connection) (q : List ℕ) (n : ℕ)
     (result : Result A RedisError) : Type 0 where
-  pub pushes : List PushInfo
+  pub aside : Aside
   pub sent : Sent bytes new q
-  pub takes : Taken old.limits n bytes.incoming (ended_early pushes)
+  pub takes : Taken old.limits (push_room old) n bytes.incoming (ended_early aside)
   pub end : IsAtEnd new.to_come
-  pub listed : new.pushes ≡ old.pushes ++ pushes
+  pub listed : SetsAside old new aside
   pub broken : new.broken ≡ true
   pub no_failure : NoFailure old new
   pub answer : result ≡ Err (Io UnexpectedEof)
@@ -145,48 +157,50 @@ pub record SinkFailed {A : Type 0} (bytes : Bytes) (old new : Connection) (q : L
     (result : Result A RedisError) : Type 0 where
   pub sent : IsPrefix bytes.sent q
   pub unread : ReceivedNothing old new
-  pub listed : new.pushes ≡ old.pushes
+  pub listed : SetsAside old new no_pushes
   pub broken : new.broken ≡ true
   pub source : new.source_failures ≡ old.source_failures
   pub counted : FailureCounted old.sink_failures new.sink_failures
   pub answer : IsErrAnd result IsIo
 
--- values that hold fewer than n replies were taken, with these pushes among them; all that came
--- after them is incomplete
-pub record TookTooFew (n : ℕ) (bytes : Bytes) (old new : Connection) (pushes : List PushInfo) : Type 0 where
-  pub values : List Value
-  pub taken : PrefixReads old.limits bytes.incoming values bytes.left
-  pub few : length (replies_in values) < n
-  pub pushes_are : pushes ≡ pushes_in values
+-- frames that hold fewer than n replies were taken, and these pushes among them set aside; all that
+-- came after them is incomplete
+pub record TookTooFew (n : ℕ) (bytes : Bytes) (old new : Connection) (aside : Aside) : Type 0 where
+  pub frames : List Frame
+  pub taken : PrefixReads old.limits bytes.incoming frames bytes.left
+  pub few : length (replies_in frames) < n
+  pub aside_is : aside ≡ aside_of frames
+  pub fits : aside.bytes ≤ push_room old
   pub incomplete : Awaits old.limits new.received
 
 -- the source failed: the request was sent, and too little came for n replies
 pub record SourceFailed {A : Type 0} (bytes : Bytes) (old new : Connection) (q : List ℕ) (n : ℕ)
     (result : Result A RedisError) : Type 0 where
-  pub pushes : List PushInfo
+  pub aside : Aside
   pub sent : Sent bytes new q
-  pub takes : TookTooFew n bytes old new pushes
-  pub listed : new.pushes ≡ old.pushes ++ pushes
+  pub takes : TookTooFew n bytes old new aside
+  pub listed : SetsAside old new aside
   pub broken : new.broken ≡ true
   pub counted : FailureCounted old.source_failures new.source_failures
   pub sink : new.sink_failures ≡ old.sink_failures
   pub answer : IsErrAnd result IsIo
 
--- values were taken, and the pushes among them set aside, but for a last value that is a push and
--- found no room
-pub record TookSome (bytes : Bytes) (l : Limits) (pushes : List PushInfo) : Type 0 where
-  pub values : List Value
-  pub taken : PrefixReads l bytes.incoming values bytes.left
-  pub listed : ListsPushes values pushes
+-- frames were taken, and the pushes among them set aside, but for a last one that is a push and
+-- found no room in memory
+pub record TookSome (bytes : Bytes) (l : Limits) (room : ℕ) (aside : Aside) : Type 0 where
+  pub frames : List Frame
+  pub taken : PrefixReads l bytes.incoming frames bytes.left
+  pub listed : ListsPushes frames aside
+  pub fits : aside.bytes ≤ room
 
 -- the connection is broken, and a part of the request was sent, none of it only where it is empty;
 -- the pushes among what was taken were set aside
 pub record BrokenMidway (bytes : Bytes) (old new : Connection) (q : List ℕ) : Type 0 where
-  pub pushes : List PushInfo
+  pub aside : Aside
   pub sent : IsPrefix bytes.sent q
   pub begun : bytes.sent ≡ [] → q ≡ []
-  pub takes : TookSome bytes old.limits pushes
-  pub listed : new.pushes ≡ old.pushes ++ pushes
+  pub takes : TookSome bytes old.limits (push_room old) aside
+  pub listed : SetsAside old new aside
   pub broken : new.broken ≡ true
 
 -- memory ran out, and neither source nor sink failed: nothing was sent and nothing changed, or
@@ -215,7 +229,7 @@ pub record Exchange {A : Type 0} (old new : Connection) (q : List ℕ) (n : ℕ)
   pub arrived : List ℕ
   pub gone : List ℕ
   pub moves : Moves old new arrived gone
-  pub needed : ArrivedAsNeeded old.limits old.read_size n old.received arrived
+  pub needed : ArrivedAsNeeded old.limits (push_room old) old.read_size n old.received arrived
   pub of : ExchangeOf
       (record { incoming = old.received ++ arrived; left = new.received; sent = gone })
       old new q n result answers

@@ -7,7 +7,7 @@ use Rattle.resp_errors.specs.declared.redis_error.RedisError.TheVariants.{Genera
 use Rattle.resp_value.specs.declared.value.Value.{Value}
 use Rattle.resp_command.specs.Call.{CommandCall, PackedCall, needed}
 use Rattle.resp_command.specs.Command.{Command}
-use Rattle.resp_command.specs.Connection.{Connection}
+use Rattle.resp_command.specs.Connection.{push_room, Connection}
 use Rattle.resp_command.specs.Cursors.{with_cursor}
 use Rattle.resp_command.specs.Packed.{packed_or_none}
 use Rattle.resp_command.specs.PackingLaw.{LawOfPacking}
@@ -46,7 +46,7 @@ module _ {X : Type 0} (n : ℕ) (Of : Value → X → Type 0) where
       (given : Result (Batch X) RedisError) : Type 0 where
     pub answer : Result Value RedisError
     pub reads_only : LawOfPacking c.args
-    pub takes_one : (arrived : List ℕ) → TakesOneThing old.limits (needed c) (old.received ++ arrived)
+    pub takes_one : (arrived : List ℕ) → TakesOneThing old.limits (push_room old) (needed c) (old.received ++ arrived)
     pub call : CommandCall old new c answer (λ reply. answer ≡ Ok reply)
     pub gives : GivesFirst n Of answer given
 
@@ -60,7 +60,7 @@ module _ {X : Type 0} (n : ℕ) (Of : Value → X → Type 0) where
       Type 0 where
     pub answer : Result Value RedisError
     pub reads_only : LawOfPacking (with_cursor cursor c).args
-    pub takes_one : (arrived : List ℕ) → TakesOneThing old.limits 1 (old.received ++ arrived)
+    pub takes_one : (arrived : List ℕ) → TakesOneThing old.limits (push_room old) 1 (old.received ++ arrived)
     pub sends : SendsPacked old new (scan_request c cursor) answer
     pub gives : Gives n Of answer given
 

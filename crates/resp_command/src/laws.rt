@@ -30,9 +30,10 @@ pub fn law_of_requests()
 {}
 
 /// From any bytes n replies take one thing, and nothing else: the replies with the pushes before
-/// the last of them and the rest; or a fault, or an early end, and the pushes before it.
+/// the last of them and the rest; or a fault, an early end, or a push for which there is no room
+/// under the limit, and the pushes before it.
 pub fn law_of_taking()
-    ensures { (l : Limits) (n : ℕ) (b : List ℕ) → TakesOneThing l n b }
+    ensures { (l : Limits) (room n : ℕ) (b : List ℕ) → TakesOneThing l room n b }
 {}
 
 /// A scan that is called until it answers nothing made requests one after another, each with the

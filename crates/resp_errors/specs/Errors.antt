@@ -5,7 +5,7 @@ use Rattle.resp_errors.specs.declared.kinds.ServerErrorKind.TheVariants.{Respons
 use Rattle.resp_errors.specs.declared.kinds.ErrorKind.{ErrorKind}
 use Rattle.resp_errors.specs.declared.kinds.ErrorKind.TheVariants as kind
 use Rattle.resp_errors.specs.declared.kinds.FrameFault.{FrameFault}
-use Rattle.resp_errors.specs.declared.kinds.FrameFault.TheVariants.{TooDeep, UnknownType, LineNotUtf8, NotInteger, NegativeLength, BodyEnd, NotBoolean, NotDouble, NoVerbatimFormat, BadPushKind, TooLong}
+use Rattle.resp_errors.specs.declared.kinds.FrameFault.TheVariants.{TooDeep, UnknownType, LineNotUtf8, NotInteger, NegativeLength, BodyEnd, NotBoolean, NotDouble, NoVerbatimFormat, BadPushKind, TooLong, TooManyPushes}
 use Rattle.resp_errors.specs.declared.kinds.IoKind.{IoKind}
 use Rattle.resp_errors.specs.declared.kinds.IoKind.TheVariants.{NotFound, PermissionDenied, ConnectionRefused, ConnectionReset, ConnectionAborted, NotConnected, BrokenPipe, WouldBlock, TimedOut, Interrupted, Unsupported, UnexpectedEof, WriteZero, Other}
 use Rattle.std.specs.declared.io.ErrorKind as device
@@ -79,6 +79,7 @@ fault_text NotDouble = codes "line is not a double"
 fault_text NoVerbatimFormat = codes "verbatim text names no format"
 fault_text BadPushKind = codes "push names no kind"
 fault_text TooLong = codes "value is too long"
+fault_text TooManyPushes = codes "too many pushes"
 
 abbrev pub description_of : ParsingError → List ℕ
 description_of (parsing.Described text) = text

@@ -284,6 +284,8 @@ pub enum FrameFault {
     BadPushKind,
     /// A value is spelled by more bytes than the limit on its size.
     TooLong,
+    /// A push would take a link past its limit on the bytes of pushes that wait to be taken.
+    TooManyPushes,
 }
 
 impl FrameFault {
@@ -303,6 +305,7 @@ impl FrameFault {
             FrameFault::NoVerbatimFormat => "verbatim text names no format",
             FrameFault::BadPushKind => "push names no kind",
             FrameFault::TooLong => "value is too long",
+            FrameFault::TooManyPushes => "too many pushes",
         }
     }
 }

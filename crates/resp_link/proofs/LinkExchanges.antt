@@ -1,5 +1,5 @@
 -- A request, and then its replies.
-use Rattle.std.proofs.Common.{◌≡◌, ℕ, ◌<◌, List, [], ◌∷◌, ◌++◌, length, true, false, Bool, append-nil, sym, ap, ◌∙◌}
+use Rattle.std.proofs.Common.{◌≡◌, ℕ, ◌+◌, ◌-◌, ◌<◌, ◌≤◌, arith, List, [], ◌∷◌, ◌++◌, length, true, false, Bool, append-nil, sym, ap, ◌∙◌}
 use Rattle.std.proofs.Common.{refl, subst, Option, None, Some, Result, Ok, Err, inr}
 use Rattle.std.specs.Io.KnownBytes.{Consumes}
 use Rattle.resp_value.specs.declared.value.Value.{Value}
@@ -7,12 +7,14 @@ use Rattle.resp_errors.specs.declared.kinds.IoKind.{IoKind}
 use Rattle.resp_errors.specs.declared.kinds.FrameFault.{FrameFault}
 use Rattle.resp_errors.specs.declared.redis_error.RedisError.{RedisError}
 use Rattle.resp_errors.specs.declared.redis_error.RedisError.TheVariants.{Io}
-use Rattle.resp_parse.specs.Limited.{HasFault, Awaits}
+use Rattle.resp_parse.specs.Limited.{Awaits}
+use Rattle.resp_parse.specs.declared.limits.Limits.{Limits}
 use Rattle.resp_link.specs.Linking.{connection_of, Exchanges}
 use Rattle.resp_link.specs.Sink.{Sink, SendsAll}
-use Rattle.resp_command.specs.Taken.{Taken, took, met_fault, ended_early, pushes_in, replies_in, all, all_but_last}
-use Rattle.resp_command.proofs.Values.{reads_one, reads_both}
-use Rattle.resp_link.specs.Receiving.{Inflow, FollowsPush, StopsReceiving, Receives, CannotReceive, malformed}
+use Rattle.resp_command.specs.Taken.{Taken, took, met_fault, ended_early, Frame, Aside, aside_of, no_pushes, push_bytes}
+use Rattle.resp_command.specs.Taken.{FollowsPush, MeetsFault, replies_in, all, all_but_last}
+use Rattle.resp_command.proofs.Values.{reads_both}
+use Rattle.resp_link.specs.Receiving.{Inflow, room, Reads, StopsReceiving, Receives, CannotReceive, malformed}
 use Rattle.resp_link.specs.Receiving.{early_end, source_failed, out_of_memory, no_room}
 use Rattle.resp_link.proofs.Receiving.{needed-none, consumed-nothing}
 use Rattle.resp_command.specs.Call.{Call, needed}
@@ -20,7 +22,7 @@ use Rattle.resp_command.specs.Command.{Command}
 use Rattle.resp_command.specs.Packed.{packed}
 use Rattle.resp_command.specs.Connection as connection
 use Rattle.resp_command.specs.Connection.{Connection, SameKind, Moves, Bytes, Sent, ExchangeOf, Exchange, TookTooFew}
-use Rattle.resp_command.specs.Connection.{TookSome, BrokenMidway}
+use Rattle.resp_command.specs.Connection.{TookSome, BrokenMidway, SetsAside}
 
 -- ---- what was read before it stopped
 
@@ -28,39 +30,45 @@ module _ (n : ℕ) (i i' : Inflow) (e : RedisError) (r : CannotReceive n i i' e)
   abbrev incoming : List ℕ
   incoming = i.received ++ r.reads.arrived
 
-  taken_fault : length (replies_in r.values) < n → (f : FrameFault) → HasFault i.limits r.rest f
-      → Taken i.limits n incoming (met_fault f (pushes_in r.values))
+  room_left : room i' ≡ room i - push_bytes r.frames
+  room_left = let l = ap (λ (z : Limits). z.pushes) r.reads.limits in let s = r.reads.size in omega (arith, l, s)
+
+  taken_fault : length (replies_in r.frames) < n → (f : FrameFault) → MeetsFault i.limits (room i') r.rest f
+      → Taken i.limits (room i) n incoming (met_fault f (aside_of r.frames))
   unfolding Taken
   taken_fault few f bad = record {
-    values = r.values;
+    frames = r.frames;
     rest = r.rest;
     prefix = r.reads.prefix;
     few = few;
-    pushes_are = refl;
-    follows = bad;
+    aside_is = refl;
+    fits = r.reads.fits;
+    follows = subst (λ z. MeetsFault i.limits z r.rest f) room_left bad;
   }
 
-  taken_early : length (replies_in r.values) < n → Awaits i.limits r.rest
-      → Taken i.limits n incoming (ended_early (pushes_in r.values))
+  taken_early : length (replies_in r.frames) < n → Awaits i.limits r.rest
+      → Taken i.limits (room i) n incoming (ended_early (aside_of r.frames))
   unfolding Taken
   taken_early few incomplete = record {
-    values = r.values;
+    frames = r.frames;
     rest = r.rest;
     prefix = r.reads.prefix;
     few = few;
-    pushes_are = refl;
+    aside_is = refl;
+    fits = r.reads.fits;
     follows = incomplete;
   }
 
 taken_got : (n : ℕ) (i i' : Inflow) (replies : List Value) (r : Receives n i i' replies)
-    → Taken i.limits n (i.received ++ r.reads.arrived) (took replies (pushes_in r.values) i'.received)
+    → Taken i.limits (room i) n (i.received ++ r.reads.arrived) (took replies (aside_of r.frames) i'.received)
 unfolding Taken
 taken_got n i i' replies r = record {
-  values = r.values;
+  frames = r.frames;
   prefix = r.reads.prefix;
   ends = r.ends;
   replies_are = r.replies_are;
-  pushes_are = refl;
+  aside_is = refl;
+  fits = r.reads.fits;
 }
 
 -- ---- an exchange of a link
@@ -80,6 +88,10 @@ module _ (i i' : Inflow) (k k' : Sink) (b b' : Bool) where
     holds = sending.holds;
   }
 
+  set_aside : (n : ℕ) (frames : List Frame) (rest : List ℕ) → Reads n i i' frames rest
+      → SetsAside (connection_of i k b) (connection_of i' k' b') (aside_of frames)
+  set_aside n frames rest r = record { pushes = r.pushes; bytes = r.size }
+
   sent_whole : (q incoming left : List ℕ) → (sending : SendsAll k k' q (Ok tt))
       → Sent (record { incoming = incoming; left = left; sent = sending.gone }) (connection_of i' k' b') q
   sent_whole q incoming left sending = record { all = sending.part; flushed = sending.flushed }
@@ -96,11 +108,11 @@ unsent i k k' b q n kind answers sending =
         arrived = [];
         gone = sending.gone;
         moves = moves i i k k' b true [] (sym (append-nil i.came)) (consumed-nothing i.to_come) sending;
-        needed = needed-none i.limits n i.received;
+        needed = needed-none i.limits (room i) n i.received;
         of = connection.sink_failed (record {
           sent = sending.part;
           unread = record { received = refl; came = refl };
-          listed = refl;
+          listed = record { pushes = sym (append-nil i.pushes); bytes = omega arith };
           broken = refl;
           source = refl;
           counted = sending.failures;
@@ -123,11 +135,11 @@ replied i i' k k' b q n replies result answers sending r answer = record {
     needed = r.reads.needed;
     of = connection.replied (record {
       replies = replies;
-      pushes = pushes_in r.values;
+      aside = aside_of r.frames;
       enough = ap length r.replies_are ∙ r.ends.enough;
       sent = sent_whole i i' k k' b false q _ _ sending;
       takes = taken_got n i i' replies r;
-      listed = r.reads.pushes;
+      listed = set_aside i i' k k' b false n r.frames i'.received r.reads;
       usable = refl;
       no_failure = record { source = r.failures; sink = sending.failures };
       answer = answer;
@@ -147,66 +159,72 @@ module _ (i i' : Inflow) (k k' : Sink) (b : Bool) (q : List ℕ) (n : ℕ) (e : 
   abbrev new : Connection
   new = connection_of i' k' true
 
-  too_few : length (replies_in r.values) < n → Awaits i.limits r.rest → i'.received ≡ r.rest
-      → TookTooFew n bytes old new (pushes_in r.values)
+  too_few : length (replies_in r.frames) < n → Awaits i.limits r.rest → i'.received ≡ r.rest
+      → TookTooFew n bytes old new (aside_of r.frames)
   too_few few awaits left = record {
-    values = r.values;
+    frames = r.frames;
     taken = rw left r.reads.prefix;
     few = few;
-    pushes_are = refl;
+    aside_is = refl;
+    fits = r.reads.fits;
     incomplete = rw left awaits;
   }
 
   -- memory ran out once the request was sent
-  midway : TookSome bytes i.limits (pushes_in r.values) → BrokenMidway bytes old new q
+  midway : TookSome bytes i.limits (room i) (aside_of r.frames) → BrokenMidway bytes old new q
   midway takes = record {
-    pushes = pushes_in r.values;
+    aside = aside_of r.frames;
     sent = record { rest = []; whole = sym sending.part ∙ sym (append-nil sending.gone) };
     begun = λ none. sym sending.part ∙ none;
     takes = takes;
-    listed = r.reads.pushes;
+    listed = set_aside i i' k k' b true n r.frames r.rest r.reads;
     broken = refl;
   }
 
-  took_all : i'.received ≡ r.rest → TookSome bytes i.limits (pushes_in r.values)
-  took_all left = record { values = r.values; taken = rw left r.reads.prefix; listed = all refl }
+  took_all : i'.received ≡ r.rest → TookSome bytes i.limits (room i) (aside_of r.frames)
+  took_all left = record {
+    frames = r.frames;
+    taken = rw left r.reads.prefix;
+    listed = all refl;
+    fits = r.reads.fits;
+  }
 
-  took_but_last : FollowsPush i.limits r.rest i'.received → TookSome bytes i.limits (pushes_in r.values)
+  took_but_last : FollowsPush i.limits r.rest i'.received → TookSome bytes i.limits (room i) (aside_of r.frames)
   took_but_last p = record {
-    values = r.values ++ p.push ∷ [];
-    taken = reads_both i.limits bytes.incoming r.rest i'.received r.values (p.push ∷ []) r.reads.prefix
-        (reads_one i.limits r.rest i'.received p.push p.prefix);
-    listed = all_but_last r.values p.push refl p.is_push refl;
+    frames = r.frames ++ p.push ∷ [];
+    taken = reads_both i.limits bytes.incoming r.rest i'.received r.frames (p.push ∷ []) r.reads.prefix p.prefix;
+    listed = all_but_last r.frames p.push refl p.is_push refl;
+    fits = r.reads.fits;
   }
 
   missed : {A : Type 0} (answers : List Value → Type 0)
-      → StopsReceiving (length (replies_in r.values) < n) i i' r.rest e
+      → StopsReceiving (length (replies_in r.frames) < n) i i' r.rest e
       → ExchangeOf {A = A} bytes old new q n (Err e) answers
   missed answers (malformed f few is bad same) = connection.malformed (record {
     frame_fault = f;
-    pushes = pushes_in r.values;
+    aside = aside_of r.frames;
     sent = sent_whole i i' k k' b true q _ _ sending;
     takes = taken_fault n i i' e r few f bad;
-    listed = r.reads.pushes;
+    listed = set_aside i i' k k' b true n r.frames r.rest r.reads;
     broken = refl;
     no_failure = record { source = same; sink = sending.failures };
     answer = ap Err is;
   })
   missed answers (early_end few is incomplete end same) = connection.early_end (record {
-    pushes = pushes_in r.values;
+    aside = aside_of r.frames;
     sent = sent_whole i i' k k' b true q _ _ sending;
     takes = taken_early n i i' e r few incomplete;
     end = end;
-    listed = r.reads.pushes;
+    listed = set_aside i i' k k' b true n r.frames r.rest r.reads;
     broken = refl;
     no_failure = record { source = same; sink = sending.failures };
     answer = ap Err is;
   })
   missed answers (source_failed kind few is awaits left counted) = connection.source_failed (record {
-    pushes = pushes_in r.values;
+    aside = aside_of r.frames;
     sent = sent_whole i i' k k' b true q _ _ sending;
     takes = too_few few awaits left;
-    listed = r.reads.pushes;
+    listed = set_aside i i' k k' b true n r.frames r.rest r.reads;
     broken = refl;
     counted = counted;
     sink = sending.failures;

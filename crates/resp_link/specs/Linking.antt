@@ -16,6 +16,7 @@ connection_of inflow sink broken = record {
   unflushed = sink.unflushed;
   received = inflow.received;
   pushes = inflow.pushes;
+  push_bytes = inflow.push_bytes;
   broken = broken;
   limits = inflow.limits;
   read_size = read_size;

@@ -28,7 +28,7 @@ const KEPT: usize = 4096;
 ///
 /// A call writes its request whole and flushes, then takes the replies. The source is asked, for at
 /// most 4096 bytes a time, only while what was received is no reply yet; later bytes are kept for
-/// the next call.
+/// the next call. Pushes that come before a reply are set aside, up to the limit on their bytes.
 pub struct ByteLink<S, K> {
     alloc: Global,
     inbox: Inbox<S>,
@@ -173,6 +173,7 @@ impl<S: ReplySource, K: CommandSink> ByteLink<S, K> {
                 source,
                 parser,
                 pushes: Vec::new(alloc),
+                push_bytes: 0,
             },
             sink,
             broken: false,
@@ -201,13 +202,16 @@ impl<S: ReplySource, K: CommandSink> ByteLink<S, K> {
         self.inbox.pushes.as_slice()
     }
 
-    /// Hands out the pushes that were set aside, the oldest first. Takes no memory.
+    /// Hands out the pushes that were set aside, the oldest first, which leaves room for others up
+    /// to the limit on them. Takes no memory.
     pub fn take_pushes(&mut self) -> Vec<PushInfo>
         ensures pushes { result.items
             ≡ (⟦<ByteLink<S, K> as ConnectionLike>⟧.connection self.old).pushes }
         ensures left { ⟦<ByteLink<S, K> as ConnectionLike>⟧.connection self.new
-            ≡ record (⟦<ByteLink<S, K> as ConnectionLike>⟧.connection self.old) { pushes = [] } }
+            ≡ record (⟦<ByteLink<S, K> as ConnectionLike>⟧.connection self.old)
+                { pushes = []; push_bytes = 0 } }
     {
+        self.inbox.push_bytes = 0;
         mem::replace(&mut self.inbox.pushes, Vec::new(self.alloc))
     }
 
@@ -235,6 +239,7 @@ impl<S: ReplySource, K: CommandSink> ByteLink<S, K> {
             source,
             parser,
             pushes,
+            push_bytes: _,
         } = inbox;
         drop(parser);
         drop(pushes);

@@ -36,7 +36,7 @@ module _ (b : List ℕ) (old p : State) (s t : Source) (k : FilledAsNeeded b old
   Received-no_more new e = e ∙ k.more.received
 
   pub Parsed-taken : (new : State) (v : Value) → new.limits ≡ old.limits → new.counts.received ≡ p.counts.received → Takes (b ++ k.more.filled) new (Ok (Some v)) → Parsed b v old new s t
-  Parsed-taken new v d e w = record { filled = k.more.filled; source_gave = k.more.source_gave; received = Received-no_more new e; needed = rw d k.needed; value = w.0; rest = w.1; failures = k.more.failures }
+  Parsed-taken new v d e w = record { filled = k.more.filled; source_gave = k.more.source_gave; received = Received-no_more new e; needed = rw d k.needed; value = w.value; rest = w.rest; size = w.size; failures = k.more.failures }
 
   Failed-taken : (new : State) → new.limits ≡ old.limits → new.counts.received ≡ p.counts.received → FailedAfter new (b ++ k.more.filled) → Failed b k.more.filled old new s t
   Failed-taken new d e h = record { source_gave = k.more.source_gave; received = Received-no_more new e; needed = rw d k.needed; failed = h; failures = k.more.failures }

@@ -87,10 +87,10 @@ module _ {B : Type 0} (most count : ℕ) (buffer since : List ℕ) (consumed : �
     pub waits-spelled : least_bytes new ≤ least_bytes m + n → CountsTaken most new (drop (consumed + n) buffer) since (count + n)
     waits-spelled k = subst (λ x. CountsTaken most new x since (count + n)) (dropped n) (CountsTaken-waits most m new u since count n resumes (sym since-size) few waits same k)
 
-    pub waits-takes : (s : State) → s.limits ≡ limits_of new most → s.failed ≡ failed → s.since ≡ since → (b : List ℕ) → b ≡ since → Takes b s (Ok None)
-    waits-takes s l f k b e =
-        let here : Awaits (limits_of m most) since = record { few = few; incomplete = incomplete-from_waits m new u since resumes n waits } in
-        (rw (l ∙ ap (λ x. record { depth = x; bytes = most }) same) (subst (Awaits (limits_of m most)) (sym e) here), StandsAfter-from_since s b (f ∙ w) (e ∙ sym k))
+    pub waits-takes : {aside : ℕ} (s : State) → s.limits ≡ limits_of new most aside → s.failed ≡ failed → s.since ≡ since → (b : List ℕ) → b ≡ since → Takes b s (Ok None)
+    waits-takes {aside} s l f k b e =
+        let here : Awaits (limits_of m most aside) since = record { few = few; incomplete = incomplete-from_waits m new u since resumes n waits } in
+        (rw (l ∙ ap (λ x. record { depth = x; bytes = most; pushes = aside }) same) (subst (Awaits (limits_of m most aside)) (sym e) here), StandsAfter-from_since s b (f ∙ w) (e ∙ sym k))
 
   -- a value was read
   module _ (n : ℕ) (v : Value) (d : Completes m front new n v) (now : List ℕ) (now_is : now ≡ drop (consumed + n) buffer) where
@@ -112,13 +112,18 @@ module _ {B : Type 0} (most count : ℕ) (buffer since : List ℕ) (consumed : �
     pub value-spelled : CountsTaken most new (drop (consumed + n) buffer) now 0
     value-spelled = CountsTaken-fresh most new (drop (consumed + n) buffer) now d.fresh d.scanned (sym now_is)
 
-    pub value-takes : (s : State) → s.limits ≡ limits_of new most → s.failed ≡ failed → s.since ≡ now → s.unparsed ≡ drop (consumed + n) buffer → (b : List ℕ) → b ≡ since → Takes b s (Ok (Some v))
-    value-takes s l f k x b e =
-        let l' = limits_of m most in
-        let here : HasValue l' since v (drop n front ++ drop most since) = first-value l' since (drop n front) v (well_formed-from_reads m new front (take most since) resumes-front n v d) in (
-          rw (l ∙ ap (λ x. record { depth = x; bytes = most }) same) (subst (λ r. HasValue l' b v r) (rest ∙ sym x) (subst (λ y. HasValue l' y v (drop n front ++ drop most since)) (sym e) here)),
-          IsBetweenValues-from_same s (f ∙ w) (k ∙ now_is ∙ sym x),
-        )
+    pub value-takes : {aside : ℕ} (s : State) → s.limits ≡ limits_of new most aside → s.failed ≡ failed → s.since ≡ now → s.unparsed ≡ drop (consumed + n) buffer → s.value_len ≡ count + n → (b : List ℕ) → b ≡ since → Takes b s (Ok (Some v))
+    value-takes {aside} s l f k x z b e =
+        let l' = limits_of m most aside in
+        let here : HasValue l' since v (drop n front ++ drop most since) = first-value l' since (drop n front) v (well_formed-from_reads m new front (take most since) resumes-front n v d) in record {
+          value = rw (l ∙ ap (λ x. record { depth = x; bytes = most; pushes = aside }) same)
+              (subst (λ r. HasValue l' b v r) (rest ∙ sym x) (subst (λ y. HasValue l' y v (drop n front ++ drop most since)) (sym e) here));
+          rest = IsBetweenValues-from_same s (f ∙ w) (k ∙ now_is ∙ sym x);
+          size =
+              let all : length b ≡ count + length u = ap length e ∙ since-size in
+              let left : length s.unparsed ≡ length u - n = ap length (x ∙ sym (dropped n)) ∙ length-drop n u in
+              omega (arith, all, left, z, examined);
+        }
 
   -- no value can be read
   module _ (e : ReadError) (d : Runs {M = Unit {0}} m front new (Err e)) where
@@ -130,13 +135,13 @@ module _ {B : Type 0} (most count : ℕ) (buffer since : List ℕ) (consumed : �
         let most-looked : e'.examined + m.scanned ≤ t.examined + length u = (let z = p.0.most in omega (arith, z, u-size)) in
         Counted-stopped m new u c t e' failed (subst (λ y. Counted m y c failed) (sym u_is) k) w i (record { same = p.0.same; once = p.0.once; most = most-looked }, p.1) (drop consumed buffer)
 
-  pub stops-fault : (s : State) → s.limits ≡ limits_of new most → s.failed ≡ true → s.since ≡ since → (f : FrameFault) → Runs {M = Unit {0}} m front new (Err (record_fault.Fault f)) → (b : List ℕ) → b ≡ since → Takes b s (Err (form.Parse (parsing.Fault f)))
-  stops-fault s l k y f d b e =
-      let here : HasFault (limits_of m most) since f = within (malformed-from_runs m new front (take most since) resumes-front f d) in
-      (CannotTake.malformed f refl (rw (l ∙ ap (λ x. record { depth = x; bytes = most }) same) (subst (λ x. HasFault (limits_of m most) x f) (sym e) here)), FailedAfter-from_since s b k (e ∙ sym y))
+  pub stops-fault : {aside : ℕ} (s : State) → s.limits ≡ limits_of new most aside → s.failed ≡ true → s.since ≡ since → (f : FrameFault) → Runs {M = Unit {0}} m front new (Err (record_fault.Fault f)) → (b : List ℕ) → b ≡ since → Takes b s (Err (form.Parse (parsing.Fault f)))
+  stops-fault {aside} s l k y f d b e =
+      let here : HasFault (limits_of m most aside) since f = within (malformed-from_runs m new front (take most since) resumes-front f d) in
+      (CannotTake.malformed f refl (rw (l ∙ ap (λ x. record { depth = x; bytes = most; pushes = aside }) same) (subst (λ x. HasFault (limits_of m most aside) x f) (sym e) here)), FailedAfter-from_since s b k (e ∙ sym y))
 
-  pub stops-placed : (f : FrameFault) → Runs {M = Unit {0}} m front new (Err (record_fault.Fault f)) → Placed (limits_of new most) (Some (count + new.shown)) since true
-  stops-placed f d = rw same (record {
+  pub stops-placed : {aside : ℕ} (f : FrameFault) → Runs {M = Unit {0}} m front new (Err (record_fault.Fault f)) → Placed (limits_of new most aside) (Some (count + new.shown)) since true
+  stops-placed {aside} f d = rw same (record {
     works = λ z. absurd (let y : true ≡ false = z in cc);
     shows = within (shown-from_runs m new front (take most since) resumes-front f count d size);
   })
@@ -153,8 +158,8 @@ module _ {B : Type 0} (most count : ℕ) (buffer since : List ℕ) (consumed : �
         by_length [] z = absurd (z refl)
         by_length (c ∷ x) z = omega arith
 
-    passes : PassesSize (limits_of m most) since
-    passes = record {
+    passes : {aside : ℕ} → PassesSize (limits_of m most aside) since
+    passes {aside} = record {
       more = (let l : length later ≡ length since - most = ap length later-since ∙ length-drop most since in omega (arith, l, later-size));
       incomplete = incomplete-from_waits m new front (take most since) resumes-front n d;
     }
@@ -171,11 +176,11 @@ module _ {B : Type 0} (most count : ℕ) (buffer since : List ℕ) (consumed : �
         let now = Counted-taken m new u c t e failed n (omega (arith, l, u-size)) (omega (arith, l, s, a, b, u-size)) (subst (λ x. Counted m x c failed) (sym u_is) k) w i p in
         record { iterations = now.iterations; looks = now.looks; examined = now.examined; works = λ z. absurd (let y : true ≡ false = z in cc) }
 
-    pub long-placed : (e : RedisError) (offset : Option ℕ) → PassesLimit most e offset → Placed (limits_of new most) offset since true
-    long-placed e offset r = rw same (Placed-passes (limits_of m most) offset since e passes r)
+    pub long-placed : {aside : ℕ} (e : RedisError) (offset : Option ℕ) → PassesLimit most e offset → Placed (limits_of new most aside) offset since true
+    long-placed {aside} e offset r = rw same (Placed-passes (limits_of m most aside) offset since e passes r)
 
-    pub long-takes : (s : State) (e : RedisError) (offset : Option ℕ) → s.limits ≡ limits_of new most → s.failed ≡ true → s.since ≡ since → PassesLimit most e offset → (b : List ℕ) → b ≡ since → Takes b s (Err e)
-    long-takes s e offset l k y (PassesLimit.fault i j) b z =
-        let here : HasFault (limits_of m most) since TooLong = too_long refl passes in
-        (CannotTake.malformed TooLong i (rw (l ∙ ap (λ x. record { depth = x; bytes = most }) same) (subst (λ x. HasFault (limits_of m most) x TooLong) (sym z) here)), FailedAfter-from_since s b k (z ∙ sym y))
-    long-takes s e offset l k y (PassesLimit.out_of_memory i j) b z = (CannotTake.out_of_memory i, FailedAfter-from_since s b k (z ∙ sym y))
+    pub long-takes : {aside : ℕ} (s : State) (e : RedisError) (offset : Option ℕ) → s.limits ≡ limits_of new most aside → s.failed ≡ true → s.since ≡ since → PassesLimit most e offset → (b : List ℕ) → b ≡ since → Takes b s (Err e)
+    long-takes {aside} s e offset l k y (PassesLimit.fault i j) b z =
+        let here : HasFault (limits_of m most aside) since TooLong = too_long refl passes in
+        (CannotTake.malformed TooLong i (rw (l ∙ ap (λ x. record { depth = x; bytes = most; pushes = aside }) same) (subst (λ x. HasFault (limits_of m most aside) x TooLong) (sym z) here)), FailedAfter-from_since s b k (z ∙ sym y))
+    long-takes {aside} s e offset l k y (PassesLimit.out_of_memory i j) b z = (CannotTake.out_of_memory i, FailedAfter-from_since s b k (z ∙ sym y))

@@ -30,9 +30,15 @@ pub data CannotTake (l : Limits) (b : List ℕ) (e : RedisError) : Type 0 where
   malformed : (f : FrameFault) → e ≡ form.Parse (parsing.Fault f) → HasFault l b f → CannotTake l b e
   out_of_memory : e ≡ form.OutOfMemory → CannotTake l b e
 
+-- the value at the start was handed out, and its bytes were counted
+pub record HandsOut (b : List ℕ) (v : Value) (new : State) : Type 0 where
+  pub value : HasValue new.limits b v new.unparsed
+  pub rest : IsBetweenValues new
+  pub size : length b ≡ new.value_len + length new.unparsed
+
 -- the value at the start was taken; or it is incomplete; or the parser has failed
 abbrev pub Takes : List ℕ → State → Result (Option Value) RedisError → Type 0
-Takes b new (Ok (Some v)) = HasValue new.limits b v new.unparsed × IsBetweenValues new
+Takes b new (Ok (Some v)) = HandsOut b v new
 Takes b new (Ok None) = Awaits new.limits b × StandsAfter new b
 Takes b new (Err e) = CannotTake new.limits b e × FailedAfter new b
 
@@ -101,6 +107,7 @@ pub record Parsed (b : List ℕ) (v : Value) (old new : State) (s t : Source) : 
   pub needed : AsNeeded new.limits b filled
   pub value : HasValue new.limits (b ++ filled) v new.unparsed
   pub rest : IsBetweenValues new
+  pub size : length (b ++ filled) ≡ new.value_len + length new.unparsed
   pub failures : t.failures ≡ s.failures
 
 -- the parser has failed after b and what was filled; the source counted no failure

@@ -70,12 +70,12 @@ pub data PassesLimit (most : ℕ) (e : RedisError) (offset : Option ℕ) : Type 
   out_of_memory : e ≡ form.OutOfMemory → offset ≡ None → PassesLimit most e offset
 
 -- the limits that a parser keeps in its parts
-abbrev pub limits_of : {B : Type 0} → Machine B → ℕ → Limits
-limits_of m most = record { depth = m.depth; bytes = most }
+abbrev pub limits_of : {B : Type 0} → Machine B → ℕ → ℕ → Limits
+limits_of m most pushes = record { depth = m.depth; bytes = most; pushes = pushes }
 
 pub record Invariant {B M R : Type 0} (S : Stands B M) (p : Inside B M R) : Type 0 where
   pub consumed : p.consumed ≤ length p.buffer.items
-  pub limits : AreLimits (limits_of p.machine p.size_limit)
+  pub limits : AreLimits (limits_of p.machine p.size_limit p.push_limit)
   pub depth : length p.machine.open_aggregates ≤ p.machine.depth
   pub holds : Holds p.machine (drop p.consumed p.buffer.items) p.since p.failed
   pub counted : Counted p.machine (drop p.consumed p.buffer.items) p.counts p.failed
@@ -83,4 +83,4 @@ pub record Invariant {B M R : Type 0} (S : Stands B M) (p : Inside B M R) : Type
       CountsTaken p.size_limit p.machine (drop p.consumed p.buffer.items) p.since p.taken
   pub builds : p.failed ≡ false →
       S p.machine.builder p.machine.open_aggregates (progress_of p.machine.body)
-  pub placed : Placed (limits_of p.machine p.size_limit) p.fault_offset p.since p.failed
+  pub placed : Placed (limits_of p.machine p.size_limit p.push_limit) p.fault_offset p.since p.failed

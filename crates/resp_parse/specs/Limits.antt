@@ -20,9 +20,9 @@ pub record AreLimits (l : Limits) : Type 0 where
   pub depth : IsDepthLimit l.depth
   pub size : IsSizeLimit l.bytes
 
--- up to d levels, and the greatest limit on the size
+-- up to d levels, the greatest limit on the size, and as many bytes of pushes
 abbrev pub of_depth : ℕ → Limits
-of_depth d = record { depth = d; bytes = 2 ^ 63 - 1 }
+of_depth d = record { depth = d; bytes = 2 ^ 63 - 1; pushes = 2 ^ 63 - 1 }
 
 -- the limits where none are chosen
 abbrev pub usual : Limits

@@ -10,7 +10,8 @@ use Rattle.resp_parse.specs.declared.read_error.ReadError.{ReadError}
 use Rattle.resp_parse.specs.declared.read_error.ReadError.TheVariants.{Memory, Fault}
 
 -- the limits on what is read as a value; the bytes that are buffered and not yet parsed, and how
--- many of them were looked at; those since the last value that was handed out; whether the parser
+-- many of them were looked at; those since the last value that was handed out, and how many spelled
+-- that value; whether the parser
 -- has failed, and after how many of these bytes a fault showed, if one was answered; how many
 -- aggregates are open, of aggregates whose header was read and whose elements aren't all there; of
 -- the value in progress, how many values of a tree, those inside others too, and how many tokens of
@@ -20,6 +21,7 @@ pub record State : Type 0 where
   pub unparsed : List ℕ
   pub looked : ℕ
   pub since : List ℕ
+  pub value_len : ℕ
   pub failed : Bool
   pub fault_offset : Option ℕ
   pub open_aggregates : ℕ

@@ -37,8 +37,12 @@ pub(crate) struct Decoder<B: Builder> {
     consumed: usize,
     /// How many bytes may spell a value.
     size_limit: usize,
+    /// How many bytes of pushes a link sets aside.
+    push_limit: usize,
     /// How many bytes of the value in progress the machine took.
     taken: usize,
+    /// How many bytes spelled the value that was handed out last.
+    value_len: usize,
     machine: Machine<B>,
     failed: bool,
     /// How many bytes since the last value show the fault that was answered.
@@ -59,7 +63,9 @@ impl<B: Builder> Drop for Decoder<B> {
             buffer: _,
             consumed: _,
             size_limit: _,
+            push_limit: _,
             taken: _,
+            value_len: _,
             machine: _,
             failed: _,
             fault_offset: _,
@@ -78,10 +84,11 @@ impl<B: Builder> Model for Decoder<B> {
     ghost Value = { State };
 
     ghost view = { λ p. record {
-      limits = limits_of p.machine p.size_limit;
+      limits = limits_of p.machine p.size_limit p.push_limit;
       unparsed = drop p.consumed p.buffer.items;
       looked = p.machine.scanned;
       since = p.since;
+      value_len = p.value_len;
       failed = p.failed;
       fault_offset = p.fault_offset;
       open_aggregates = length p.machine.open_aggregates;
@@ -107,7 +114,9 @@ impl<B: Builder> Decoder<B> {
             buffer: Vec::new(alloc),
             consumed: 0,
             size_limit: limits.bytes,
+            push_limit: limits.pushes,
             taken: 0,
+            value_len: 0,
             machine: Machine::new(alloc, limits.depth),
             failed: false,
             fault_offset: None,
@@ -125,6 +134,7 @@ impl<B: Builder> Decoder<B> {
         Limits {
             depth: self.machine.depth,
             bytes: self.size_limit,
+            pushes: self.push_limit,
         }
     }
 
@@ -197,6 +207,7 @@ impl<B: Builder> Decoder<B> {
         match self.machine.read(alloc, bytes, &mut self.counts, out) {
             Ok((taken, true)) => {
                 self.consumed += taken;
+                self.value_len = self.taken + taken;
                 self.taken = 0;
                 self.since.restart(&self.buffer[self.consumed..]);
                 Ok(true)
@@ -240,6 +251,13 @@ impl<B: Builder> Decoder<B> {
             IfSome result (FaultShownAt self.now.limits b) }
     {
         self.fault_offset
+    }
+
+    /// How many bytes spelled the value that was handed out last; 0 before the first.
+    pub(crate) fn value_len(&self) -> usize
+        ensures size { result ≡ self.now.value_len }
+    {
+        self.value_len
     }
 
     /// How many bytes are held that weren't parsed. Between values, these are the bytes that follow

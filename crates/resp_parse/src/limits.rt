@@ -16,7 +16,7 @@ const MOST_DEPTH: usize = 1000;
 /// The greatest limit on the size, and the one where none is chosen.
 pub(crate) const LONGEST: usize = isize::MAX as usize;
 
-/// How deep and how long a value may be that is read.
+/// How deep and how long a value may be that is read, and how many bytes of pushes a link sets aside.
 ///
 /// A peer that goes on sending makes a parser hold the value in progress, in more memory than it
 /// has bytes: a null takes three bytes to send and as many to keep as a
@@ -29,16 +29,22 @@ pub struct Limits {
     /// How many bytes may spell a value: 1 to 2^63 - 1. A value that has one byte more is refused
     /// as [`FrameFault::TooLong`](resp_value::FrameFault), once that byte is there.
     pub bytes: usize,
+    /// How many bytes may spell the pushes that a link sets aside until they are taken. It refuses
+    /// the first push that takes it past them as
+    /// [`FrameFault::TooManyPushes`](resp_value::FrameFault), once that push is there; at 0 it
+    /// refuses every push. A parser sets none aside, and keeps the number for its link.
+    pub pushes: usize,
 }
 
 impl Default for Limits {
-    /// 100 levels, and 2^63 - 1 bytes.
+    /// 100 levels, 2^63 - 1 bytes, and as many of pushes.
     fn default() -> Limits
         ensures { result ≡ usual }
     {
         Limits {
             depth: USUAL_DEPTH,
             bytes: LONGEST,
+            pushes: LONGEST,
         }
     }
 }
@@ -66,9 +72,10 @@ impl Limits {
 }
 
 impl StructuralEq for Limits {
-    ghost structural = { λ a b h. let parts = both _ _ h in λ i. record {
-      depth = same_numbers a.depth b.depth parts.0 i;
-      bytes = same_numbers a.bytes b.bytes parts.1 i;
+    ghost structural = { λ a b h. let first = both _ _ h in let others = both _ _ first.1 in λ i. record {
+      depth = same_numbers a.depth b.depth first.0 i;
+      bytes = same_numbers a.bytes b.bytes others.0 i;
+      pushes = same_numbers a.pushes b.pushes others.1 i;
     } };
 }
 

@@ -12,7 +12,7 @@ ghost use Rattle.resp_parse.specs.Bounds.{Bounded, FedBy, OneCall, CallsWithin, 
 ghost use Rattle.resp_parse.specs.Counts.{nothing_done};
 
 use crate::decoder::{Decoder, failed_before};
-use crate::limits::{LONGEST, Limits};
+use crate::limits::Limits;
 use crate::reader_source::Reading;
 use crate::source::ReplySource;
 use crate::tree_builder::TreeBuilder;
@@ -87,6 +87,7 @@ impl Parser {
     /// let limits = Limits {
     ///     depth: 8,
     ///     bytes: 1_000_000,
+    ///     ..Limits::default()
     /// };
     /// let mut parser = Parser::with_limits(alloc, limits)?;
     /// ```
@@ -123,7 +124,7 @@ impl Parser {
     {
         let limits = Limits {
             depth: limit,
-            bytes: LONGEST,
+            ..Limits::default()
         };
         Parser::with_limits(alloc, limits)
     }
@@ -270,6 +271,13 @@ impl Parser {
             IfSome result (FaultShownAt self.now.limits b) }
     {
         self.decoder.fault_offset()
+    }
+
+    /// How many bytes spelled the value that was handed out last; 0 before the first.
+    pub fn value_len(&self) -> usize
+        ensures size { result ≡ self.now.value_len }
+    {
+        self.decoder.value_len()
     }
 
     /// How many bytes are held that weren't parsed. Between values, these are the bytes that follow

@@ -5,7 +5,7 @@ use Rattle.resp_value.specs.declared.value.Value.{Value}
 use Rattle.resp_errors.specs.declared.redis_error.RedisError.{RedisError}
 use Rattle.resp_errors.specs.declared.redis_error.RedisError.TheVariants.{OutOfMemory}
 use Rattle.resp_command.specs.Call.{Call, AnswersFrom}
-use Rattle.resp_command.specs.Connection.{Connection, SameKind, out_of_memory}
+use Rattle.resp_command.specs.Connection.{push_room, Connection, SameKind, out_of_memory}
 use Rattle.resp_command.proofs.OneTaking.{takes_one_thing}
 use Rattle.resp_command.proofs.Queries.{call_err, call_ok, nothing_done}
 use Rattle.resp_pipeline.specs.Outcome.{Outcome}
@@ -24,7 +24,7 @@ module _ {X : Type 0} (old new : Connection) (p : Plan) (Of : Value → X → Ty
   pub unsupported : old.pipelines ≡ false → PipelineQuery old new p Of (Err no_pipelining)
   unsupported alone = record {
     reads_only = pipeline_reads_only p;
-    takes_one = λ arrived. takes_one_thing old.limits (replies_needed p) (old.received ++ arrived);
+    takes_one = λ arrived. takes_one_thing old.limits (push_room old) (replies_needed p) (old.received ++ arrived);
     same = same_kind;
     unsupported = λ _. record { answer = refl; same = same };
     when_broken = λ t _. absurd (let k : true ≡ false = sym t ∙ alone in cc);
@@ -34,7 +34,7 @@ module _ {X : Type 0} (old new : Connection) (p : Plan) (Of : Value → X → Ty
   pub not_packed : old.pipelines ≡ true → PipelineQuery old new p Of (Err OutOfMemory)
   not_packed several = record {
     reads_only = pipeline_reads_only p;
-    takes_one = λ arrived. takes_one_thing old.limits (replies_needed p) (old.received ++ arrived);
+    takes_one = λ arrived. takes_one_thing old.limits (push_room old) (replies_needed p) (old.received ++ arrived);
     same = same_kind;
     unsupported = λ t. absurd (let k : true ≡ false = sym several ∙ t in cc);
     when_broken = λ _ _. inr (record { answer = refl; same = same });
@@ -62,7 +62,7 @@ module _ {X V : Type 0} (items : V → List Value) (old new : Connection) (p : P
       (Outcome p Of (Err e)) ⊥ e (λ replies k. k) (rw is at asked) in
       record {
         reads_only = pipeline_reads_only p;
-        takes_one = λ arrived. takes_one_thing old.limits (replies_needed p) (old.received ++ arrived);
+        takes_one = λ arrived. takes_one_thing old.limits (push_room old) (replies_needed p) (old.received ++ arrived);
         same = h.same;
         unsupported = λ t. absurd (let k : true ≡ false = sym several ∙ t in cc);
         when_broken = λ _ b. inl (call.when_broken b);
@@ -77,7 +77,7 @@ module _ {X V : Type 0} (items : V → List Value) (old new : Connection) (p : P
       (λ replies len all. subst (λ (vs : List Value). Outcome p Of r vs) all answer) (rw is at asked) in
       record {
         reads_only = pipeline_reads_only p;
-        takes_one = λ arrived. takes_one_thing old.limits (replies_needed p) (old.received ++ arrived);
+        takes_one = λ arrived. takes_one_thing old.limits (push_room old) (replies_needed p) (old.received ++ arrived);
         same = h.same;
         unsupported = λ t. absurd (let k : true ≡ false = sym several ∙ t in cc);
         when_broken = λ _ b. inl (call.when_broken b);

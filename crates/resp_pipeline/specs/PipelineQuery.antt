@@ -5,7 +5,7 @@ use Rattle.resp_errors.specs.declared.kinds.ErrorKind.TheVariants as kind
 use Rattle.resp_errors.specs.declared.redis_error.RedisError.{RedisError}
 use Rattle.resp_errors.specs.declared.redis_error.RedisError.TheVariants.{General, OutOfMemory}
 use Rattle.resp_command.specs.Call.{Refuses, broken_link}
-use Rattle.resp_command.specs.Connection.{Connection, SameKind, Exchange}
+use Rattle.resp_command.specs.Connection.{push_room, Connection, SameKind, Exchange}
 use Rattle.resp_pipeline.specs.Outcome.{Outcome}
 use Rattle.resp_pipeline.specs.Pipeline.{Plan, request, replies_needed}
 use Rattle.resp_pipeline.specs.PipelineLaw.{LawOfPipelines}
@@ -21,7 +21,7 @@ no_pipelining = General kind.Client (codes "This connection does not support pip
 pub record PipelineQuery {X : Type 0} (old new : Connection) (p : Plan)
     (of_value : Value → X → Type 0) (result : Result X RedisError) : Type 0 where
   pub reads_only : LawOfPipelines p
-  pub takes_one : (arrived : List ℕ) → TakesOneThing old.limits (replies_needed p) (old.received ++ arrived)
+  pub takes_one : (arrived : List ℕ) → TakesOneThing old.limits (push_room old) (replies_needed p) (old.received ++ arrived)
   pub same : SameKind old new
   pub unsupported : old.pipelines ≡ false → Refuses old new no_pipelining result
   -- memory may run out while the request is built

@@ -57,6 +57,7 @@ fn a_fault_shows_after_so_many_bytes(rt: HostRuntime) -> RedisResult<()> {
     let limits = Limits {
         depth: 8,
         bytes: 1_000_000,
+        ..Limits::default()
     };
     let mut parser = Parser::with_limits(alloc, limits)?;
     parser.feed(b":1\r\n$2\r\nabX")?;
@@ -147,6 +148,7 @@ fn nulls_without_end(rt: HostRuntime) {
     let limits = Limits {
         depth: 100,
         bytes: 1_000_000,
+        ..Limits::default()
     };
     let mut parser = Parser::with_limits(rt.alloc(), limits).expect(&rt, "limits");
     assert_eq!(rt; parser.limits(), limits);
@@ -173,6 +175,7 @@ fn whole_bytes(rt: HostRuntime) {
     let usual = Limits {
         depth: 100,
         bytes: 9_223_372_036_854_775_807,
+        pushes: 9_223_372_036_854_775_807,
     };
     assert!(rt; Limits::default() == usual && Parser::new(rt.alloc()).limits() == usual);
 }

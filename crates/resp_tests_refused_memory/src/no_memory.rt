@@ -253,7 +253,11 @@ fn forms_of_replies(rt: HostRuntime) {
 }
 
 /// Limits below the usual ones.
-const LIMITS: Limits = Limits { depth: 3, bytes: 9 };
+const LIMITS: Limits = Limits {
+    depth: 3,
+    bytes: 9,
+    pushes: 9,
+};
 
 #[test]
 fn new_parsers(rt: HostRuntime) {

@@ -63,6 +63,7 @@ pub fn limits(alloc: Global, row: &Row) -> RedisResult<String> {
             let limits = Limits {
                 depth: number_of(depth.as_slice())? as usize,
                 bytes: number_of(size.as_slice())? as usize,
+                ..Limits::default()
             };
             match Parser::with_limits(alloc, limits) {
                 Ok(_) => shown_however(alloc, limits, bytes.as_slice()),

@@ -27,6 +27,22 @@ fn pushes_are_taken_once(rt: HostRuntime) {
     );
 }
 
+#[test]
+fn taken_pushes_leave_room_for_others(rt: HostRuntime) {
+    let bytes = Cursor::new(b">1\r\n+x\r\n:2\r\n>1\r\n+x\r\n:3\r\n>1\r\n+x\r\n:4\r\n".as_slice());
+    let limits = Limits {
+        pushes: 8,
+        ..Limits::default()
+    };
+    let made = ByteLink::with_limits(rt.alloc(), bytes, Vec::new(rt.alloc()), limits);
+    let mut link = made.expect(&rt, "limits");
+    assert_ping(&rt, &mut link, "2");
+    assert!(&rt; link.take_pushes().len() == 1);
+    assert_ping(&rt, &mut link, "3");
+    assert_ping(&rt, &mut link, "TooManyPushes");
+    assert!(&rt; link.is_broken() && link.take_pushes().len() == 1);
+}
+
 /// Whether the push is of kind `x` and has no values.
 fn is_x(push: &PushInfo) -> bool {
     matches!(&push.kind, PushKind::Other(name) if name.eq_str("x")) && push.payload.is_empty()
@@ -69,7 +85,7 @@ fn limits_between(rt: &impl Test, depth: usize) -> Made {
 #[test]
 fn limits_on_levels(rt: HostRuntime) {
     let refused = "depth limit must be 1 to 1000 - InvalidClientConfig";
-    let one = "(1, Limits { depth: 1, bytes: 9223372036854775807 })";
+    let one = "(1, Limits { depth: 1, bytes: 9223372036854775807, pushes: 9223372036854775807 })";
     for (depth, wanted) in [(0, refused), (1, one), (1001, refused)] {
         assert_answer(&rt, parser_limits(&rt, depth), wanted);
         assert_answer(&rt, link_limits(&rt, depth), wanted);

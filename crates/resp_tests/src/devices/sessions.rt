@@ -188,7 +188,11 @@ fn assert_limited(
     wanted: &str,
 ) {
     let devices = (device(rt, (incoming, 5, 0, None)), device(rt, TAKES_ALL));
-    let limits = Limits { depth, bytes };
+    let limits = Limits {
+        depth,
+        bytes,
+        ..Limits::default()
+    };
     let text = session_text(rt.alloc(), limits, devices, &[Call::Ping, Call::Ping]);
     assert_eq!(rt;
         text.split_once(" []").unwrap_or((text.as_str(), "")).0,
@@ -205,6 +209,36 @@ fn links_of_limits(rt: HostRuntime) {
         (b"", 1, 0) => "size limit must be 1 to 2^63 - 1 bytes - InvalidClientConfig",
         (b"", 0, 1) => "depth limit must be 1 to 1000 - InvalidClientConfig",
         (b"", 1001, 1) => "depth limit must be 1 to 1000 - InvalidClientConfig",
+    }
+}
+
+/// A link that sets so many bytes of pushes aside, over these bytes, answers a call for one reply
+/// and a call for two so, and then shows this.
+fn assert_push_limit(rt: &impl Test, (incoming, pushes): (&'static [u8], usize), wanted: &str) {
+    let devices = (device(rt, (incoming, 3, 0, None)), device(rt, TAKES_ALL));
+    let limits = Limits {
+        pushes,
+        ..Limits::default()
+    };
+    let calls = [Call::Ping, Call::Several(b"x", 0, 2)];
+    let text = session_text(rt.alloc(), limits, devices, &calls);
+    assert!(rt; text.starts_with(wanted));
+}
+
+#[test]
+fn pushes_are_set_aside_up_to_a_limit(rt: HostRuntime) {
+    each! { assert_push_limit, rt;
+        // A push of eight bytes before, between and after the replies.
+        (b">1\r\n+a\r\n:5\r\n:6\r\n:7\r\n", 8) => "5; [int(6), int(7)]; usable [PushInfo",
+        (b">1\r\n+a\r\n:5\r\n:6\r\n:7\r\n", 7) => "TooManyPushes; link is broken - Io; broken []",
+        (b":5\r\n:6\r\n>1\r\n+a\r\n:7\r\n", 8) => "5; [int(6), int(7)]; usable [PushInfo",
+        (b":5\r\n:6\r\n>1\r\n+a\r\n:7\r\n", 7) => "5; TooManyPushes; broken []",
+        (b":5\r\n:6\r\n:7\r\n>1\r\n+a\r\n", 0) => "5; [int(6), int(7)]; usable []",
+        // Two pushes together, and one without elements, which takes four bytes.
+        (b">1\r\n+a\r\n:5\r\n>1\r\n+b\r\n:6\r\n:7\r\n", 16) => "5; [int(6), int(7)]; usable [PushInfo",
+        (b">1\r\n+a\r\n:5\r\n>1\r\n+b\r\n:6\r\n:7\r\n", 15) => "5; TooManyPushes; broken [PushInfo",
+        (b">0\r\n:5\r\n:6\r\n:7\r\n", 4) => "5; [int(6), int(7)]; usable [PushInfo",
+        (b">0\r\n:5\r\n:6\r\n:7\r\n", 0) => "TooManyPushes; link is broken - Io; broken []",
     }
 }
 

@@ -1,7 +1,7 @@
 use Rattle.std.proofs.Common.{rules, refl, ◌≡◌}
 use Rattle.std.proofs.lemmas.Result.{err_from_is_err_and}
 use Rattle.resp_command.proofs.Values.{as_push-Push}
-use Rattle.resp_link.proofs.Receiving.{only_pushes_none, only_pushes_more, received_one, received_none, no_room}
+use Rattle.resp_link.proofs.Receiving.{only_pushes_none, only_pushes_more, received_one, received_none, not_aside}
 use Rattle.resp_link.proofs.Receiving.{stands_since}
 use Rattle.resp_link.proofs.inbox.Inbox.next_reply.Goals as goal
 
@@ -13,7 +13,7 @@ returns-in_err-reply-clause-reply g c =
     let source = g.S.ReplySource.source in
     let at = c.loop-kind.self in
     let p = err_from_is_err_and c.from_residual.result c.from_residual.ensures.1 in
-    rw (p.1, p.2) (received_none _ (source at.source) _ at.parser c.parse_from.new.self _ _ c.loop-kind.invariant.only
+    rw (p.1, p.2) (received_none _ (source at.source) _ at.parser c.parse_from.new.self _ _ _ c.loop-kind.invariant.only
     c.parse_from.ensures.limits (rw c.in_err-reply.was at c.parse_from.ensures.parses at.parser.since
     (stands_since at.parser c.loop-kind.invariant.rest)))
 

@@ -10,8 +10,9 @@ invariant-loop-kind g l =
     record {
       rest : IsBetweenValues l.self.parser;
       only : OnlyPushes
-          (inflow_of l.initial.self.parser (source l.initial.self.source) l.initial.self.pushes.items)
-          (inflow_of l.self.parser (source l.self.source) l.self.pushes.items);
+          (inflow_of l.initial.self.parser (source l.initial.self.source) l.initial.self.pushes.items
+          l.initial.self.push_bytes)
+          (inflow_of l.self.parser (source l.self.source) l.self.pushes.items l.self.push_bytes);
     }
 
 abbrev pub decreases-loop-kind : goal.decreases-loop-kind

@@ -42,7 +42,7 @@ invariant_of-self g c =
       counted = value-counted c.self.inside.size_limit c.self.inside.taken c.self.inside.buffer.items c.self.inside.since c.self.inside.consumed c.self.inside.failed c.self.inside.machine c.read.new.self c.self.invariant.consumed c.self.invariant.holds (ap (λ (s : State). s.failed) c.self.view_is ∙ c.requires.works) (c.self.invariant.taken (ap (λ (s : State). s.failed) c.self.view_is ∙ c.requires.works)) u c.split_at.result.0.now c.split_at.result.1.now f front later c.in-Ok-default-true.ensures.limit c.in-Ok-default-true.taken v d c.restart.new.self (c.restart.ensures ∙ x) c.self.inside.counts c.call.new.self c.read.new.counts c.self.invariant.counted c.call.ensures c.in-Ok-default-true.ensures.cost;
       taken = λ _. value-spelled c.self.inside.size_limit c.self.inside.taken c.self.inside.buffer.items c.self.inside.since c.self.inside.consumed c.self.inside.failed c.self.inside.machine c.read.new.self c.self.invariant.consumed c.self.invariant.holds (ap (λ (s : State). s.failed) c.self.view_is ∙ c.requires.works) (c.self.invariant.taken (ap (λ (s : State). s.failed) c.self.view_is ∙ c.requires.works)) u c.split_at.result.0.now c.split_at.result.1.now f front later c.in-Ok-default-true.ensures.limit c.in-Ok-default-true.taken v d c.restart.new.self (c.restart.ensures ∙ x);
       builds = λ _. c.in-Ok-default-true.ensures.builds;
-      placed = Placed-working (limits_of c.self.inside.machine c.self.inside.size_limit) (limits_of c.read.new.self c.self.inside.size_limit) c.self.inside.fault_offset c.self.inside.since c.restart.new.self c.self.inside.failed (ap (λ (s : State). s.failed) c.self.view_is ∙ c.requires.works) c.self.invariant.placed;
+      placed = Placed-working (limits_of c.self.inside.machine c.self.inside.size_limit c.self.inside.push_limit) (limits_of c.read.new.self c.self.inside.size_limit c.self.inside.push_limit) c.self.inside.fault_offset c.self.inside.since c.restart.new.self c.self.inside.failed (ap (λ (s : State). s.failed) c.self.view_is ∙ c.requires.works) c.self.invariant.placed;
     }
 
 pub returns-in-Ok-default-true-clause-takes : goal.returns-in-Ok-default-true-clause-takes
@@ -56,7 +56,7 @@ returns-in-Ok-default-true-clause-takes g c = λ b h.
     let d = got.1.1 in
     let at : ℕ = c.self.inside.consumed + c.in-Ok-default-true.taken in
     let x : take (length c.deref-in-Ok-default-true.result.now - at) (drop at c.deref-in-Ok-default-true.result.now) ≡ drop at c.self.inside.buffer.items = grind (arith, common_steps, c.deref-in-Ok-default-true.ensures.value) in
-    (v, (got.1.0, value-takes c.self.inside.size_limit c.self.inside.taken c.self.inside.buffer.items c.self.inside.since c.self.inside.consumed c.self.inside.failed c.self.inside.machine c.read.new.self c.self.invariant.consumed c.self.invariant.holds (ap (λ (s : State). s.failed) c.self.view_is ∙ c.requires.works) (c.self.invariant.taken (ap (λ (s : State). s.failed) c.self.view_is ∙ c.requires.works)) u c.split_at.result.0.now c.split_at.result.1.now f front later c.in-Ok-default-true.ensures.limit c.in-Ok-default-true.taken v d c.restart.new.self (c.restart.ensures ∙ x) _ refl refl refl refl b (StandsAfter-since c.args.self.now b h ∙ sym (ap (λ (s : State). s.since) c.self.view_is))))
+    (v, (got.1.0, value-takes c.self.inside.size_limit c.self.inside.taken c.self.inside.buffer.items c.self.inside.since c.self.inside.consumed c.self.inside.failed c.self.inside.machine c.read.new.self c.self.invariant.consumed c.self.invariant.holds (ap (λ (s : State). s.failed) c.self.view_is ∙ c.requires.works) (c.self.invariant.taken (ap (λ (s : State). s.failed) c.self.view_is ∙ c.requires.works)) u c.split_at.result.0.now c.split_at.result.1.now f front later c.in-Ok-default-true.ensures.limit c.in-Ok-default-true.taken v d c.restart.new.self (c.restart.ensures ∙ x) _ refl refl refl refl refl b (StandsAfter-since c.args.self.now b h ∙ sym (ap (λ (s : State). s.since) c.self.view_is))))
 
 pub returns-in-Ok-default-true-clause-bounds : goal.returns-in-Ok-default-true-clause-bounds
 returns-in-Ok-default-true-clause-bounds g c = let k = invariant_of-self g c in Bounded-from_kept c.self.inside.size_limit c.read.new.self (drop (c.self.inside.consumed + c.in-Ok-default-true.taken) c.self.inside.buffer.items) c.restart.new.self c.self.inside.failed c.read.new.counts 0 k.depth k.holds k.counted k.taken _ _ (λ w. g.met.B.Builder.paid_for _ _ _ (k.builds w))
@@ -116,7 +116,7 @@ invariant_of-self-in-Ok-default-false g c =
       counted = waits-counted c.self.inside.size_limit c.self.inside.taken c.self.inside.buffer.items c.self.inside.since c.self.inside.consumed c.self.inside.failed c.self.inside.machine c.read.new.self c.self.invariant.consumed c.self.invariant.holds (ap (λ (s : State). s.failed) c.self.view_is ∙ c.requires.works) (c.self.invariant.taken (ap (λ (s : State). s.failed) c.self.view_is ∙ c.requires.works)) u c.split_at.result.0.now c.split_at.result.1.now f front later c.in-Ok-default-false.ensures.limit c.in-Ok-default-false.taken none d c.self.inside.counts c.call.new.self c.read.new.counts c.self.invariant.counted c.call.ensures c.in-Ok-default-false.ensures.cost;
       taken = λ _. waits-spelled c.self.inside.size_limit c.self.inside.taken c.self.inside.buffer.items c.self.inside.since c.self.inside.consumed c.self.inside.failed c.self.inside.machine c.read.new.self c.self.invariant.consumed c.self.invariant.holds (ap (λ (s : State). s.failed) c.self.view_is ∙ c.requires.works) (c.self.invariant.taken (ap (λ (s : State). s.failed) c.self.view_is ∙ c.requires.works)) u c.split_at.result.0.now c.split_at.result.1.now f front later c.in-Ok-default-false.ensures.limit c.in-Ok-default-false.taken none d c.in-Ok-default-false.ensures.built_within;
       builds = λ _. c.in-Ok-default-false.ensures.builds;
-      placed = Placed-working (limits_of c.self.inside.machine c.self.inside.size_limit) (limits_of c.read.new.self c.self.inside.size_limit) c.self.inside.fault_offset c.self.inside.since c.self.inside.since c.self.inside.failed (ap (λ (s : State). s.failed) c.self.view_is ∙ c.requires.works) c.self.invariant.placed;
+      placed = Placed-working (limits_of c.self.inside.machine c.self.inside.size_limit c.self.inside.push_limit) (limits_of c.read.new.self c.self.inside.size_limit c.self.inside.push_limit) c.self.inside.fault_offset c.self.inside.since c.self.inside.since c.self.inside.failed (ap (λ (s : State). s.failed) c.self.view_is ∙ c.requires.works) c.self.invariant.placed;
     }
 
 pub returns-else-passes-clause-takes : goal.returns-else-passes-clause-takes
@@ -185,7 +185,7 @@ invariant_of-self-in-Err-Memory g c =
       counted = stops-counted c.self.inside.size_limit c.self.inside.taken c.self.inside.buffer.items c.self.inside.since c.self.inside.consumed c.self.inside.failed c.self.inside.machine c.read.new.self c.self.invariant.consumed c.self.invariant.holds (ap (λ (s : State). s.failed) c.self.view_is ∙ c.requires.works) (c.self.invariant.taken (ap (λ (s : State). s.failed) c.self.view_is ∙ c.requires.works)) u c.split_at.result.0.now c.split_at.result.1.now f front later c.in-Err-Memory.ensures.limit record_fault.Memory d c.self.inside.counts c.call.new.self c.read.new.counts c.self.invariant.counted c.call.ensures c.in-Err-Memory.ensures.cost;
       taken = λ w. absurd (let z : true ≡ false = w in cc);
       builds = λ w. absurd (let z : true ≡ false = w in cc);
-      placed = Placed-failing (limits_of c.self.inside.machine c.self.inside.size_limit) (limits_of c.read.new.self c.self.inside.size_limit) c.self.inside.fault_offset c.self.inside.since c.self.inside.failed (ap (λ (k : ℕ). record { depth = k; bytes = c.self.inside.size_limit }) c.in-Err-Memory.ensures.limit) c.self.invariant.placed;
+      placed = Placed-failing (limits_of c.self.inside.machine c.self.inside.size_limit c.self.inside.push_limit) (limits_of c.read.new.self c.self.inside.size_limit c.self.inside.push_limit) c.self.inside.fault_offset c.self.inside.since c.self.inside.failed (ap (λ (k : ℕ). record { depth = k; bytes = c.self.inside.size_limit; pushes = c.self.inside.push_limit }) c.in-Err-Memory.ensures.limit) c.self.invariant.placed;
     }
 
 pub returns-in-Err-Memory-clause-takes : goal.returns-in-Err-Memory-clause-takes
