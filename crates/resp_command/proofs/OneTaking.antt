@@ -290,11 +290,12 @@ some_taking l (suc size) room (suc n) b few = next (some_taking l size) (found l
         elim (one_or_other (frame_of g)) [
           | push is ↦ elim (within_room (push_bytes (frame_of g ∷ [])) room) [
             | inl fits ↦ (let t = deeper (room - push_bytes (frame_of g ∷ [])) (suc n) rest (omega (arith, smaller, few)) in
-                value_before l room (suc n) (suc n) b rest v g (rw is refl) (omega arith) fits t.0 t.1)
+                value_before l room (suc n) (suc n) b rest v g (let none = ap length is in omega (arith, none)) (omega arith)
+                fits t.0 t.1)
             | inr passes ↦ (met_fault TooManyPushes no_pushes, nothing_but _ (too_many_pushes refl (record {
                 later = rest;
                 follows = record { push = frame_of g; prefix = reads_one l b rest v g; is_push = is };
-                passes = passes;
+                passes = omega (arith, passes);
               })))
           ]
           | reply one none ↦ (let t = deeper (room - push_bytes (frame_of g ∷ [])) n rest (omega (arith, smaller, few)) in

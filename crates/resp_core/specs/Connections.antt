@@ -4,7 +4,7 @@ pub use Rattle.resp_command.specs.Call.{Refuses, needed}
 pub use Rattle.resp_command.specs.Command.{Command, new_command}
 pub use Rattle.resp_command.specs.CommandQuery.{CommandQuery}
 pub use Rattle.resp_command.specs.Connection.{Connection, Bytes, Exchange, ExchangeOf}
-pub use Rattle.resp_command.specs.Connection.{KnownExchange, Moves, idle}
+pub use Rattle.resp_command.specs.Connection.{KnownExchange, Moves, SetsAside, idle, push_room}
 pub use Rattle.resp_command.specs.Connection.{replied, malformed, early_end, sink_failed}
 pub use Rattle.resp_command.specs.Connection.{source_failed, out_of_memory}
 pub use Rattle.resp_command.specs.Cursors.{HoldsCursor, with_cursor, with_cursor_arg}
@@ -20,7 +20,8 @@ pub use Rattle.resp_command.specs.Scans.{Requests, ScanState, Starts}
 pub use Rattle.resp_command.specs.ShownArgs.{args_left, referent, shown_args}
 pub use Rattle.resp_command.specs.Taken.{ArrivedAsNeeded, IsShort, Taken, Taking, TakesOneThing}
 pub use Rattle.resp_command.specs.Taken.{took, met_fault, ended_early, PrefixReads, ListsPushes}
-pub use Rattle.resp_command.specs.Taken.{pushes_in, replies_in}
+pub use Rattle.resp_command.specs.Taken.{Aside, Frame, MeetsFault, PushPasses, aside_of}
+pub use Rattle.resp_command.specs.Taken.{push_bytes, pushes_in, replies_in, values_of}
 pub use Rattle.resp_link.specs.Linking.{connection_of}
 pub use Rattle.resp_link.specs.Receiving.{Inflow, inflow_of, unread}
 pub use Rattle.resp_link.specs.Sink.{SendsAll, Sink, fresh_sink}

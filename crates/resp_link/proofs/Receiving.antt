@@ -306,7 +306,7 @@ module _ (old : Inflow) (s t : Source) (was new : State) (p p' : List PushInfo) 
 
   -- a push
   pub only_pushes_more : (info : PushInfo) → as_push v ≡ Some info
-      → receiving.SetsAside info new.value_len new.limits p p' n n' → OnlyPushes old (inflow_of new t p' n')
+      → receiving.SetsAside info new.value_len new.limits.pushes p p' n n' → OnlyPushes old (inflow_of new t p' n')
   only_pushes_more info push aside = record {
     frames = so_far.frames ++ frame ∷ [];
     reads = with-value (aside.listed ∙ rw push refl) (aside.counted ∙ ap (λ z. n + z) (sym (push_size info push)))
@@ -373,7 +373,7 @@ module _ (old : Inflow) (s t : Source) (was new : State) (p : List PushInfo) (n 
         stops = stops;
       })
 
-  pub not_aside : (e : RedisError) → CannotSetAside new.value_len new.limits n e
+  pub not_aside : (e : RedisError) → CannotSetAside new.value_len new.limits.pushes n e
       → CannotReceive 1 old (inflow_of new t p n) e
   not_aside e (receiving.too_many is passes) = stopped e (receiving.malformed TooManyPushes (omega arith) is
       (too_many_pushes refl (record {

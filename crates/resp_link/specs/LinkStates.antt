@@ -9,7 +9,7 @@ use Rattle.resp_link.specs.declared.inbox.Inbox.{Inbox}
 use Rattle.resp_link.specs.declared.link.ByteLink.{ByteLink}
 
 abbrev pub inflow_at : {S : Type 0} → (S → Source) → Inbox S → Inflow
-inflow_at source inbox = inflow_of inbox.parser (source inbox.source) inbox.pushes.items inbox.push_bytes
+inflow_at source inbox = inflow_of inbox.parser (source inbox.source) inbox.pushes.list.items inbox.pushes.bytes
 
 abbrev pub connection_at : {S K : Type 0} → (S → Source) → (K → Sink) → ByteLink S K → Connection
 connection_at source sink link =

@@ -116,14 +116,13 @@ pub record Skips (n : ℕ) (old new : Inflow) : Type 0 where
   pub received : Receives n old new replies
 
 -- a push was set aside, which this many bytes spelled
-pub record SetsAside (push : PushInfo) (size : ℕ) (limits : Limits) (old new : List PushInfo) (before after : ℕ) :
-    Type 0 where
-  pub fits : size ≤ limits.pushes - before
+pub record SetsAside (push : PushInfo) (size limit : ℕ) (old new : List PushInfo) (before after : ℕ) : Type 0 where
+  pub fits : size ≤ limit - before
   pub listed : new ≡ old ++ push ∷ []
   pub counted : after ≡ before + size
 
 -- why it wasn't: it would pass the limit, or memory ran out
-pub data CannotSetAside (size : ℕ) (limits : Limits) (before : ℕ) (e : RedisError) : Type 0 where
-  too_many : e ≡ form.Parse (parsing.Fault TooManyPushes) → limits.pushes - before < size →
-      CannotSetAside size limits before e
-  out_of_room : e ≡ form.OutOfMemory → CannotSetAside size limits before e
+pub data CannotSetAside (size limit before : ℕ) (e : RedisError) : Type 0 where
+  too_many : e ≡ form.Parse (parsing.Fault TooManyPushes) → limit - before < size →
+      CannotSetAside size limit before e
+  out_of_room : e ≡ form.OutOfMemory → CannotSetAside size limit before e

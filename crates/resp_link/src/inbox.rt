@@ -1,12 +1,13 @@
 //! What comes in over a connection: replies, and pushes between them.
 
-ghost use Rattle.std.specs.Prelude.{◌≡◌, ◌∷◌, [], ◌+◌, OnOk, OnErr, MatchResult};
+ghost use Rattle.std.specs.Prelude.{◌≡◌, ◌∷◌, [], ◌+◌, OnOk, MatchResult};
 ghost use Rattle.resp_parse.specs.State.{IsBetweenValues};
 ghost use Rattle.resp_link.specs.LinkStates.{inflow_at};
-ghost use Rattle.resp_link.specs.Receiving.{Receives, CannotReceive, Skips, SetsAside, CannotSetAside};
+ghost use Rattle.resp_link.specs.Receiving.{Receives, CannotReceive, Skips};
 
+use crate::pushes::Pushes;
 use resp_parse::{Parser, ReplySource};
-use resp_value::{FrameFault, ParsingError, PushInfo, RedisError, RedisResult, Value};
+use resp_value::{PushInfo, RedisResult, Value};
 use std::alloc::Global;
 
 /// A source of replies, the parser of its bytes, and the pushes that were set aside.
@@ -14,9 +15,7 @@ use std::alloc::Global;
 pub(crate) struct Inbox<S> {
     pub(crate) source: S,
     pub(crate) parser: Parser,
-    pub(crate) pushes: Vec<PushInfo>,
-    /// How many bytes spelled the pushes.
-    pub(crate) push_bytes: usize,
+    pub(crate) pushes: Pushes,
 }
 
 impl<S: ReplySource> Inbox<S> {
@@ -30,32 +29,13 @@ impl<S: ReplySource> Inbox<S> {
     {
         loop {
             match self.parser.parse_from(&mut self.source)? {
-                Value::Push { kind, payload } => self.set_aside(PushInfo { kind, payload })?,
+                Value::Push { kind, payload } => {
+                    let (size, limit) = (self.parser.value_len(), self.parser.limits().pushes);
+                    self.pushes.set_aside(PushInfo { kind, payload }, size, limit)?;
+                }
                 reply => return Ok(reply),
             }
         }
-    }
-
-    /// Sets aside the push that was just read.
-    fn set_aside(&mut self, push: PushInfo) -> RedisResult<()>
-        ensures aside { MatchResult result
-            (λ _. SetsAside push self.old.parser.value_len self.old.parser.limits
-                self.old.pushes.items self.new.pushes.items self.old.push_bytes self.new.push_bytes)
-            (λ e. CannotSetAside self.old.parser.value_len self.old.parser.limits
-                self.old.push_bytes e) }
-        ensures listed { OnErr result (self.new.pushes.items ≡ self.old.pushes.items) }
-        ensures counted { OnErr result (self.new.push_bytes ≡ self.old.push_bytes) }
-        ensures parser { self.new.parser ≡ self.old.parser }
-        ensures source { self.new.source ≡ self.old.source }
-    {
-        let size = self.parser.value_len();
-        let room = self.parser.limits().pushes.saturating_sub(self.push_bytes);
-        if size > room {
-            return Err(RedisError::from(ParsingError::from(FrameFault::TooManyPushes)));
-        }
-        self.pushes.push(push)?;
-        self.push_bytes += size;
-        Ok(())
     }
 
     /// Takes n replies and drops them.

@@ -12,6 +12,7 @@ ghost use Rattle.resp_link.specs.Receiving.{unread};
 ghost use Rattle.resp_link.specs.Linking.{BetweenUnless, Exchanges, connection_of};
 
 use crate::inbox::Inbox;
+use crate::pushes::Pushes;
 use crate::sink::{CommandSink, send_all};
 use crate::writer_sink::Writing;
 use resp_command::{Cmd, ConnectionLike};
@@ -172,8 +173,7 @@ impl<S: ReplySource, K: CommandSink> ByteLink<S, K> {
             inbox: Inbox {
                 source,
                 parser,
-                pushes: Vec::new(alloc),
-                push_bytes: 0,
+                pushes: Pushes::new(alloc),
             },
             sink,
             broken: false,
@@ -199,7 +199,7 @@ impl<S: ReplySource, K: CommandSink> ByteLink<S, K> {
     pub fn pushes(&self) -> &[PushInfo]
         ensures { result.now ≡ (⟦<ByteLink<S, K> as ConnectionLike>⟧.connection self.now).pushes }
     {
-        self.inbox.pushes.as_slice()
+        self.inbox.pushes.list.as_slice()
     }
 
     /// Hands out the pushes that were set aside, the oldest first, which leaves room for others up
@@ -211,8 +211,7 @@ impl<S: ReplySource, K: CommandSink> ByteLink<S, K> {
             ≡ record (⟦<ByteLink<S, K> as ConnectionLike>⟧.connection self.old)
                 { pushes = []; push_bytes = 0 } }
     {
-        self.inbox.push_bytes = 0;
-        mem::replace(&mut self.inbox.pushes, Vec::new(self.alloc))
+        self.inbox.pushes.take(self.alloc)
     }
 
     /// Whether the link is broken: every further call is refused.
@@ -239,7 +238,6 @@ impl<S: ReplySource, K: CommandSink> ByteLink<S, K> {
             source,
             parser,
             pushes,
-            push_bytes: _,
         } = inbox;
         drop(parser);
         drop(pushes);

@@ -20,7 +20,7 @@ fn answers_in_turn(rt: &impl Test, parser: &mut Parser, steps: &[(&str, &str)]) 
 #[test]
 fn a_parser_in_pieces(rt: HostRuntime) {
     let mut parser = Parser::new(rt.alloc());
-    assert!(rt; !parser.in_progress());
+    assert!(rt; !parser.in_progress() && parser.value_len() == 0);
     answers_next(&rt, &mut parser, b"+a\r", "None");
     assert!(rt; parser.in_progress());
     let steps = [
@@ -34,6 +34,7 @@ fn a_parser_in_pieces(rt: HostRuntime) {
     ];
     answers_in_turn(&rt, &mut parser, steps.as_slice());
     assert!(rt; !parser.in_progress() && parser.fault_offset().is_none());
+    assert_eq!(rt; parser.value_len(), 9);
 }
 
 #[test]

@@ -174,7 +174,7 @@ fn parsers(rt: HostRuntime) {
     let fed = Parser::of_size(&rt, 0);
     refuse_all(rt.alloc());
     assert!(rt; parser.in_progress() && !parser.is_failed() && parser.fault_offset().is_none());
-    assert!(rt; fed.unparsed_len() > parser.unparsed_len());
+    assert!(rt; fed.unparsed_len() > parser.unparsed_len() && fed.value_len() == 0);
     assert!(rt; parser.limits() == Limits::default() && parser.depth_limit() == 100);
     took_none(&rt);
 }

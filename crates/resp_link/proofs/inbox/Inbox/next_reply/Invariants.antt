@@ -10,10 +10,10 @@ invariant-loop-kind g l =
     record {
       rest : IsBetweenValues l.self.parser;
       only : OnlyPushes
-          (inflow_of l.initial.self.parser (source l.initial.self.source) l.initial.self.pushes.items
-          l.initial.self.push_bytes)
-          (inflow_of l.self.parser (source l.self.source) l.self.pushes.items l.self.push_bytes);
+          (inflow_of l.initial.self.parser (source l.initial.self.source) l.initial.self.pushes.list.items
+          l.initial.self.pushes.bytes)
+          (inflow_of l.self.parser (source l.self.source) l.self.pushes.list.items l.self.pushes.bytes);
     }
 
 abbrev pub decreases-loop-kind : goal.decreases-loop-kind
-decreases-loop-kind g l = 2 ^ 64 - length l.self.pushes.items
+decreases-loop-kind g l = 2 ^ 64 - length l.self.pushes.list.items

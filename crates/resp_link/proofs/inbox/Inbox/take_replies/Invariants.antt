@@ -10,7 +10,7 @@ invariant-loop g l =
       within : l.counter ≤ l.count;
       rest : IsBetweenValues l.self.parser;
       so_far : Receives l.counter
-          (inflow_of l.initial.self.parser (source l.initial.self.source) l.initial.self.pushes.items
-          l.initial.self.push_bytes)
-          (inflow_of l.self.parser (source l.self.source) l.self.pushes.items l.self.push_bytes) l.replies.items;
+          (inflow_of l.initial.self.parser (source l.initial.self.source) l.initial.self.pushes.list.items
+          l.initial.self.pushes.bytes)
+          (inflow_of l.self.parser (source l.self.source) l.self.pushes.list.items l.self.pushes.bytes) l.replies.items;
     }
