@@ -224,10 +224,11 @@ module _ (l : Limits) (room n m : ℕ) (b rest : List ℕ) (v : Value) (g : HasV
       (took (replies_in (frame ∷ h.frames)) (aside_of (frame ∷ h.frames)) r, all_after rs p r h)
   value_before (met_fault f p) h =
       let same : left - p.bytes ≡ room - push_bytes (frame ∷ h.frames) =
-          (let c = push_bytes-append (frame ∷ []) h.frames in let k = ap (λ (z : Aside). z.bytes) h.aside_is in
-          omega (arith, c, k)) in
-      (met_fault f (aside_of (frame ∷ h.frames)),
-      fewer_after p _ _ h (λ r k. subst (λ z. MeetsFault l z r f) same k))
+      (let c = push_bytes-append (frame ∷ []) h.frames in let k = ap (λ (z : Aside). z.bytes) h.aside_is in
+      omega (arith, c, k)) in (
+        met_fault f (aside_of (frame ∷ h.frames)),
+        fewer_after p _ _ h (λ r k. subst (λ z. MeetsFault l z r f) same k),
+      )
   value_before (ended_early p) h = (ended_early (aside_of (frame ∷ h.frames)), fewer_after p _ _ h (λ r k. k))
 
 -- a value takes a byte at least
@@ -292,11 +293,14 @@ some_taking l (suc size) room (suc n) b few = next (some_taking l size) (found l
             | inl fits ↦ (let t = deeper (room - push_bytes (frame_of g ∷ [])) (suc n) rest (omega (arith, smaller, few)) in
                 value_before l room (suc n) (suc n) b rest v g (let none = ap length is in omega (arith, none)) (omega arith)
                 fits t.0 t.1)
-            | inr passes ↦ (met_fault TooManyPushes no_pushes, nothing_but _ (too_many_pushes refl (record {
+            | inr passes ↦ (
+              met_fault TooManyPushes no_pushes,
+              nothing_but _ (too_many_pushes refl (record {
                 later = rest;
                 follows = record { push = frame_of g; prefix = reads_one l b rest v g; is_push = is };
                 passes = omega (arith, passes);
-              })))
+              })),
+            )
           ]
           | reply one none ↦ (let t = deeper (room - push_bytes (frame_of g ∷ [])) n rest (omega (arith, smaller, few)) in
               value_before l room (suc n) n b rest v g (omega (arith, one)) (omega arith) (omega (arith, none)) t.0 t.1)

@@ -138,7 +138,7 @@ pub reads-both : (k m n : ℕ) (a b c : Inflow) (vs ws : List Frame) (rest : Lis
     → length (replies_in vs) + m ≤ n → Reads k a b vs b.received → Reads m b c ws rest → Reads n a c (vs ++ ws) rest
 reads-both k m n a b c vs ws rest fewer within h j =
     let left : push_bytes vs + room b ≤ room a =
-        (let s = h.size in let f = h.fits in let l = ap (λ (z : Limits). z.pushes) h.limits in omega (arith, s, f, l)) in
+    (let s = h.size in let f = h.fits in let l = ap (λ (z : Limits). z.pushes) h.limits in omega (arith, s, f, l)) in
     let both = push_bytes-append vs ws in
     record {
       arrived = h.arrived ++ j.arrived;
@@ -165,30 +165,31 @@ pub received_nothing : (s : State) → IsBetweenValues s → s.unparsed ≡ [] �
 received_nothing s h none = IsBetweenValues-same s h ∙ none
 
 -- a value that was parsed, and what follows it
-value_since : (s t : Source) (was new : State) (v : Value) → new.limits ≡ was.limits
+pub value_since : (s t : Source) (was new : State) (v : Value) → new.limits ≡ was.limits
     → (parsed : Parses was.since was new s t (Ok v)) → HasValue was.limits (was.since ++ parsed.filled) v new.since
 value_since s t was new v same parsed = rw (IsBetweenValues-same new parsed.rest) (rw same at parsed.value)
 
 -- its frame
 abbrev pub frame_since : (s t : Source) (was new : State) (v : Value) → new.limits ≡ was.limits
     → Parses was.since was new s t (Ok v) → Frame
-frame_since s t was new v same parsed = record { bytes = parsed.value.prefix; value = v }
+frame_since s t was new v same parsed = frame_of (value_since s t was new v same parsed)
 
 -- the parser counted its bytes
 pub frame_size : (s t : Source) (was new : State) (v : Value) → (same : new.limits ≡ was.limits)
     → (parsed : Parses was.since was new s t (Ok v))
     → length (frame_since s t was new v same parsed).bytes ≡ new.value_len
 frame_size s t was new v same parsed =
-    let whole = ap length parsed.value.whole ∙ length-append parsed.value.prefix new.unparsed in
+    let here = value_since s t was new v same parsed in
+    let whole = ap length here.whole ∙ length-append here.prefix new.since in
+    let rest = ap length (IsBetweenValues-same new parsed.rest) in
     let counted = parsed.size in
-    omega (arith, whole, counted)
+    omega (arith, whole, rest, counted)
 
 reads-frame : (s t : Source) (was new : State) (v : Value) → (same : new.limits ≡ was.limits)
     → (parsed : Parses was.since was new s t (Ok v))
     → PrefixReads was.limits (was.since ++ parsed.filled) (frame_since s t was new v same parsed ∷ []) new.since
 reads-frame s t was new v same parsed =
-    rw (IsBetweenValues-same new parsed.rest) (rw same at reads_one new.limits (was.since ++ parsed.filled) new.unparsed v
-    parsed.value)
+    reads_one was.limits (was.since ++ parsed.filled) new.since v (value_since s t was new v same parsed)
 
 -- it was set aside where it is a push
 reads-value : (s t : Source) (was new : State) (p p' : List PushInfo) (n n' : ℕ) (v : Value)
@@ -212,21 +213,21 @@ reads-value s t was new p p' n n' v same parsed listed counted fits = record {
 
 -- none was, after bytes that came
 module _ (s t : Source) (was new : State) (p : List PushInfo) (n : ℕ) (same : new.limits ≡ was.limits) (filled : List ℕ)
-    where
-  reads-no_value : t.came ≡ s.came ++ filled → Consumes s.to_come t.to_come filled
-      → AsNeeded new.limits was.since filled
-      → Reads 1 (inflow_of was s p n) (inflow_of new t p n) [] (was.since ++ filled)
-  reads-no_value came to_come needed = record {
-    arrived = filled;
-    came = came;
-    to_come = to_come;
-    needed = needed-value was.limits (was.limits.pushes - n) 1 was.since filled (omega arith) (rw same at needed);
-    prefix = reads_nothing was.limits (was.since ++ filled);
-    fits = omega arith;
-    limits = same;
-    pushes = sym (append-nil p);
-    size = omega arith;
-  }
+  where
+    reads-no_value : t.came ≡ s.came ++ filled → Consumes s.to_come t.to_come filled
+        → AsNeeded new.limits was.since filled
+        → Reads 1 (inflow_of was s p n) (inflow_of new t p n) [] (was.since ++ filled)
+    reads-no_value came to_come needed = record {
+      arrived = filled;
+      came = came;
+      to_come = to_come;
+      needed = needed-value was.limits (was.limits.pushes - n) 1 was.since filled (omega arith) (rw same at needed);
+      prefix = reads_nothing was.limits (was.since ++ filled);
+      fits = omega arith;
+      limits = same;
+      pushes = sym (append-nil p);
+      size = omega arith;
+    }
 
 -- no value comes next
 cannot_read : (s t : Source) (was new : State) (p : List PushInfo) (n : ℕ) (e : RedisError) → new.limits ≡ was.limits
@@ -353,7 +354,7 @@ received_none old s t was new p n e so_far same parses =
 module _ (old : Inflow) (s t : Source) (was new : State) (p : List PushInfo) (n : ℕ) (v : Value) (info : PushInfo)
     (so_far : OnlyPushes old (inflow_of was s p n)) (same : new.limits ≡ was.limits)
     (parsed : Parses was.since was new s t (Ok v)) (push : as_push v ≡ Some info) where
-  follows : FollowsPush was.limits (was.since ++ parsed.filled) new.since
+  abbrev follows : FollowsPush was.limits (was.since ++ parsed.filled) new.since
   follows = record {
     push = frame_since s t was new v same parsed;
     prefix = reads-frame s t was new v same parsed;
@@ -379,7 +380,8 @@ module _ (old : Inflow) (s t : Source) (was new : State) (p : List PushInfo) (n 
       (too_many_pushes refl (record {
         later = new.since;
         follows = follows;
-        passes = rw (push_size old s t was new p p n n v so_far same parsed info push) passes;
+        passes = subst (λ z. new.limits.pushes - n < z)
+            (sym (push_size old s t was new p p n n v so_far same parsed info push)) passes;
       })) parsed.failures)
   not_aside e (receiving.out_of_room is) = stopped e (receiving.no_room is follows parsed.failures)
 

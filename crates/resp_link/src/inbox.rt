@@ -31,7 +31,8 @@ impl<S: ReplySource> Inbox<S> {
             match self.parser.parse_from(&mut self.source)? {
                 Value::Push { kind, payload } => {
                     let (size, limit) = (self.parser.value_len(), self.parser.limits().pushes);
-                    self.pushes.set_aside(PushInfo { kind, payload }, size, limit)?;
+                    self.pushes
+                        .set_aside(PushInfo { kind, payload }, size, limit)?;
                 }
                 reply => return Ok(reply),
             }

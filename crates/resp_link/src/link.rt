@@ -209,7 +209,7 @@ impl<S: ReplySource, K: CommandSink> ByteLink<S, K> {
             ≡ (⟦<ByteLink<S, K> as ConnectionLike>⟧.connection self.old).pushes }
         ensures left { ⟦<ByteLink<S, K> as ConnectionLike>⟧.connection self.new
             ≡ record (⟦<ByteLink<S, K> as ConnectionLike>⟧.connection self.old)
-                { pushes = []; push_bytes = 0 } }
+            { pushes = []; push_bytes = 0 } }
     {
         self.inbox.pushes.take(self.alloc)
     }

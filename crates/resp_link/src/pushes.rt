@@ -29,15 +29,13 @@ impl Pushes {
     pub(crate) fn set_aside(&mut self, push: PushInfo, size: usize, limit: usize) -> RedisResult<()>
         ensures aside { MatchResult result
             (λ _. SetsAside push size limit self.old.list.items self.new.list.items
-                self.old.bytes self.new.bytes)
+            self.old.bytes self.new.bytes)
             (λ e. CannotSetAside size limit self.old.bytes e) }
         ensures listed { OnErr result (self.new.list.items ≡ self.old.list.items) }
         ensures counted { OnErr result (self.new.bytes ≡ self.old.bytes) }
     {
         if size > limit.saturating_sub(self.bytes) {
-            return Err(RedisError::from(ParsingError::from(
-                FrameFault::TooManyPushes,
-            )));
+            return Err(RedisError::from(ParsingError::from(FrameFault::TooManyPushes)));
         }
         self.list.push(push)?;
         self.bytes += size;

@@ -17,18 +17,19 @@ returns-in_err-reply-clause-reply g c =
     c.parse_from.ensures.limits (rw c.in_err-reply.was at c.parse_from.ensures.parses at.parser.since
     (stands_since at.parser c.loop-kind.invariant.rest)))
 
-pub returns-in_err-set_aside-clause-reply : goal.returns-in_err-set_aside-clause-reply
-returns-in_err-set_aside-clause-reply g c =
+pub returns-in_err-set_aside-in-Push-clause-reply : goal.returns-in_err-set_aside-in-Push-clause-reply
+returns-in_err-set_aside-in-Push-clause-reply g c =
     let source = g.S.ReplySource.source in
     let at = c.loop-kind.self in
-    let p = err_from_is_err_and c.from_residual-in_err-set_aside.result
-    c.from_residual-in_err-set_aside.ensures.1 in
+    let p = err_from_is_err_and c.from_residual-in_err-set_aside-in-Push.result
+    c.from_residual-in_err-set_aside-in-Push.ensures.1 in
     let parsed = rw c.in_ok-reply.was at c.parse_from.ensures.parses at.parser.since
     (stands_since at.parser c.loop-kind.invariant.rest) in
-    rw (p.1, p.2, c.in_err-set_aside.ensures.listed, c.in_err-set_aside.ensures.counted) (not_aside _ (source at.source) _
+    rw (p.1, p.2, c.in_err-set_aside-in-Push.ensures.listed, c.in_err-set_aside-in-Push.ensures.counted) (not_aside _ (source at.source) _
     at.parser c.parse_from.new.self _ _ c.in_ok-reply.reply (record { kind = c.in-Push.kind; payload = c.in-Push.payload })
     c.loop-kind.invariant.only c.parse_from.ensures.limits parsed (rw c.in-Push.is (as_push-Push _ _)) _
-    (rw c.in_err-set_aside.was at c.set_aside.ensures.aside))
+    (rw (c.in_err-set_aside-in-Push.was, c.value_len-size.ensures.size, c.limits.ensures.limits) at
+    c.set_aside.ensures.aside))
 
 pub loop-kind-preserved : goal.loop-kind-preserved
 loop-kind-preserved g c =
@@ -41,7 +42,8 @@ loop-kind-preserved g c =
       only = only_pushes_more _ (source at.source) _ at.parser c.parse_from.new.self _ _ _ _ c.in_ok-reply.reply
           c.loop-kind.invariant.only c.parse_from.ensures.limits parsed
           (record { kind = c.in-Push.kind; payload = c.in-Push.payload }) (rw c.in-Push.is (as_push-Push _ _))
-          (rw c.in_ok-set_aside.was at c.set_aside.ensures.aside);
+          (rw (c.in_ok-set_aside-in-Push.was, c.value_len-size.ensures.size, c.limits.ensures.limits) at
+          c.set_aside.ensures.aside);
     }
 
 pub returns-in_default : goal.returns-in_default
