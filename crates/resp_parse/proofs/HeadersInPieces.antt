@@ -1,6 +1,7 @@
 -- Headers whose bytes may not be all there.
-use Rattle.std.proofs.Common.{◌≡◌, ℕ, zero, suc, ◌+◌, ◌-◌, ◌<◌, ◌≤◌, Bool, true, false, cond, List, [], ◌∷◌, ◌++◌, length, take, drop, refl, ap, sym, ◌∙◌, arith, Option, Some, None, IfSome, Ok, Err}
+use Rattle.std.proofs.Common.{◌≡◌, ℕ, zero, suc, ◌+◌, ◌-◌, ◌<◌, ◌≤◌, Bool, true, false, cond, List, [], ◌∷◌, ◌++◌, length, take, drop, get_or, nat_lt, refl, ap, sym, ◌∙◌, arith, Option, Some, None, IfSome, Ok, Err}
 use Rattle.std.specs.Str.{is_utf8}
+use Rattle.std.proofs.lemmas.Bool.{ltb-true, ltb-false}
 use Rattle.resp_value.specs.declared.value.Value.{Value, BulkString}
 use Rattle.resp_errors.specs.declared.kinds.FrameFault.TheVariants.{TooDeep, UnknownType, LineNotUtf8}
 use Rattle.resp_parse.specs.declared.read_error.ReadError.{ReadError}
@@ -57,6 +58,17 @@ looked : (c : ℕ) (after : List ℕ) → NoneBefore after (length after) → Is
 looked c after none =
     let e : suc (length after) - 1 ≡ length after = omega arith in
     record { within = omega arith; rest = rw e (record { within = omega arith; none = none }) }
+
+-- and of one more, which isn't LF
+pub looked-on : (c : ℕ) (after : List ℕ) → IsLooked (c ∷ after) (length after) → (get_or (c ∷ after) (length after) 0 ≡ 10 → ⊥) → NoneBefore after (length after)
+looked-on c after h other k l cr lf = by_test (nat_lt (suc k) (length after - 1)) refl
+  where
+    by_test : (b : Bool) → nat_lt (suc k) (length after - 1) ≡ b → ⊥
+    by_test true e = h.rest.none k (ltb-true _ _ e) cr lf
+    by_test false e =
+        let m : length after - 1 ≤ suc k = ltb-false _ _ e in
+        let z : suc (suc k) ≡ length after = omega (arith, m, l) in
+        other (ap (λ n. get_or (c ∷ after) n 0) (sym z) ∙ lf)
 
 -- a line is read as what it announces
 line-announces : (P : List ℕ → ReadOutcome Value) (kind : TypeByte) (text bs : List ℕ) → read_line P kind text bs ≡ read_announced P (announced_in_line kind text) bs

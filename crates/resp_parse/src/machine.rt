@@ -1,6 +1,6 @@
 //! The reading of a value, which stops where the bytes end and goes on from there.
 
-ghost use Rattle.std.specs.Prelude.{◌≡◌, ◌<◌, ◌≤◌, ◌+◌, ◌*◌, ◌^◌, length, take, true, None, IfOk, IfSome, OnOk};
+ghost use Rattle.std.specs.Prelude.{◌≡◌, ◌<◌, ◌≤◌, ◌+◌, ◌*◌, ◌^◌, length, take, true, false, None, IfOk, IfSome, OnOk};
 ghost use Rattle.resp_parse.specs.Building.{nothing, whole, progress_of};
 ghost use Rattle.resp_parse.specs.Resume.{BuildsThen, StepBuilds, RunBuilds};
 ghost use Rattle.resp_parse.specs.Computes.{Computes};
@@ -9,11 +9,11 @@ ghost use Rattle.resp_parse.specs.Number.{IsNumeral};
 ghost use Rattle.resp_parse.specs.PlainReading.{then, read_announced, read};
 ghost use Rattle.resp_parse.specs.Shapes.{announced_in_line, line_value, elements_value, count_of};
 ghost use Rattle.resp_parse.specs.Resume.{place, resume, fresh_of, IsScanned, Goes, Ends, Steps};
-ghost use Rattle.resp_parse.specs.Resume.{Runs, ReadsInto, depth_below};
+ghost use Rattle.resp_parse.specs.Resume.{Runs, ReadsInto, Waits, depth_below};
 ghost use Rattle.resp_parse.specs.Filling.{lacks_of, FillsOpenBody, FilledOpenBody};
 ghost use Rattle.resp_parse.specs.Built.{built};
 ghost use Rattle.resp_parse.specs.Costs.{least_bytes, BuiltWithin, StepBuiltWithin, RunBuiltWithin, Places, Begins};
-ghost use Rattle.resp_parse.specs.Costs.{HeaderCost, StepCost, RunCost, ReadBuiltWithin};
+ghost use Rattle.resp_parse.specs.Costs.{HeaderCost, StepCost, RunCost, Spent, ReadBuiltWithin};
 
 use crate::body::Body;
 use crate::builder::Builder;
@@ -402,6 +402,35 @@ impl<B: Builder> Machine<B> {
         Ok((at, None))
     }
 
+    /// Looks at the last byte, where it alone has come to a line that it doesn't end; else nothing is
+    /// done. So a line that comes byte by byte is looked at without a step.
+    #[inline(always)]
+    fn looks_on(&mut self, bytes: &[u8], counts: &mut Counter) -> bool
+        requires depth { length self.old.open_aggregates ≤ self.old.depth }
+        requires scanned { IsScanned self.old.body self.old.scanned bytes.now }
+        ensures waits { result ≡ true → Waits self.old bytes.now self.new 0 }
+        ensures spent { result ≡ true → Spent self.old self.new counts.old counts.new 0 }
+        ensures looked { self.new ≡ record self.old { scanned = self.new.scanned } }
+        ensures nothing { result ≡ false → (self.new ≡ self.old) × (counts.new ≡ counts.old) }
+    {
+        let Some((first, after)) = bytes.split_first() else {
+            return false;
+        };
+        if self.body.is_some() || after.len() != self.scanned || bytes[after.len()] == b'\n' {
+            return false;
+        }
+        if self.open_aggregates.len() == self.depth {
+            return false;
+        }
+        let Some(_) = TypeByte::from_byte(*first) else {
+            return false;
+        };
+        counts.look();
+        counts.examine(1);
+        self.scanned = bytes.len();
+        true
+    }
+
     /// The same, with a whole value handed out.
     #[inline(always)]
     pub(crate) fn read(
@@ -424,6 +453,9 @@ impl<B: Builder> Machine<B> {
         ensures cost { RunCost self.old self.new bytes.now counts.old counts.new result }
     {
         if bytes.is_empty() {
+            return Ok((0, false));
+        }
+        if self.looks_on(bytes, counts) {
             return Ok((0, false));
         }
         let (taken, whole) = self.run(alloc, bytes, counts)?;
