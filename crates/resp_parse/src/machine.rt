@@ -419,7 +419,7 @@ impl<B: Builder> Machine<B> {
         if self.body.is_some() || after.len() != self.scanned || bytes[after.len()] == b'\n' {
             return false;
         }
-        if self.open_aggregates.len() == self.depth {
+        if self.open_aggregates.len() >= self.depth {
             return false;
         }
         let Some(_) = TypeByte::from_byte(*first) else {
