@@ -1,6 +1,6 @@
 -- The bytes examined pay for the iterations.
 use Rattle.std.proofs.Common.{◌≡◌, ℕ, ◌+◌, ◌-◌, ◌*◌, ◌≤◌, List, ap, arith, refl, Some, None, Ok}
-use Rattle.resp_parse.specs.declared.whole.Whole.{Whole}
+use Rattle.resp_value.specs.declared.value.Value.{Value}
 use Rattle.resp_parse.specs.declared.machine.Machine.{Machine}
 use Rattle.resp_parse.specs.Counts.{Counts}
 use Rattle.resp_parse.specs.declared.machine.Step.TheVariants as step
@@ -43,6 +43,13 @@ module _ {B : Type 0} (m new : Machine B) (c d e f : Counts) (len looked : ℕ) 
       let l : d.iterations + (looked - 1) ≤ c.iterations + len + 1 = looks.1 in
       omega (arith, p, z, l, looked_is, iterations-looked, examined-now)
 
+-- more bytes were looked at, none of them of a line
+pub looks-more : {B : Type 0} (m new : Machine B) (c d e : Counts) (n more : ℕ) → Looks m new c d n → e ≡ record d { examined = d.examined + more } → Looks m new c e (n + more)
+looks-more m new c d e n more l take =
+    let a : e.examined ≡ d.examined + more = ap (λ (t : Counts). t.examined) take in
+    let b : e.looks ≡ d.looks = ap (λ (t : Counts). t.looks) take in
+    record { same = examined-both c d e l.same (examined-take d e more take); once = omega (arith, l.once, a, b); examined = omega (arith, l.examined, a) }
+
 -- a machine that was `old` has taken n bytes
 pub record CostSoFar {B : Type 0} (old m : Machine B) (c d : Counts) (n : ℕ) : Type 0 where
   pub looks : Looks old m c d n
@@ -63,14 +70,14 @@ module _ {B : Type 0} (old m : Machine B) (c d : Counts) (at : ℕ) (h : CostSoF
   pub CostSoFar-end : (bytes : List ℕ) → Spent old m c d at
   CostSoFar-end bytes = (h.looks, omega (arith, h.cost))
 
-  pub CostSoFar-waits : (new : Machine B) (e : Counts) (rest bytes : List ℕ) (n : ℕ) → StepCost {M = Unit {0}} m new rest d e (Ok (step.Waits n)) → Spent old new c e (at + n)
+  pub CostSoFar-waits : (new : Machine B) (e : Counts) (rest bytes : List ℕ) (n : ℕ) → StepCost m new rest d e (Ok (step.Waits n)) → Spent old new c e (at + n)
   CostSoFar-waits new e rest bytes n s = (looks-on new e n (of-step new e n s.0), omega (arith, h.cost, s.1))
 
-  pub CostSoFar-goes : (new : Machine B) (e : Counts) (rest : List ℕ) (n : ℕ) → StepCost {M = Unit {0}} m new rest d e (Ok (step.Goes n)) → StepBuiltWithin {M = Unit {0}} m new (Ok (step.Goes n)) → CostSoFar old new c e (at + n)
+  pub CostSoFar-goes : (new : Machine B) (e : Counts) (rest : List ℕ) (n : ℕ) → StepCost m new rest d e (Ok (step.Goes n)) → StepBuiltWithin m new (Ok (step.Goes n)) → CostSoFar old new c e (at + n)
   CostSoFar-goes new e rest n s w = record { looks = looks-on new e n (of-step new e n s.0); cost = omega (arith, h.cost, s.1); built_within = omega (arith, h.built_within, w) }
 
   -- a value is whole, and was put where it belongs
-  module _ {M : Type 0} (mid new : Machine B) (e f : Counts) (rest : List ℕ) (n : ℕ) (v : Whole M) (s : StepCost m mid rest d e (Ok (step.Whole n v))) (w : StepBuiltWithin m mid (Ok (step.Whole n v))) (iterations : SameButIterations e f) where
+  module _ (mid new : Machine B) (e f : Counts) (rest : List ℕ) (n : ℕ) (v : Value) (s : StepCost m mid rest d e (Ok (step.Whole n v))) (w : StepBuiltWithin m mid (Ok (step.Whole n v))) (iterations : SameButIterations e f) where
     examined-same : f.examined ≡ e.examined
     examined-same = ap (λ (t : Counts). t.examined) iterations
 
@@ -80,11 +87,11 @@ module _ {B : Type 0} (old m : Machine B) (c d : Counts) (at : ℕ) (h : CostSoF
     looks-attached : new.scanned ≡ mid.scanned → Looks old new c f (at + n)
     looks-attached z = record { same = examined-both c d f h.looks.same (examined-both d e f s.0.same (examined-iterations e f iterations)); once = once-attached; examined = omega (arith, h.looks.examined, s.0.examined, examined-same, z) }
 
-    pub CostSoFar-attaches : Places {X = Unit {0}} mid new e f (Ok tt) → BuiltWithin {M = Unit {0}} new (least_bytes mid + 3 * built v.seen) (Ok None) → new.scanned ≡ mid.scanned → CostSoFar old new c f (at + n)
+    pub CostSoFar-attaches : Places {X = Unit {0}} mid new e f (Ok tt) → BuiltWithin new (least_bytes mid + 3 * built v) (Ok None) → new.scanned ≡ mid.scanned → CostSoFar old new c f (at + n)
     CostSoFar-attaches p k z = record { looks = looks-attached z; cost = omega (arith, h.cost, s.1, p, examined-same, z); built_within = omega (arith, h.built_within, w, k) }
 
-    pub CostSoFar-reads : (u : Whole M) (bytes : List ℕ) → Places {X = Unit {0}} mid new e f (Ok tt) → new.scanned ≡ mid.scanned → Spent old new c f (at + n)
+    pub CostSoFar-reads : (u : Value) (bytes : List ℕ) → Places {X = Unit {0}} mid new e f (Ok tt) → new.scanned ≡ mid.scanned → Spent old new c f (at + n)
     CostSoFar-reads u bytes p z = (looks-attached z, omega (arith, h.cost, s.1, p, examined-same, z))
 
-    pub CostSoFar-built_within : (u : Whole M) → BuiltWithin new (least_bytes mid + 3 * built v.seen) (Ok (Some u)) → least_bytes new + 3 * built u.seen ≤ least_bytes old + (at + n)
+    pub CostSoFar-built_within : (u : Value) → BuiltWithin new (least_bytes mid + 3 * built v) (Ok (Some u)) → least_bytes new + 3 * built u ≤ least_bytes old + (at + n)
     CostSoFar-built_within u k = omega (arith, h.built_within, w, k)

@@ -4,7 +4,6 @@ use Rattle.std.proofs.lemmas.Grind.{common_steps}
 use Rattle.std.proofs.lemmas.List.Sums.{sum_by-cons, sum_by-append}
 use Rattle.std.specs.List.{sum_by}
 use Rattle.resp_value.specs.declared.value.Value.{Value}
-use Rattle.resp_parse.specs.declared.whole.Whole.{Whole}
 use Rattle.resp_parse.specs.declared.read_error.ReadError.{ReadError}
 use Rattle.resp_parse.specs.declared.read_error.ReadError.TheVariants.{Memory, Fault}
 use Rattle.resp_parse.specs.declared.shape.ElementsKind.{ElementsKind}
@@ -15,7 +14,7 @@ use Rattle.resp_parse.specs.Building.{Stands, nothing, whole}
 use Rattle.resp_parse.specs.declared.machine.Machine.{Machine}
 use Rattle.resp_parse.specs.Shapes.{elements_value}
 use Rattle.resp_parse.specs.PlainReading.{then, made}
-use Rattle.resp_parse.specs.Computes.{Computes, ComputesSeen}
+use Rattle.resp_parse.specs.Computes.{Computes}
 use Rattle.resp_parse.specs.Resume.{place, Ends}
 use Rattle.resp_parse.specs.Built.{built}
 use Rattle.resp_parse.specs.Costs.{built_of, aggregates_least_bytes, aggregates_potential}
@@ -29,7 +28,7 @@ module _ (d : ℕ) (gs : List OpenAggregate) (w : Value) (now : List OpenAggrega
   before more = same more ∙ ap (λ x. place d x v more) now_is
 
   -- more elements are to come
-  pub attach-keeps : {B : Type 0} (m : Machine B) (k : ℕ) (g : OpenAggregate) → f.after ≡ suc k → g.kind ≡ f.kind → g.after ≡ k → g.seen ≡ vs → m.depth ≡ d → m.open_aggregates ≡ g ∷ fs → m.body ≡ None → Ends {M = Unit {0}} (place d gs w) m (Ok None)
+  pub attach-keeps : {B : Type 0} (m : Machine B) (k : ℕ) (g : OpenAggregate) → f.after ≡ suc k → g.kind ≡ f.kind → g.after ≡ k → g.seen ≡ vs → m.depth ≡ d → m.open_aggregates ≡ g ∷ fs → m.body ≡ None → Ends (place d gs w) m (Ok None)
   attach-keeps m k g a gk ga gv l e b = ((λ more. before more ∙ rw (l, e, b) (keeps d k f g fs v more a gk ga (gv ∙ vs_is))), rw (e, b) refl)
 
   closed : f.after ≡ 0 → (more : List ℕ) → place d gs w more ≡ then (made (elements_value f.kind vs) more) (place d fs)
@@ -40,7 +39,7 @@ module _ (d : ℕ) (gs : List OpenAggregate) (w : Value) (now : List OpenAggrega
   attach-closes u a c more = closed a more ∙ rw c refl
 
   -- all elements are there, and make none
-  pub attach-refused : {B : Type 0} (m : Machine B) (e : ReadError) → f.after ≡ 0 → ComputesSeen {M = Unit {0}} (Err e) (elements_value f.kind vs) → Ends {M = Unit {0}} (place d gs w) m (Err e)
+  pub attach-refused : {B : Type 0} (m : Machine B) (e : ReadError) → f.after ≡ 0 → Computes (Err e) (elements_value f.kind vs) → Ends (place d gs w) m (Err e)
   attach-refused m Memory a c = tt
   attach-refused m (Fault g) a c = λ more. closed a more ∙ rw c refl
 
@@ -74,10 +73,10 @@ module _ (now : List OpenAggregate) (f : OpenAggregate) (fs : List OpenAggregate
 
 -- what an open aggregate that a value was put in has become
 module _ (d : ℕ) (gs : List OpenAggregate) (w : Value) (now : List OpenAggregate) (v : Value) (same : (more : List ℕ) → place d gs w more ≡ place d now v more) where
-  pub added-outermost : {B M : Type 0} (m : Machine B) (u : Whole M) → Adds now v m.open_aggregates added.Outermost → u.seen ≡ v → m.body ≡ None → Ends (place d gs w) m (Ok (Some u))
+  pub added-outermost : {B : Type 0} (m : Machine B) (u : Value) → Adds now v m.open_aggregates added.Outermost → u ≡ v → m.body ≡ None → Ends (place d gs w) m (Ok (Some u))
   added-outermost m u a e b = ((λ more. same more ∙ rw (a.0, e) refl), rw (b, a.1) refl)
 
-  pub added-kept : {B : Type 0} (m : Machine B) → m.depth ≡ d → KeptIn now v m.open_aggregates → m.body ≡ None → Ends {M = Unit {0}} (place d gs w) m (Ok None)
+  pub added-kept : {B : Type 0} (m : Machine B) → m.depth ≡ d → KeptIn now v m.open_aggregates → m.body ≡ None → Ends (place d gs w) m (Ok None)
   added-kept m l a b = attach-keeps d gs w now v same a.aggregate a.outer a.old_is (a.aggregate.seen ++ (v ∷ [])) refl m a.after _ a.after_is refl refl refl l a.new_is b
 
   module _ (fs : List OpenAggregate) (f : OpenAggregate) (a : ClosedBy now v fs f) where
@@ -90,8 +89,8 @@ module _ (d : ℕ) (gs : List OpenAggregate) (w : Value) (now : List OpenAggrega
     pub added-closed : (u : Value) → Computes (Ok u) (elements_value f.kind f.seen) → (more : List ℕ) → place d gs w more ≡ place d fs u more
     added-closed u c = attach-closes d gs w now v same a.aggregate fs a.old_is f.seen seen-is u a.last (rw (← kind-is) c)
 
-    pub added-refused : {B : Type 0} (m : Machine B) (e : ReadError) → ComputesSeen {M = Unit {0}} (Err e) (elements_value f.kind f.seen) → Ends {M = Unit {0}} (place d gs w) m (Err e)
-    added-refused m e c = attach-refused d gs w now v same a.aggregate fs a.old_is f.seen seen-is m e a.last (subst (λ (k : ElementsKind). ComputesSeen {M = Unit {0}} (Err e) (elements_value k f.seen)) kind-is c)
+    pub added-refused : {B : Type 0} (m : Machine B) (e : ReadError) → Computes (Err e) (elements_value f.kind f.seen) → Ends (place d gs w) m (Err e)
+    added-refused m e c = attach-refused d gs w now v same a.aggregate fs a.old_is f.seen seen-is m e a.last (subst (λ (k : ElementsKind). Computes (Err e) (elements_value k f.seen)) kind-is c)
 
     pub closed-least_bytes : (u : Value) → Computes (Ok u) (elements_value f.kind f.seen) → aggregates_least_bytes fs + 3 * built u ≤ aggregates_least_bytes now + 3 * built v
     closed-least_bytes u c = closes-least_bytes now a.aggregate fs a.old_is v f.seen seen-is u (rw (← kind-is) c)
@@ -109,13 +108,13 @@ pub kept-potential : (now : List OpenAggregate) (v : Value) (new : List OpenAggr
 kept-potential now v new a = keeps-potential now a.aggregate a.outer a.old_is v (a.aggregate.seen ++ (v ∷ [])) refl _ new a.new_is
 
 -- what a builder holds then
-module _ {B M : Type 0} (S : Stands B M) (b : B) (now : List OpenAggregate) (w : Whole M) (new : List OpenAggregate) (h : S b now (whole w)) where
+module _ {B : Type 0} (S : Stands B) (b : B) (now : List OpenAggregate) (w : Value) (new : List OpenAggregate) (h : S b now (whole w)) where
   -- of an element that isn't the last
-  pub builds-kept : (c : B) → KeptIn now w.seen new → ((f : OpenAggregate) (fs : List OpenAggregate) (u : Whole M) (k : ℕ) → u.made ≡ w.made → f.after ≡ suc k → S b (f ∷ fs) (whole u) → S c (counted_down k (with_element f u.seen) ∷ fs) nothing) → S c new nothing
-  builds-kept c a keeps = subst (λ fs. S c fs nothing) (sym a.new_is) (keeps a.aggregate a.outer w a.after refl a.after_is (subst (λ fs. S b fs (whole w)) a.old_is h))
+  pub builds-kept : (c : B) → KeptIn now w new → ((f : OpenAggregate) (fs : List OpenAggregate) (u : Value) (k : ℕ) → f.after ≡ suc k → S b (f ∷ fs) (whole u) → S c (counted_down k (with_element f u) ∷ fs) nothing) → S c new nothing
+  builds-kept c a keeps = subst (λ fs. S c fs nothing) (sym a.new_is) (keeps a.aggregate a.outer w a.after a.after_is (subst (λ fs. S b fs (whole w)) a.old_is h))
 
   -- what was known before of the closed one
-  pub builds-closed : (f : OpenAggregate) (a : ClosedBy now w.seen new f) → S b (a.aggregate ∷ new) (whole w)
+  pub builds-closed : (f : OpenAggregate) (a : ClosedBy now w new f) → S b (a.aggregate ∷ new) (whole w)
   builds-closed f a = subst (λ fs. S b fs (whole w)) a.old_is h
 
   pub builds-outermost : now ≡ [] → new ≡ [] → S b new (whole w)

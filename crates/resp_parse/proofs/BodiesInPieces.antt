@@ -7,13 +7,14 @@ use Rattle.resp_errors.specs.declared.kinds.FrameFault.TheVariants.{BodyEnd}
 use Rattle.resp_parse.specs.declared.read_error.ReadError.{ReadError}
 use Rattle.resp_parse.specs.declared.read_error.ReadError.TheVariants.{Memory, Fault}
 use Rattle.resp_parse.specs.declared.body.Body.{Body}
-use Rattle.resp_parse.specs.declared.whole.Whole.{Whole}
 use Rattle.resp_parse.specs.declared.machine.Machine.{Machine}
 use Rattle.resp_parse.specs.declared.machine.Step.TheVariants as step
 use Rattle.resp_parse.specs.PlainReading.{ReadOutcome, got, fault, incomplete, then, end_of_body, read_body, made}
 use Rattle.resp_parse.specs.Shapes.{body_value}
-use Rattle.resp_parse.specs.Computes.{ComputesSeen}
-use Rattle.resp_parse.specs.Resume.{value_of, place, resume, depth_left, IsScanned, EndsBody, FillsBody, Steps}
+use Rattle.resp_parse.specs.Computes.{Computes}
+use Rattle.resp_parse.specs.Resume.{value_of, place, resume, depth_left, IsScanned, EndsBody, BeginsWithBody, FillsBody, Steps}
+use Rattle.resp_parse.specs.Lines.{crlf}
+use Rattle.resp_parse.proofs.BodyReads.{body-got, body-reads}
 
 pub drop-all : (n : ℕ) (xs : List ℕ) → length xs ≤ n → drop n xs ≡ []
 drop-all zero [] l = refl
@@ -106,7 +107,7 @@ module _ {B : Type 0} (m : Machine B) (old new : Body) (bytes : List ℕ) (n : �
   within : n ≤ length bytes
   within = omega (arith, h.0)
 
-  pub body-waits : m.scanned ≡ 0 → EndsBody (drop n bytes) (Ok false) → (m' : Machine B) → m' ≡ record m { builder = m'.builder; body = Some new } → Steps {M = Unit {0}} m bytes m' (Ok (step.Waits n))
+  pub body-waits : m.scanned ≡ 0 → EndsBody (drop n bytes) (Ok false) → (m' : Machine B) → m' ≡ record m { builder = m'.builder; body = Some new } → Steps m bytes m' (Ok (step.Waits n))
   body-waits s e m' i = rw i (record {
     within = within;
     same = resumes;
@@ -116,7 +117,7 @@ module _ {B : Type 0} (m : Machine B) (old new : Body) (bytes : List ℕ) (n : �
     begun = λ _. rw body_is refl;
   })
 
-  pub body-malformed : (m' : Machine B) (j : ℕ) → m'.shown ≡ n + j → EndsBody (drop n bytes) (Err j) → Steps {M = Unit {0}} m bytes m' (Err (Fault BodyEnd))
+  pub body-malformed : (m' : Machine B) (j : ℕ) → m'.shown ≡ n + j → EndsBody (drop n bytes) (Err j) → Steps m bytes m' (Err (Fault BodyEnd))
   body-malformed m' j i e =
       let r : length (drop n bytes) ≡ length bytes - n = grind (arith, common_steps) in
       let l : j ≤ length (drop n bytes) = e.0 in
@@ -125,7 +126,7 @@ module _ {B : Type 0} (m : Machine B) (old new : Body) (bytes : List ℕ) (n : �
   ended : EndsBody (drop n bytes) (Ok true) → (more : List ℕ) → resume m (bytes ++ more) ≡ then (made (body_value new.kind new.seen) (drop 2 (drop n bytes) ++ more)) (place m.depth m.open_aggregates)
   ended e more = resumes more ∙ ap (λ o. then o (place m.depth m.open_aggregates)) (whole old new bytes n h.0 h.1 (depth_left m.depth m.open_aggregates) more e.0 (e.1 more))
 
-  pub body-refused : EndsBody (drop n bytes) (Ok true) → (m' : Machine B) (e : ReadError) → m'.shown ≡ n + 2 → ComputesSeen {M = Unit {0}} (Err e) (body_value new.kind new.seen) → Steps {M = Unit {0}} m bytes m' (Err e)
+  pub body-refused : EndsBody (drop n bytes) (Ok true) → (m' : Machine B) (e : ReadError) → m'.shown ≡ n + 2 → Computes (Err e) (body_value new.kind new.seen) → Steps m bytes m' (Err e)
   body-refused e m' Memory i c = tt
   body-refused e m' (Fault f) i c =
       let r : length (drop n bytes) ≡ length bytes - n = grind (arith, common_steps) in
@@ -133,7 +134,7 @@ module _ {B : Type 0} (m : Machine B) (old new : Body) (bytes : List ℕ) (n : �
       let d : drop 2 (drop n bytes) ≡ drop (n + 2) bytes = drop-drop n 2 bytes in
       rw i (omega (arith, r, l, within), λ more. ended e more ∙ rw (c, d) refl)
 
-  pub body-whole : {M : Type 0} → m.scanned ≡ 0 → EndsBody (drop n bytes) (Ok true) → (m' : Machine B) → m' ≡ record m { builder = m'.builder; body = None } → (w : Whole M) → ComputesSeen (Ok w) (body_value new.kind new.seen) → Steps m bytes m' (Ok (step.Whole (n + 2) w))
+  pub body-whole : m.scanned ≡ 0 → EndsBody (drop n bytes) (Ok true) → (m' : Machine B) → m' ≡ record m { builder = m'.builder; body = None } → (w : Value) → Computes (Ok w) (body_value new.kind new.seen) → Steps m bytes m' (Ok (step.Whole (n + 2) w))
   body-whole s e m' i w c =
       let r : length (drop n bytes) ≡ length bytes - n = grind (arith, common_steps) in
       let l : 2 ≤ length (drop n bytes) = e.0 in
@@ -151,3 +152,18 @@ module _ {B : Type 0} (m : Machine B) (old new : Body) (bytes : List ℕ) (n : �
 -- no line is looked at while a body is open
 pub IsScanned-body : {B : Type 0} (m : Machine B) (b : Body) (bytes : List ℕ) → m.body ≡ Some b → IsScanned m.body m.scanned bytes → m.scanned ≡ 0
 IsScanned-body m b bytes e h = let k : IsScanned (Some b) m.scanned bytes = subst (λ (o : Option Body). IsScanned o m.scanned bytes) e h in k
+
+-- a body at the start of bytes, where it and its CR LF are there
+pub begins_with_body : (n : ℕ) (bs x e : List ℕ) → n ≤ length bs → x ≡ take n bs → e ≡ drop n bs → EndsBody e (Ok true) → BeginsWithBody n bs x
+begins_with_body n bs x e l x_is e_is h =
+    let k : end_of_body e ≡ got [] (drop 2 e) = ap end_of_body (sym (append-nil e)) ∙ h.1 [] ∙ ap (got []) (append-nil (drop 2 e)) in
+    let c : e ≡ crlf ++ drop 2 e = (body-got 0 e [] (drop 2 e) k).1 in
+    let s : length x ≡ n = ap length x_is ∙ grind (arith, common_steps) in
+    let w : length e ≡ length bs - n = ap length e_is ∙ grind (arith, common_steps) in
+    let d : drop 2 e ≡ drop (n + 2) bs = ap (drop 2) e_is ∙ drop-drop n 2 bs in
+    let all : bs ≡ (x ++ crlf) ++ drop 2 e = sym (Rattle.std.proofs.lemmas.List.take-append-drop n bs) ∙ ap (λ s. s ++ drop n bs) (sym x_is) ∙ ap (λ s. x ++ s) (sym e_is ∙ c) ∙ sym (append_assoc x crlf (drop 2 e)) in
+    record {
+      within = omega (arith, h.0, w);
+      size = s;
+      reads = λ more. ap (λ b. read_body n (b ++ more)) all ∙ ap (read_body n) (append_assoc (x ++ crlf) (drop 2 e) more) ∙ body-reads n (x ++ crlf) x (drop 2 e ++ more) s refl ∙ ap (λ r. got x (r ++ more)) d;
+    }

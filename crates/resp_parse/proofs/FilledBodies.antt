@@ -37,7 +37,7 @@ FilledOpenBody-none m bytes c b l =
     }
 
 -- what was built stands for the open body
-pub builds-body : {B M : Type 0} (S : Stands B M) (m : Machine B) (b : Body) → m.body ≡ Some b → S m.builder m.open_aggregates (progress_of m.body) → S m.builder m.open_aggregates (filling b.seen)
+pub builds-body : {B : Type 0} (S : Stands B) (m : Machine B) (b : Body) → m.body ≡ Some b → S m.builder m.open_aggregates (progress_of m.body) → S m.builder m.open_aggregates (filling b.seen)
 builds-body S m b e h = subst (λ (o : Option Body). S m.builder m.open_aggregates (progress_of o)) e h
 
 -- the open body took all bytes

@@ -93,6 +93,11 @@ module _ (r s : FlatReply) (opens : List ℕ) (fs : List OpenAggregate) where
   flat-simple x h t z = flat-appended r s opens fs (tokens_of (SimpleString x)) (text_of (SimpleString x)) h
       (t ∙ ap (λ (ts : Tokens). r.tokens.items ++ placed (length r.text.items) ts) (sym (tokens_of_simple x))) (z ∙ ap (λ (y : List ℕ). r.text.items ++ y) (sym (text_of_simple x)))
 
+  pub flat-bytes : (x : List ℕ) → HoldsFlat r opens fs [] [] → s.tokens.items ≡ r.tokens.items ++ placed (length r.text.items) (sized token.BulkString (length x) ∷ []) → s.text.items ≡ r.text.items ++ x →
+      HoldsFlat s opens fs (tokens_of (BulkString x)) (text_of (BulkString x))
+  flat-bytes x h t z = flat-appended r s opens fs (tokens_of (BulkString x)) (text_of (BulkString x)) h
+      (t ∙ ap (λ (ts : Tokens). r.tokens.items ++ placed (length r.text.items) ts) (sym (tokens_of_bulk x))) (z ∙ ap (λ (y : List ℕ). r.text.items ++ y) (sym (text_of_bulk x)))
+
   -- a bulk string whose bytes are there
   pub flat-bulk : (x : List ℕ) (start n : ℕ) → HoldsFlat r opens fs [] x → start ≡ length (text_in fs) → n ≡ length r.text.items - start → s.tokens.items ≡ r.tokens.items ++ placed start (sized token.BulkString n ∷ []) → s.text.items ≡ r.text.items →
       HoldsFlat s opens fs (tokens_of (BulkString x)) (text_of (BulkString x))

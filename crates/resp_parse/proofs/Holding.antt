@@ -126,13 +126,13 @@ module _ {B : Type 0} (m new : Machine B) (u since : List ℕ) (h : Resumes m u 
   pub well_formed-from_reads : (n : ℕ) (v : Value) → Completes m u new n v → HasWellFormedPrefix m.depth since v (drop n u)
   well_formed-from_reads n v d = HasWellFormedPrefix-from_read m.depth since (drop n u) v (at_end ∙ d.same [] ∙ ap (λ r. got v r) (append-nil (drop n u)))
 
-  read-fault : (f : FrameFault) → Runs {M = Unit {0}} m u new (Err (Fault f)) → read m.depth since ≡ fault f (drop new.shown u)
+  read-fault : (f : FrameFault) → Runs m u new (Err (Fault f)) → read m.depth since ≡ fault f (drop new.shown u)
   read-fault f d = at_end ∙ d.0.1 [] ∙ ap (λ r. fault f r) (append-nil (drop new.shown u))
 
-  pub malformed-from_runs : (f : FrameFault) → Runs {M = Unit {0}} m u new (Err (Fault f)) → HasMalformedPrefix m.depth since f
+  pub malformed-from_runs : (f : FrameFault) → Runs m u new (Err (Fault f)) → HasMalformedPrefix m.depth since f
   malformed-from_runs f d = HasMalformedPrefix-from_read m.depth since (drop new.shown u) f (read-fault f d)
 
-  pub shown-from_runs : (f : FrameFault) (count : ℕ) → Runs {M = Unit {0}} m u new (Err (Fault f)) → count + length u ≡ length since → FaultShownBy m.depth since (count + new.shown)
+  pub shown-from_runs : (f : FrameFault) (count : ℕ) → Runs m u new (Err (Fault f)) → count + length u ≡ length since → FaultShownBy m.depth since (count + new.shown)
   shown-from_runs f count d l =
       let w : new.shown ≤ length u = d.0.0 in
       let r : length (drop new.shown u) ≡ length u - new.shown = grind (arith, common_steps) in

@@ -2,7 +2,6 @@
 use Rattle.std.proofs.Common.{◌≡◌, ℕ, ◌+◌, ◌<◌, ◌≤◌, true, false, List, [], ◌∷◌, ◌++◌, length, drop, refl, ap, sym, ◌∙◌, subst, arith, Some, None, Ok, Err}
 use Rattle.std.proofs.lemmas.Grind.{common_steps}
 use Rattle.resp_value.specs.declared.value.Value.{Value}
-use Rattle.resp_parse.specs.declared.whole.Whole.{Whole}
 use Rattle.resp_parse.specs.declared.read_error.ReadError.{ReadError}
 use Rattle.resp_parse.specs.declared.read_error.ReadError.TheVariants.{Memory, Fault}
 use Rattle.resp_parse.specs.declared.machine.Machine.{Machine}
@@ -27,7 +26,7 @@ pub Ran-start : {B : Type 0} (m : Machine B) (bytes : List ℕ) → length m.ope
 Ran-start m bytes l s = record { within = omega arith; same = λ more. refl; limit = refl; depth = l; scanned = s; fresh = λ _. refl; begun = λ _. refl }
 
 -- all bytes were taken
-pub Ran-end : {B : Type 0} (old m : Machine B) (bytes : List ℕ) (at : ℕ) → Ran old m bytes at → length bytes ≤ at → Runs {M = Unit {0}} old bytes m (Ok (at, None))
+pub Ran-end : {B : Type 0} (old m : Machine B) (bytes : List ℕ) (at : ℕ) → Ran old m bytes at → length bytes ≤ at → Runs old bytes m (Ok (at, None))
 Ran-end old m bytes at h l = record {
   within = h.within;
   same = h.same;
@@ -44,10 +43,10 @@ module _ {B : Type 0} (old m : Machine B) (bytes : List ℕ) (at : ℕ) (h : Ran
   within : (n : ℕ) → n ≤ length (drop at bytes) → at + n ≤ length bytes
   within n l = let w : at ≤ length bytes = h.within in grind (arith, common_steps)
 
-  pub Ran-malformed : (new end : Machine B) (f : FrameFault) → end.shown ≡ at + new.shown → at < length bytes → Steps {M = Unit {0}} m (drop at bytes) new (Err (Fault f)) → Runs {M = Unit {0}} old bytes end (Err (Fault f))
+  pub Ran-malformed : (new end : Machine B) (f : FrameFault) → end.shown ≡ at + new.shown → at < length bytes → Steps m (drop at bytes) new (Err (Fault f)) → Runs old bytes end (Err (Fault f))
   Ran-malformed new end f e l s = (rw e (within new.shown s.0, λ more. h.same more ∙ s.1 more ∙ ap (λ x. fault f (x ++ more)) (dropped new.shown)), omega arith)
 
-  pub Ran-waits : (new : Machine B) (n : ℕ) → Steps {M = Unit {0}} m (drop at bytes) new (Ok (step.Waits n)) → Runs {M = Unit {0}} old bytes new (Ok (at + n, None))
+  pub Ran-waits : (new : Machine B) (n : ℕ) → Steps m (drop at bytes) new (Ok (step.Waits n)) → Runs old bytes new (Ok (at + n, None))
   Ran-waits new n s = record {
     within = within n s.within;
     same = λ more. h.same more ∙ s.same more ∙ ap (λ x. resume new (x ++ more)) (dropped n);
@@ -70,24 +69,24 @@ module _ {B : Type 0} (old m : Machine B) (bytes : List ℕ) (at : ℕ) (h : Ran
     begun = λ e. absurd (omega arith);
   }
 
-  pub Ran-goes : (new : Machine B) (n : ℕ) → Steps {M = Unit {0}} m (drop at bytes) new (Ok (step.Goes n)) → new.depth ≡ m.depth → length new.open_aggregates ≤ new.depth → Ran old new bytes (at + n)
+  pub Ran-goes : (new : Machine B) (n : ℕ) → Steps m (drop at bytes) new (Ok (step.Goes n)) → new.depth ≡ m.depth → length new.open_aggregates ≤ new.depth → Ran old new bytes (at + n)
   Ran-goes new n s k l = Ran-takes new n s.0.some s.0.within s.0.same s.0.scanned s.1 k l
 
   -- a value is whole, and was put where it belongs
-  module _ {M : Type 0} (mid new : Machine B) (n : ℕ) (v : Whole M) (s : Steps m (drop at bytes) mid (Ok (step.Whole n v))) where
-    pub Ran-attaches : Ends {M = Unit {0}} (place mid.depth mid.open_aggregates v.seen) new (Ok None) → new.scanned ≡ mid.scanned → new.depth ≡ m.depth → length new.open_aggregates ≤ new.depth → Ran old new bytes (at + n)
+  module _ (mid new : Machine B) (n : ℕ) (v : Value) (s : Steps m (drop at bytes) mid (Ok (step.Whole n v))) where
+    pub Ran-attaches : Ends (place mid.depth mid.open_aggregates v) new (Ok None) → new.scanned ≡ mid.scanned → new.depth ≡ m.depth → length new.open_aggregates ≤ new.depth → Ran old new bytes (at + n)
     Ran-attaches e z k l =
         Ran-takes new n s.0.some s.0.within (λ more. s.0.same more ∙ e.0 (drop n (drop at bytes) ++ more)) (z ∙ s.0.scanned) e.1 k l
 
-    pub Ran-reads : (w : Whole M) → Ends (place mid.depth mid.open_aggregates v.seen) new (Ok (Some w)) → new.scanned ≡ mid.scanned → Runs old bytes new (Ok (at + n, Some w))
+    pub Ran-reads : (w : Value) → Ends (place mid.depth mid.open_aggregates v) new (Ok (Some w)) → new.scanned ≡ mid.scanned → Runs old bytes new (Ok (at + n, Some w))
     Ran-reads w e z = record {
       within = within n s.0.within;
-      same = λ more. h.same more ∙ s.0.same more ∙ e.0 (drop n (drop at bytes) ++ more) ∙ ap (λ x. got w.seen (x ++ more)) (dropped n);
+      same = λ more. h.same more ∙ s.0.same more ∙ e.0 (drop n (drop at bytes) ++ more) ∙ ap (λ x. got w (x ++ more)) (dropped n);
       fresh = e.1;
       scanned = z ∙ s.0.scanned;
     }
 
-    pub Ran-refused : (end : Machine B) (e : ReadError) → end.shown ≡ at + n → at < length bytes → Ends {M = Unit {0}} (place mid.depth mid.open_aggregates v.seen) new (Err e) → Runs {M = Unit {0}} old bytes end (Err e)
+    pub Ran-refused : (end : Machine B) (e : ReadError) → end.shown ≡ at + n → at < length bytes → Ends (place mid.depth mid.open_aggregates v) new (Err e) → Runs old bytes end (Err e)
     Ran-refused end Memory i l k = (tt, omega arith)
     Ran-refused end (Fault f) i l k = (
       rw i (within n s.0.within, λ more. h.same more ∙ s.0.same more ∙ k (drop n (drop at bytes) ++ more) ∙ ap (λ x. fault f (x ++ more)) (dropped n)),

@@ -44,7 +44,7 @@ module _ {B : Type 0} (m : Machine B) (b : B) where
     few = h.few;
   }
 
-module _ {B M R : Type 0} (S : Stands B M) (p : Inside B M R) where
+module _ {B R : Type 0} (S : Stands B) (p : Inside B R) where
   Invariant-rebuilt : (b : B) → (p.failed ≡ false → S b p.machine.open_aggregates (progress_of p.machine.body)) → Invariant S p → Invariant S (record p { machine = record p.machine { builder = b } })
   Invariant-rebuilt b k h = record {
     consumed = h.consumed;

@@ -59,7 +59,7 @@ module _ {B : Type 0} (most count : ℕ) (buffer since : List ℕ) (consumed : �
   scanned-front = resumes-front.scanned
 
   -- the value may have all bytes, and more are needed
-  module _ (n : ℕ) (none : later ≡ []) (d : Runs {M = Unit {0}} m front new (Ok (n, None))) where
+  module _ (n : ℕ) (none : later ≡ []) (d : Runs m front new (Ok (n, None))) where
     all : front ≡ u
     all = sym (parts ∙ ap (λ x. front ++ x) none ∙ append-nil front)
 
@@ -126,7 +126,7 @@ module _ {B : Type 0} (most count : ℕ) (buffer since : List ℕ) (consumed : �
         }
 
   -- no value can be read
-  module _ (e : ReadError) (d : Runs {M = Unit {0}} m front new (Err e)) where
+  module _ (e : ReadError) (d : Runs m front new (Err e)) where
     pub stops-holds : Holds new (drop consumed buffer) since true
     stops-holds = let l : 0 < length front = d.1 in Holds-failed m new (drop consumed buffer) since failed h (subst (λ (x : List ℕ). 0 < length x) u_is (omega (arith, l, u-size)))
 
@@ -135,12 +135,12 @@ module _ {B : Type 0} (most count : ℕ) (buffer since : List ℕ) (consumed : �
         let most-looked : e'.examined + m.scanned ≤ t.examined + length u = (let z = p.0.most in omega (arith, z, u-size)) in
         Counted-stopped m new u c t e' failed (subst (λ y. Counted m y c failed) (sym u_is) k) w i (record { same = p.0.same; once = p.0.once; most = most-looked }, p.1) (drop consumed buffer)
 
-  pub stops-fault : {aside : ℕ} (s : State) → s.limits ≡ limits_of new most aside → s.failed ≡ true → s.since ≡ since → (f : FrameFault) → Runs {M = Unit {0}} m front new (Err (record_fault.Fault f)) → (b : List ℕ) → b ≡ since → Takes b s (Err (form.Parse (parsing.Fault f)))
+  pub stops-fault : {aside : ℕ} (s : State) → s.limits ≡ limits_of new most aside → s.failed ≡ true → s.since ≡ since → (f : FrameFault) → Runs m front new (Err (record_fault.Fault f)) → (b : List ℕ) → b ≡ since → Takes b s (Err (form.Parse (parsing.Fault f)))
   stops-fault {aside} s l k y f d b e =
       let here : HasFault (limits_of m most aside) since f = within (malformed-from_runs m new front (take most since) resumes-front f d) in
       (CannotTake.malformed f refl (rw (l ∙ ap (λ x. record { depth = x; bytes = most; pushes = aside }) same) (subst (λ x. HasFault (limits_of m most aside) x f) (sym e) here)), FailedAfter-from_since s b k (e ∙ sym y))
 
-  pub stops-placed : {aside : ℕ} (f : FrameFault) → Runs {M = Unit {0}} m front new (Err (record_fault.Fault f)) → Placed (limits_of new most aside) (Some (count + new.shown)) since true
+  pub stops-placed : {aside : ℕ} (f : FrameFault) → Runs m front new (Err (record_fault.Fault f)) → Placed (limits_of new most aside) (Some (count + new.shown)) since true
   stops-placed {aside} f d = rw same (record {
     works = λ z. absurd (let y : true ≡ false = z in cc);
     shows = within (shown-from_runs m new front (take most since) resumes-front f count d size);
@@ -150,7 +150,7 @@ module _ {B : Type 0} (most count : ℕ) (buffer since : List ℕ) (consumed : �
   stops-memory s k y b e = (CannotTake.out_of_memory refl, FailedAfter-from_since s b k (e ∙ sym y))
 
   -- the value in progress is longer than one may be
-  module _ (n : ℕ) (some : later ≢ []) (d : Runs {M = Unit {0}} m front new (Ok (n, None))) where
+  module _ (n : ℕ) (some : later ≢ []) (d : Runs m front new (Ok (n, None))) where
     later-size : 0 < length later
     later-size = by_length later some
       where

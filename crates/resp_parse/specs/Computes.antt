@@ -3,7 +3,6 @@
 use Rattle.std.specs.Prelude.{◌≡◌, Result, Ok, Err}
 use Rattle.resp_value.specs.declared.value.Value.{Value}
 use Rattle.resp_errors.specs.declared.kinds.FrameFault.{FrameFault}
-use Rattle.resp_parse.specs.declared.whole.Whole.{Whole}
 use Rattle.resp_parse.specs.declared.read_error.ReadError.{ReadError}
 use Rattle.resp_parse.specs.declared.read_error.ReadError.TheVariants.{Memory, Fault}
 
@@ -12,9 +11,3 @@ abbrev pub Computes : {X : Type 0} → Result X ReadError → Result X FrameFaul
 Computes (Ok x) r = r ≡ Ok x
 Computes (Err Memory) r = Unit {0}
 Computes (Err (Fault f)) r = r ≡ Err f
-
--- the same of a value that is whole
-abbrev pub ComputesSeen : {M : Type 0} → Result (Whole M) ReadError → Result Value FrameFault → Type 0
-ComputesSeen (Ok w) r = r ≡ Ok w.seen
-ComputesSeen (Err Memory) r = Unit {0}
-ComputesSeen (Err (Fault f)) r = r ≡ Err f

@@ -8,7 +8,6 @@ use Rattle.resp_parse.specs.declared.open_aggregates.OpenAggregate.{OpenAggregat
 use Rattle.resp_parse.specs.declared.body.Body.{Body}
 use Rattle.resp_parse.specs.declared.line.Line.{Line}
 use Rattle.resp_parse.specs.declared.machine.Machine.{Machine}
-use Rattle.resp_parse.specs.declared.whole.Whole.{Whole}
 use Rattle.resp_parse.specs.declared.machine.Step.{Step}
 use Rattle.resp_parse.specs.declared.machine.Step.TheVariants as step
 use Rattle.resp_parse.specs.Built.{built}
@@ -42,18 +41,18 @@ abbrev pub least_bytes : {B : Type 0} → Machine B → ℕ
 least_bytes m = body_least_bytes m.body + aggregates_least_bytes m.open_aggregates
 
 -- the machine and a whole value are built within n bytes
-abbrev pub BuiltWithin : {B M : Type 0} → Machine B → ℕ → Result (Option (Whole M)) ReadError → Type 0
+abbrev pub BuiltWithin : {B : Type 0} → Machine B → ℕ → Result (Option Value) ReadError → Type 0
 BuiltWithin new n (Ok None) = least_bytes new ≤ n
-BuiltWithin new n (Ok (Some w)) = least_bytes new + 3 * built w.seen ≤ n
+BuiltWithin new n (Ok (Some w)) = least_bytes new + 3 * built w ≤ n
 BuiltWithin new n (Err e) = Unit {0}
 
-abbrev pub StepBuiltWithin : {B M : Type 0} → Machine B → Machine B → Result (Step M) ReadError → Type 0
+abbrev pub StepBuiltWithin : {B : Type 0} → Machine B → Machine B → Result Step ReadError → Type 0
 StepBuiltWithin old new (Ok (step.Waits n)) = least_bytes new ≤ least_bytes old + n
 StepBuiltWithin old new (Ok (step.Goes n)) = least_bytes new ≤ least_bytes old + n
-StepBuiltWithin old new (Ok (step.Whole n w)) = least_bytes new + 3 * built w.seen ≤ least_bytes old + n
+StepBuiltWithin old new (Ok (step.Whole n w)) = least_bytes new + 3 * built w ≤ least_bytes old + n
 StepBuiltWithin old new (Err e) = Unit {0}
 
-abbrev pub RunBuiltWithin : {B M : Type 0} → Machine B → Machine B → Result (ℕ × Option (Whole M)) ReadError → Type 0
+abbrev pub RunBuiltWithin : {B : Type 0} → Machine B → Machine B → Result (ℕ × Option Value) ReadError → Type 0
 RunBuiltWithin old new (Ok (n, o)) = BuiltWithin new (least_bytes old + n) (Ok o)
 RunBuiltWithin old new (Err e) = Unit {0}
 
@@ -99,7 +98,7 @@ LooksForNumeral bytes c d (Ok l) = LooksAt 0 bytes c d (Some l.len)
 LooksForNumeral bytes c d (Err n) = LooksAlone c d × (d.iterations ≤ c.iterations + (n - 1))
 
 -- a value is begun: one that is whole prepays nothing, another one iteration
-abbrev pub Begins : {B M : Type 0} → Machine B → Machine B → Result (Option (Whole M)) ReadError → Type 0
+abbrev pub Begins : {B : Type 0} → Machine B → Machine B → Result (Option Value) ReadError → Type 0
 Begins old new (Ok (Some v)) = prepaid new ≤ prepaid old
 Begins old new (Ok None) = prepaid new ≤ prepaid old + 1
 Begins old new (Err e) = Unit {0}
@@ -123,7 +122,7 @@ pub record Stopped {B : Type 0} (old : Machine B) (c d : Counts) (n : ℕ) : Typ
 
 -- one iteration for each byte examined pays for reading a header; what it begins keeps one more,
 -- and a whole value two
-abbrev pub HeaderCost : {B M : Type 0} → Machine B → Machine B → List ℕ → Counts → Counts → Result (Step M) ReadError → Type 0
+abbrev pub HeaderCost : {B : Type 0} → Machine B → Machine B → List ℕ → Counts → Counts → Result Step ReadError → Type 0
 HeaderCost old new bytes c d (Ok (step.Waits n)) = Looks old new c d n
     × (d.iterations + potential new + c.examined ≤ c.iterations + potential old + d.examined)
 HeaderCost old new bytes c d (Ok (step.Goes n)) = Looks old new c d n
@@ -134,7 +133,7 @@ HeaderCost old new bytes c d (Err e) = Stopped old c d (length bytes)
     × (d.iterations + c.examined ≤ c.iterations + potential old + d.examined)
 
 -- a step costs as much, after its own iteration
-abbrev pub StepCost : {B M : Type 0} → Machine B → Machine B → List ℕ → Counts → Counts → Result (Step M) ReadError → Type 0
+abbrev pub StepCost : {B : Type 0} → Machine B → Machine B → List ℕ → Counts → Counts → Result Step ReadError → Type 0
 StepCost old new bytes c d r =
     HeaderCost old new bytes (record c { iterations = c.iterations + 1 }) d r
 

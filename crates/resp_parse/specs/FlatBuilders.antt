@@ -50,12 +50,11 @@ IsPaidFor reply fs = 3 * length reply.tokens.items ≤ 2 * aggregates_least_byte
 
 -- this reply, the places of the tokens of open aggregates, and where the bytes of a body begin are
 -- what was built
-abbrev pub BuildsFlat : FlatReply → List ℕ → ℕ → List OpenAggregate → Progress (Unit {0}) → Type 0
+abbrev pub BuildsFlat : FlatReply → List ℕ → ℕ → List OpenAggregate → Progress → Type 0
 BuildsFlat reply opens start fs nothing = HoldsFlat reply opens fs [] [] × IsPaidFor reply fs
 BuildsFlat reply opens start fs (filling x) =
     (HoldsFlat reply opens fs [] x × IsPaidFor reply fs) × (start ≡ length (text_in fs))
-BuildsFlat reply opens start fs (whole w) =
-    HoldsFlat reply opens fs (tokens_of w.seen) (text_of w.seen)
+BuildsFlat reply opens start fs (whole v) = HoldsFlat reply opens fs (tokens_of v) (text_of v)
 
 tokens-paid_for : (reply : FlatReply) (opens : List ℕ) (start : ℕ) (fs : List OpenAggregate)
     (body : Option Body) → BuildsFlat reply opens start fs (progress_of body) → IsPaidFor reply fs

@@ -73,7 +73,7 @@ pub data PassesLimit (most : ℕ) (e : RedisError) (offset : Option ℕ) : Type 
 abbrev pub limits_of : {B : Type 0} → Machine B → ℕ → ℕ → Limits
 limits_of m most pushes = record { depth = m.depth; bytes = most; pushes = pushes }
 
-pub record Invariant {B M R : Type 0} (S : Stands B M) (p : Inside B M R) : Type 0 where
+pub record Invariant {B R : Type 0} (S : Stands B) (p : Inside B R) : Type 0 where
   pub consumed : p.consumed ≤ length p.buffer.items
   pub limits : AreLimits (limits_of p.machine p.size_limit p.push_limit)
   pub depth : length p.machine.open_aggregates ≤ p.machine.depth

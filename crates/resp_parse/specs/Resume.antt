@@ -8,8 +8,9 @@ use Rattle.resp_parse.specs.declared.read_error.ReadError.TheVariants.{Memory, F
 use Rattle.resp_parse.specs.declared.open_aggregates.OpenAggregate.{OpenAggregate}
 use Rattle.resp_parse.specs.declared.body.Body.{Body}
 use Rattle.resp_parse.specs.declared.line.Line.{Line}
+use Rattle.resp_parse.specs.declared.type_byte.TypeByte.{TypeByte}
+use Rattle.resp_parse.specs.declared.type_byte.TypeByte.TheVariants as type_byte
 use Rattle.resp_parse.specs.declared.machine.Machine.{Machine}
-use Rattle.resp_parse.specs.declared.whole.Whole.{Whole}
 use Rattle.resp_parse.specs.declared.machine.Step.{Step}
 use Rattle.resp_parse.specs.declared.machine.Step.TheVariants as step
 use Rattle.resp_parse.specs.Building.{Stands, whole, progress_of}
@@ -72,19 +73,19 @@ FaultsWithin before bytes n (Fault f) = (n ≤ length bytes)
 
 -- from `before`, by the bytes that come, the machine has come to `new`, and a body or an aggregate
 -- is open; with Some, the value in progress is whole
-abbrev pub Goes : {B M : Type 0} → (List ℕ → ReadOutcome Value) → Machine B → Result (Option (Whole M)) ReadError → Type 0
+abbrev pub Goes : {B : Type 0} → (List ℕ → ReadOutcome Value) → Machine B → Result (Option Value) ReadError → Type 0
 Goes before new (Ok None) =
     ((more : List ℕ) → before more ≡ resume new more) × (fresh_of new.body new.open_aggregates ≡ false)
 Goes before new (Ok (Some w)) =
-    ((more : List ℕ) → before more ≡ place new.depth new.open_aggregates w.seen more) × (new.body ≡ None)
+    ((more : List ℕ) → before more ≡ place new.depth new.open_aggregates w more) × (new.body ≡ None)
 Goes before new (Err e) = FaultsAtOnce before e
 
 -- the same, with Some where the outermost value is whole
-abbrev pub Ends : {B M : Type 0} → (List ℕ → ReadOutcome Value) → Machine B → Result (Option (Whole M)) ReadError → Type 0
+abbrev pub Ends : {B : Type 0} → (List ℕ → ReadOutcome Value) → Machine B → Result (Option Value) ReadError → Type 0
 Ends before new (Ok None) =
     ((more : List ℕ) → before more ≡ resume new more) × (fresh_of new.body new.open_aggregates ≡ false)
 Ends before new (Ok (Some w)) =
-    ((more : List ℕ) → before more ≡ got w.seen more) × (fresh_of new.body new.open_aggregates ≡ true)
+    ((more : List ℕ) → before more ≡ got w more) × (fresh_of new.body new.open_aggregates ≡ true)
 Ends before new (Err e) = FaultsAtOnce before e
 
 -- the length of the first line's text, or none
@@ -111,6 +112,18 @@ EndsBody bs (Ok false) = end_of_body bs ≡ incomplete
 EndsBody bs (Err n) = (n ≤ length bs)
     × ((more : List ℕ) → end_of_body (bs ++ more) ≡ fault BodyEnd (drop n bs ++ more))
 
+-- the bytes begin with this body of n bytes and its CR LF
+pub record BeginsWithBody (n : ℕ) (bs body : List ℕ) : Type 0 where
+  pub within : n + 2 ≤ length bs
+  pub size : length body ≡ n
+  pub reads : (more : List ℕ) → read_body n (bs ++ more) ≡ got body (drop (n + 2) bs ++ more)
+
+-- and the line before them announced it, as a bulk string whose length is this number
+pub record BeginsWithBulk (kind : TypeByte) (number : Option ℕ) (bs body : List ℕ) : Type 0 where
+  pub kind_is : kind ≡ type_byte.BulkString
+  pub number_is : number ≡ Some (length body)
+  pub begins : BeginsWithBody (length body) bs body
+
 -- a body took n bytes: all, or as many as it lacked
 abbrev pub FillsBody : {E : Type 0} → Body → List ℕ → Body → Result ℕ E → Type 0
 FillsBody old bytes new (Ok n) = (n ≡ min (length bytes) old.missing)
@@ -135,12 +148,12 @@ pub record Consumes {B : Type 0} (old : Machine B) (bytes : List ℕ) (new : Mac
   pub scanned : new.scanned ≡ 0
 
 -- what one step does
-abbrev pub Steps : {B M : Type 0} → Machine B → List ℕ → Machine B → Result (Step M) ReadError → Type 0
+abbrev pub Steps : {B : Type 0} → Machine B → List ℕ → Machine B → Result Step ReadError → Type 0
 Steps old bytes new (Ok (step.Waits n)) = Waits old bytes new n
 Steps old bytes new (Ok (step.Goes n)) =
     Consumes old bytes new (resume new) n × (fresh_of new.body new.open_aggregates ≡ false)
 Steps old bytes new (Ok (step.Whole n w)) =
-    Consumes old bytes new (place new.depth new.open_aggregates w.seen) n × (new.body ≡ None)
+    Consumes old bytes new (place new.depth new.open_aggregates w) n × (new.body ≡ None)
 Steps old bytes new (Err e) = FaultsWithin (resume old) bytes new.shown e
 
 -- a value was read, and n bytes taken
@@ -151,8 +164,8 @@ pub record Completes {B : Type 0} (old : Machine B) (bytes : List ℕ) (new : Ma
   pub scanned : new.scanned ≡ 0
 
 -- what all steps do until a value is whole or more bytes are needed
-abbrev pub Runs : {B M : Type 0} → Machine B → List ℕ → Machine B → Result (ℕ × Option (Whole M)) ReadError → Type 0
-Runs old bytes new (Ok (n, Some w)) = Completes old bytes new n w.seen
+abbrev pub Runs : {B : Type 0} → Machine B → List ℕ → Machine B → Result (ℕ × Option Value) ReadError → Type 0
+Runs old bytes new (Ok (n, Some w)) = Completes old bytes new n w
 Runs old bytes new (Ok (n, None)) = Waits old bytes new n
 Runs old bytes new (Err e) =
     FaultsWithin (resume old) bytes new.shown e × (0 < length bytes)
@@ -165,17 +178,17 @@ ReadsInto shows old bytes new before after (Err e) =
     (FaultsWithin (resume old) bytes new.shown e × (0 < length bytes)) × (after ≡ before)
 
 -- what is built then, where memory doesn't run out and no fault is met
-abbrev pub BuildsThen : {B M : Type 0} → Stands B M → Machine B → Result (Option (Whole M)) ReadError → Type 0
+abbrev pub BuildsThen : {B : Type 0} → Stands B → Machine B → Result (Option Value) ReadError → Type 0
 BuildsThen S m (Ok None) = S m.builder m.open_aggregates (progress_of m.body)
 BuildsThen S m (Ok (Some w)) = S m.builder m.open_aggregates (whole w)
 BuildsThen S m (Err e) = Unit {0}
 
-abbrev pub StepBuilds : {B M : Type 0} → Stands B M → Machine B → Result (Step M) ReadError → Type 0
+abbrev pub StepBuilds : {B : Type 0} → Stands B → Machine B → Result Step ReadError → Type 0
 StepBuilds S m (Ok (step.Waits n)) = BuildsThen S m (Ok None)
 StepBuilds S m (Ok (step.Goes n)) = BuildsThen S m (Ok None)
 StepBuilds S m (Ok (step.Whole n w)) = BuildsThen S m (Ok (Some w))
 StepBuilds S m (Err e) = Unit {0}
 
-abbrev pub RunBuilds : {B M : Type 0} → Stands B M → Machine B → Result (ℕ × Option (Whole M)) ReadError → Type 0
+abbrev pub RunBuilds : {B : Type 0} → Stands B → Machine B → Result (ℕ × Option Value) ReadError → Type 0
 RunBuilds S m (Ok (n, o)) = BuildsThen S m (Ok o)
 RunBuilds S m (Err e) = Unit {0}

@@ -16,6 +16,7 @@ use Rattle.resp_parse.specs.Building.{Progress, nothing, filling, whole, progres
 use Rattle.resp_parse.specs.Built.{built, built_step}
 use Rattle.resp_parse.specs.Costs.{built_of, aggregates_least_bytes, PaidFor}
 use Rattle.resp_parse.specs.KeptElements.{padded, kept_as}
+use Rattle.resp_parse.specs.OpenAggregates.{with_element}
 
 -- the elements of open aggregates, the outermost first
 abbrev pub elements_of : List OpenAggregate → List Elements
@@ -28,13 +29,17 @@ HoldsElements outer elements [] = (outer ≡ []) × (elements ≡ Values [])
 HoldsElements outer elements (f ∷ fs) =
     (outer ≡ Values [] ∷ elements_of fs) × (elements ≡ kept_as f.kind f.seen)
 
+-- the same, and one value after them, alone where no aggregate is open
+abbrev pub HoldsWhole : List Elements → Elements → List OpenAggregate → Value → Type 0
+HoldsWhole outer elements [] v = (outer ≡ []) × (elements ≡ Values (v ∷ []))
+HoldsWhole outer elements (f ∷ fs) v = HoldsElements outer elements (with_element f v ∷ fs)
+
 -- these elements, and these bytes of a body, are what was built
 abbrev pub BuildsTree : List Elements → Elements → List ℕ → List OpenAggregate →
-    Progress Value → Type 0
+    Progress → Type 0
 BuildsTree outer elements bytes fs nothing = HoldsElements outer elements fs
 BuildsTree outer elements bytes fs (filling x) = HoldsElements outer elements fs × (bytes ≡ x)
-BuildsTree outer elements bytes fs (whole w) =
-    HoldsElements outer elements fs × (w.made ≡ w.seen)
+BuildsTree outer elements bytes fs (whole v) = HoldsWhole outer elements fs v
 
 -- how many values stand in elements, those inside others too, and nil beside a key
 abbrev pub built_of_pair : Value × Value → ℕ

@@ -189,7 +189,7 @@ impl<B: Builder> Decoder<B> {
     }
 
     /// Reads on.
-    fn read(&mut self, out: &mut B::Reply) -> Result<bool, ReadError>
+    pub(crate) fn read(&mut self, out: &mut B::Reply) -> Result<bool, ReadError>
         requires works { self.old.failed ≡ false }
         ensures takes { (b : List ℕ) → StandsAfter self.old b →
             TakesInto B.shows b self.new out.old out.new (answered result) }
@@ -361,7 +361,7 @@ pub(crate) fn failed_before() -> RedisError
 }
 
 /// What a call answers where a value can't be read.
-fn refusal(why: ReadError) -> RedisError
+pub(crate) fn refusal(why: ReadError) -> RedisError
     ensures refusal { result ≡ refusal_of why }
 {
     match why {

@@ -1,12 +1,14 @@
 //! The elements so far of an open aggregate.
 
-ghost use Rattle.std.specs.Prelude.{◌≡◌, ◌∷◌, ◌++◌, [], List, OnOk};
+ghost use Rattle.std.specs.Prelude.{◌≡◌, ◌-◌, ◌∷◌, ◌++◌, [], List, length, take, Some, OnOk, IfOk};
 ghost use Rattle.resp_value.specs.declared.value.Value.{Value};
 ghost use Rattle.resp_value.specs.Views.{pairs as pairs_of};
 ghost use Rattle.resp_parse.specs.declared.shape.ElementsKind.{ElementsKind};
 ghost use Rattle.resp_parse.specs.declared.elements.Elements.TheVariants as kept;
+ghost use Rattle.resp_parse.specs.Grammar.{attribute, last_element};
 ghost use Rattle.resp_parse.specs.KeptElements.{kept_as, padded, is_odd};
 
+use crate::value_of::attribute_of;
 use resp_value::{Items, Value};
 use std::alloc::{AllocError, Global};
 use std::mem;
@@ -31,6 +33,18 @@ impl Elements {
         match self {
             Elements::Values(values) => values.push(element),
             Elements::Pairs(pairs, odd) => add(pairs, odd, element),
+        }
+    }
+
+    /// Takes the last value; none where these are pairs.
+    #[inline(always)]
+    pub(crate) fn pop(&mut self) -> Option<Value>
+        ensures last { (v : Value) → self.old ≡ kept.Values (v ∷ []) →
+            (result ≡ Some v) × (self.new ≡ kept.Values []) }
+    {
+        match self {
+            Elements::Values(values) => values.pop(),
+            Elements::Pairs(_, _) => None,
         }
     }
 
@@ -59,6 +73,42 @@ impl Elements {
             }
         }
     }
+
+    /// The attribute of these: pairs, and then its data.
+    pub(crate) fn into_attribute(self, alloc: Global) -> Result<Value, AllocError>
+        ensures value { (vs : List Value) → self ≡ kept.Pairs (padded vs) (is_odd vs) →
+            IfOk result (λ v. v ≡ attribute vs) }
+    {
+        match self {
+            Elements::Values(_) => attribute_of(alloc, Value::Nil, Items::new(alloc)),
+            Elements::Pairs(mut pairs, odd) => {
+                let data = take_last(&mut pairs, odd);
+                attribute_of(alloc, data, fitted(alloc, pairs)?)
+            }
+        }
+    }
+}
+
+/// Takes the last of the elements that stand in pairs, which is a key where there is an odd number of
+/// them; nil where there is none. The pairs before it stay, but for a key that has no value.
+fn take_last(pairs: &mut Items<(Value, Value)>, odd: bool) -> Value
+    ensures last { (vs : List Value) → pairs.old ≡ padded vs → odd ≡ is_odd vs →
+        (result ≡ last_element vs)
+        × (pairs.new ≡ pairs_of (take (length vs - 1) vs)) }
+{
+    match pairs.pop() {
+        Some((key, value)) => if odd { key } else { value },
+        None => Value::Nil,
+    }
+}
+
+/// The same pairs, in no more memory than they need.
+fn fitted(alloc: Global, pairs: Items<(Value, Value)>) -> Result<Items<(Value, Value)>, AllocError>
+    ensures same { IfOk result (λ fitted. fitted ≡ pairs) }
+{
+    let mut fitted = Vec::with_capacity(alloc, pairs.len())?;
+    fitted.append(&mut pairs.into_vec())?;
+    Ok(fitted.into())
 }
 
 /// One element more in pairs: a key, or the value of the last key.

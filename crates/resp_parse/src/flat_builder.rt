@@ -5,7 +5,7 @@ ghost use Rattle.std.specs.Str.{is_utf8};
 ghost use Rattle.resp_value.specs.declared.value.Value.{BulkString};
 ghost use Rattle.resp_parse.specs.declared.open_aggregates.OpenAggregate.{OpenAggregate};
 ghost use Rattle.resp_parse.specs.Building.{filling, whole};
-ghost use Rattle.resp_parse.specs.Computes.{ComputesSeen};
+ghost use Rattle.resp_parse.specs.Computes.{Computes};
 ghost use Rattle.resp_parse.specs.FlatBuilders.{BuildsFlat, names_kind, with_name};
 ghost use Rattle.resp_parse.specs.Shapes.{body_value};
 
@@ -15,7 +15,6 @@ use crate::open_aggregates::OpenAggregate;
 use crate::read_error::ReadError;
 use crate::seen::SeenValue;
 use crate::shape::{BodyKind, ElementsKind};
-use crate::whole::Whole;
 use resp_flat::{FlatReply, Token, TokenKind};
 use resp_value::{Bytes, FrameFault, Value};
 use std::alloc::{AllocError, Global};
@@ -33,13 +32,13 @@ pub(crate) struct FlatBuilder {
 
 impl FlatBuilder {
     /// The bytes of the body are a bulk string.
-    fn bulk(&mut self, body: &Body) -> Result<Whole<()>, AllocError>
-        ensures seen { IfOk result (λ w. w.seen ≡ BulkString body.now.seen) }
+    fn bulk_body(&mut self, body: &Body) -> Result<SeenValue, AllocError>
+        ensures seen { IfOk result (λ v. v ≡ BulkString body.now.seen) }
         ensures stands { (fs : List OpenAggregate) →
             BuildsFlat self.old.reply self.old.opens.items self.old.start fs
             (filling body.now.seen) →
-            IfOk result (λ w.
-            BuildsFlat self.new.reply self.new.opens.items self.new.start fs (whole w)) }
+            IfOk result (λ v.
+            BuildsFlat self.new.reply self.new.opens.items self.new.start fs (whole v)) }
     {
         self.reply.tokens.push(Token {
             kind: TokenKind::BulkString,
@@ -47,19 +46,19 @@ impl FlatBuilder {
             number: 0,
             start: self.start,
         })?;
-        Ok(whole(SeenValue::bulk(&body.seen)))
+        Ok(SeenValue::bulk(&body.seen))
     }
 
     /// The bytes of the body are an error or a verbatim string.
     #[inline(never)]
-    fn text_body(&mut self, alloc: Global, kind: BodyKind) -> Result<Whole<()>, ReadError>
+    fn text_body(&mut self, alloc: Global, kind: BodyKind) -> Result<SeenValue, ReadError>
         ensures value { (fs : List OpenAggregate) (x : List ℕ) →
             BuildsFlat self.old.reply self.old.opens.items self.old.start fs (filling x) →
-            ComputesSeen result (body_value kind x) }
+            Computes result (body_value kind x) }
         ensures stands { (fs : List OpenAggregate) (x : List ℕ) →
             BuildsFlat self.old.reply self.old.opens.items self.old.start fs (filling x) →
-            IfOk result (λ w.
-            BuildsFlat self.new.reply self.new.opens.items self.new.start fs (whole w)) }
+            IfOk result (λ v.
+            BuildsFlat self.new.reply self.new.opens.items self.new.start fs (whole v)) }
     {
         let start = self.start.min(self.reply.text.len());
         let bytes = Bytes::from_slice(alloc, &self.reply.text[start..])?;
@@ -85,19 +84,10 @@ impl FlatBuilder {
     }
 }
 
-/// The value that is seen, which the reply holds itself.
-fn whole(seen: SeenValue) -> Whole<()>
-    ensures seen { result.seen ≡ seen }
-{
-    Whole { made: (), seen }
-}
-
 impl Builder for FlatBuilder {
     ghost use Rattle.std.specs.Prelude.{length};
     ghost use Rattle.resp_flat.specs.FlatReplies.{IsFlatOf};
     ghost use Rattle.resp_parse.specs.FlatBuilders.{flat-paid_for};
-
-    type Made = ();
 
     type Reply = FlatReply;
 
@@ -117,23 +107,23 @@ impl Builder for FlatBuilder {
         }
     }
 
-    fn leaf(&mut self, value: Value) -> Result<Whole<()>, AllocError> {
+    fn leaf(&mut self, value: Value) -> Result<SeenValue, AllocError> {
         let seen = SeenValue::of(&value);
         self.reply.append(&value)?;
-        Ok(whole(seen))
+        Ok(seen)
     }
 
-    fn int(&mut self, n: i64) -> Result<Whole<()>, AllocError> {
+    fn int(&mut self, n: i64) -> Result<SeenValue, AllocError> {
         self.reply.tokens.push(Token {
             kind: TokenKind::Int,
             size: 0,
             number: n,
             start: self.reply.text.len(),
         })?;
-        Ok(whole(SeenValue::of(&Value::Int(n))))
+        Ok(SeenValue::of(&Value::Int(n)))
     }
 
-    fn simple(&mut self, _alloc: Global, text: &str) -> Result<Whole<()>, AllocError> {
+    fn simple(&mut self, _alloc: Global, text: &str) -> Result<SeenValue, AllocError> {
         if text == "OK" {
             return self.leaf(Value::Okay);
         }
@@ -145,7 +135,19 @@ impl Builder for FlatBuilder {
             number: 0,
             start,
         })?;
-        Ok(whole(SeenValue::simple(text)))
+        Ok(SeenValue::simple(text))
+    }
+
+    fn bulk(&mut self, _alloc: Global, bytes: &[u8]) -> Result<SeenValue, AllocError> {
+        let start = self.reply.text.len();
+        self.reply.text.extend_from_slice(bytes)?;
+        self.reply.tokens.push(Token {
+            kind: TokenKind::BulkString,
+            size: bytes.len(),
+            number: 0,
+            start,
+        })?;
+        Ok(SeenValue::bulk_of(bytes))
     }
 
     fn begin_body(&mut self, _alloc: Global, _missing: usize) -> Result<(), AllocError> {
@@ -158,9 +160,9 @@ impl Builder for FlatBuilder {
         self.reply.text.extend_from_slice(part)
     }
 
-    fn end_body(&mut self, alloc: Global, body: &Body) -> Result<Whole<()>, ReadError> {
+    fn end_body(&mut self, alloc: Global, body: &Body) -> Result<SeenValue, ReadError> {
         match body.kind {
-            BodyKind::Bulk => Ok(self.bulk(body)?),
+            BodyKind::Bulk => Ok(self.bulk_body(body)?),
             kind => self.text_body(alloc, kind),
         }
     }
@@ -184,27 +186,22 @@ impl Builder for FlatBuilder {
     }
 
     #[inline(always)]
-    fn keep(&mut self, _made: ()) -> Result<(), AllocError> {
+    fn keep(&mut self) -> Result<(), AllocError> {
         Ok(())
     }
 
-    fn close(
-        &mut self,
-        _alloc: Global,
-        closed: &OpenAggregate,
-        _made: (),
-    ) -> Result<Whole<()>, ReadError> {
+    fn close(&mut self, _alloc: Global, closed: &OpenAggregate) -> Result<SeenValue, ReadError> {
         let token = self.opens.pop().unwrap_or(0);
         if let ElementsKind::Push = closed.kind {
             if !self.name_push(token) {
                 return Err(ReadError::Fault(FrameFault::BadPushKind));
             }
         }
-        Ok(whole(SeenValue::elements(closed.kind, &closed.seen)))
+        Ok(SeenValue::elements(closed.kind, &closed.seen))
     }
 
     /// The next flat reply is built in the memory of the one before.
-    fn put(&mut self, _made: (), out: &mut FlatReply) {
+    fn put(&mut self, out: &mut FlatReply) {
         mem::swap(out, &mut self.reply);
         self.reply.clear();
     }

@@ -24,7 +24,6 @@ mod source;
 mod tree_builder;
 mod type_byte;
 mod value_of;
-mod whole;
 
 pub use decoder::parse_redis_value;
 pub use double::is_double_text;

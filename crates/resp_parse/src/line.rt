@@ -3,10 +3,11 @@
 ghost use Rattle.std.specs.Prelude.{IfSome, take};
 ghost use Rattle.resp_parse.specs.Lines.{Scanned};
 ghost use Rattle.resp_parse.specs.Number.{IsNumeral};
-ghost use Rattle.resp_parse.specs.Resume.{FindsLine, FindsNumeral, EndsBody, len_of};
+ghost use Rattle.resp_parse.specs.Resume.{FindsLine, FindsNumeral, EndsBody, BeginsWithBody, BeginsWithBulk, len_of};
 ghost use Rattle.resp_parse.specs.Costs.{LooksAt, LooksForNumeral};
 
 use crate::decoder::Counter;
+use crate::type_byte::TypeByte;
 
 /// The least number that has one digit too many to be read with its line.
 const LARGE: u64 = 100_000_000_000_000_000;
@@ -85,6 +86,20 @@ fn line_end(bytes: &[u8], scanned: usize, counts: &mut Counter) -> Option<usize>
     None
 }
 
+/// The body of n bytes at the start, where it and its CR LF are at hand.
+pub(crate) fn body_at_hand(bytes: &[u8], n: usize) -> Option<&[u8]>
+    ensures body { IfSome result (λ body. BeginsWithBody n bytes.now body.now) }
+{
+    if n > bytes.len() {
+        return None;
+    }
+    let (body, end) = bytes.split_at(n);
+    match body_ends(end) {
+        Ok(true) => Some(body),
+        _ => None,
+    }
+}
+
 /// Whether the CR LF after a body is there. Err where another byte is in its place, with how
 /// many bytes show it.
 #[tactic(auto, using(crate::proofs::BodyEnds::ends))]
@@ -104,4 +119,14 @@ pub(crate) fn body_ends(bytes: &[u8]) -> Result<bool, usize>
         return Err(2);
     }
     Ok(true)
+}
+
+/// The body of a bulk string whose line writes this number, where it and its CR LF are at hand.
+pub(crate) fn bulk_at_hand(kind: TypeByte, number: Option<u64>, rest: &[u8]) -> Option<&[u8]>
+    ensures body { IfSome result (λ body. BeginsWithBulk kind number rest.now body.now) }
+{
+    match (kind, number) {
+        (TypeByte::BulkString, Some(n)) => body_at_hand(rest, n as usize),
+        _ => None,
+    }
 }

@@ -1,43 +1,42 @@
 //! The reading of a value, which stops where the bytes end and goes on from there.
 
-ghost use Rattle.std.specs.Prelude.{◌≡◌, ◌<◌, ◌≤◌, ◌+◌, ◌*◌, ◌^◌, length, take, true, None, IfOk, IfSome, OnOk};
+ghost use Rattle.std.specs.Prelude.{◌≡◌, ◌<◌, ◌≤◌, ◌+◌, ◌*◌, ◌^◌, length, take, true, false, None, IfOk, IfSome, OnOk};
 ghost use Rattle.resp_parse.specs.Building.{nothing, whole, progress_of};
 ghost use Rattle.resp_parse.specs.Resume.{BuildsThen, StepBuilds, RunBuilds};
-ghost use Rattle.resp_parse.specs.Computes.{ComputesSeen};
+ghost use Rattle.resp_parse.specs.Computes.{Computes};
 ghost use Rattle.resp_parse.specs.Grammar.{elements};
 ghost use Rattle.resp_parse.specs.Number.{IsNumeral};
 ghost use Rattle.resp_parse.specs.PlainReading.{then, read_announced, read};
 ghost use Rattle.resp_parse.specs.Shapes.{announced_in_line, line_value, elements_value, count_of};
 ghost use Rattle.resp_parse.specs.Resume.{place, resume, fresh_of, IsScanned, Goes, Ends, Steps};
-ghost use Rattle.resp_parse.specs.Resume.{Runs, ReadsInto, depth_below};
+ghost use Rattle.resp_parse.specs.Resume.{Runs, ReadsInto, Waits, depth_below};
 ghost use Rattle.resp_parse.specs.Filling.{lacks_of, FillsOpenBody, FilledOpenBody};
 ghost use Rattle.resp_parse.specs.Built.{built};
 ghost use Rattle.resp_parse.specs.Costs.{least_bytes, BuiltWithin, StepBuiltWithin, RunBuiltWithin, Places, Begins};
-ghost use Rattle.resp_parse.specs.Costs.{HeaderCost, StepCost, RunCost, ReadBuiltWithin};
+ghost use Rattle.resp_parse.specs.Costs.{HeaderCost, StepCost, RunCost, Spent, ReadBuiltWithin};
 
 use crate::body::Body;
 use crate::builder::Builder;
 use crate::decoder::Counter;
 use crate::history::History;
-use crate::line::{Line, body_ends, first_line};
+use crate::line::{Line, body_ends, bulk_at_hand, first_line};
 use crate::open_aggregates::{Added, OpenAggregate, OpenAggregates};
 use crate::read_error::ReadError;
-use crate::seen::SeenValues;
+use crate::seen::{SeenValue, SeenValues};
 use crate::shape::{ElementsKind, LineKind, Shape, shape_of};
 use crate::type_byte::TypeByte;
-use crate::whole::Whole;
 use resp_value::{FrameFault, Value};
 use std::alloc::{AllocError, Global};
 
 /// How many bytes one step took, and what came of it.
 #[derive(Drop)]
-pub(crate) enum Step<M> {
+pub(crate) enum Step {
     /// No more can be taken before more bytes come.
     Waits(usize),
     /// A body or elements follow.
     Goes(usize),
     /// A value is whole.
-    Whole(usize, Whole<M>),
+    Whole(usize, SeenValue),
 }
 
 /// What was read of a value that isn't whole.
@@ -97,7 +96,7 @@ impl<B: Builder> Machine<B> {
         line: &[u8],
         number: Option<u64>,
         at_hand: usize,
-    ) -> Result<Option<Whole<B::Made>>, ReadError>
+    ) -> Result<Option<SeenValue>, ReadError>
         requires no_body { self.old.body ≡ None }
         requires level { length self.old.open_aggregates < self.old.depth }
         requires builds { B.stands self.old.builder self.old.open_aggregates nothing }
@@ -138,10 +137,10 @@ impl<B: Builder> Machine<B> {
         alloc: Global,
         kind: LineKind,
         text: &str,
-    ) -> Result<Whole<B::Made>, ReadError>
+    ) -> Result<SeenValue, ReadError>
         requires builds { B.stands self.old.builder self.old.open_aggregates nothing }
         ensures same { self.new ≡ record self.old { builder = self.new.builder } }
-        ensures value { ComputesSeen result (line_value kind text.now) }
+        ensures value { Computes result (line_value kind text.now) }
         ensures builds { IfOk result
             (λ w. B.stands self.new.builder self.new.open_aggregates (whole w)) }
     {
@@ -156,7 +155,7 @@ impl<B: Builder> Machine<B> {
         kind: ElementsKind,
         size: usize,
         at_hand: usize,
-    ) -> Result<Option<Whole<B::Made>>, ReadError>
+    ) -> Result<Option<SeenValue>, ReadError>
         requires no_body { self.old.body ≡ None }
         requires level { length self.old.open_aggregates < self.old.depth }
         requires builds { B.stands self.old.builder self.old.open_aggregates nothing }
@@ -193,7 +192,7 @@ impl<B: Builder> Machine<B> {
         alloc: Global,
         bytes: &[u8],
         counts: &mut Counter,
-    ) -> Result<Step<B::Made>, ReadError>
+    ) -> Result<Step, ReadError>
         requires no_body { self.old.body ≡ None }
         requires depth { length self.old.open_aggregates ≤ self.old.depth }
         requires scanned { IsScanned self.old.body self.old.scanned bytes.now }
@@ -223,8 +222,13 @@ impl<B: Builder> Machine<B> {
         let Line { len, number } = line;
         counts.examine(len + 3 - self.scanned);
         self.scanned = 0;
-        let at_hand = after.len() - (len + 2);
-        match self.begin(alloc, kind, &after[..len], number, at_hand) {
+        let rest = &after[len + 2..];
+        if let Some(body) = bulk_at_hand(kind, number, rest) {
+            counts.examine(body.len() + 2);
+            let whole = self.builder.bulk(alloc, body)?;
+            return Ok(Step::Whole(len + 3 + (body.len() + 2), whole));
+        }
+        match self.begin(alloc, kind, &after[..len], number, rest.len()) {
             Ok(Some(whole)) => Ok(Step::Whole(len + 3, whole)),
             Ok(None) => Ok(Step::Goes(len + 3)),
             Err(why) => Err(self.record_fault(why, len + 3)),
@@ -232,12 +236,7 @@ impl<B: Builder> Machine<B> {
     }
 
     /// Takes a header, or goes on in a body.
-    fn step(
-        &mut self,
-        alloc: Global,
-        bytes: &[u8],
-        counts: &mut Counter,
-    ) -> Result<Step<B::Made>, ReadError>
+    fn step(&mut self, alloc: Global, bytes: &[u8], counts: &mut Counter) -> Result<Step, ReadError>
         requires depth { length self.old.open_aggregates ≤ self.old.depth }
         requires scanned { IsScanned self.old.body self.old.scanned bytes.now }
         requires builds { B.stands self.old.builder self.old.open_aggregates
@@ -328,32 +327,32 @@ impl<B: Builder> Machine<B> {
     fn attach(
         &mut self,
         alloc: Global,
-        value: Whole<B::Made>,
+        value: SeenValue,
         counts: &mut Counter,
-    ) -> Result<Option<Whole<B::Made>>, ReadError>
+    ) -> Result<Option<SeenValue>, ReadError>
         requires no_body { self.old.body ≡ None }
         requires depth { length self.old.open_aggregates ≤ self.old.depth }
         requires builds { B.stands self.old.builder self.old.open_aggregates (whole value) }
-        ensures ends { Ends (place self.old.depth self.old.open_aggregates value.seen) self.new result }
+        ensures ends { Ends (place self.old.depth self.old.open_aggregates value) self.new result }
         ensures limit { self.new.depth ≡ self.old.depth }
         ensures depth { length self.new.open_aggregates ≤ self.new.depth }
         ensures scanned { self.new.scanned ≡ self.old.scanned }
         ensures builds { BuildsThen B.stands self.new result }
-        ensures built_within { BuiltWithin self.new (least_bytes self.old + 3 * built value.seen) result }
+        ensures built_within { BuiltWithin self.new (least_bytes self.old + 3 * built value) result }
         ensures places { Places self.old self.new counts.old counts.new result }
         ensures iterations { counts.new ≡ record counts.old { iterations = counts.new.iterations } }
     {
         let mut value = value;
         loop {
             counts.iterate();
-            match self.open_aggregates.add(&value.seen) {
+            match self.open_aggregates.add(&value) {
                 Added::Outermost => return Ok(Some(value)),
                 Added::StillOpen => {
-                    self.builder.keep(value.made)?;
+                    self.builder.keep()?;
                     return Ok(None);
                 }
                 Added::Closed(closed) => {
-                    match self.builder.close(alloc, &closed, value.made) {
+                    match self.builder.close(alloc, &closed) {
                         Ok(made) => value = made,
                         Err(why) => return Err(why),
                     }
@@ -368,7 +367,7 @@ impl<B: Builder> Machine<B> {
         alloc: Global,
         bytes: &[u8],
         counts: &mut Counter,
-    ) -> Result<(usize, Option<Whole<B::Made>>), ReadError>
+    ) -> Result<(usize, Option<SeenValue>), ReadError>
         requires depth { length self.old.open_aggregates ≤ self.old.depth }
         requires scanned { IsScanned self.old.body self.old.scanned bytes.now }
         requires builds { B.stands self.old.builder self.old.open_aggregates
@@ -403,6 +402,35 @@ impl<B: Builder> Machine<B> {
         Ok((at, None))
     }
 
+    /// Looks at the last byte, where it alone has come to a line that it doesn't end; else nothing is
+    /// done. So a line that comes byte by byte is looked at without a step.
+    #[inline(always)]
+    fn looks_on(&mut self, bytes: &[u8], counts: &mut Counter) -> bool
+        requires depth { length self.old.open_aggregates ≤ self.old.depth }
+        requires scanned { IsScanned self.old.body self.old.scanned bytes.now }
+        ensures waits { result ≡ true → Waits self.old bytes.now self.new 0 }
+        ensures spent { result ≡ true → Spent self.old self.new counts.old counts.new 0 }
+        ensures looked { self.new ≡ record self.old { scanned = self.new.scanned } }
+        ensures nothing { result ≡ false → (self.new ≡ self.old) × (counts.new ≡ counts.old) }
+    {
+        let Some((first, after)) = bytes.split_first() else {
+            return false;
+        };
+        if self.body.is_some() || after.len() != self.scanned || bytes[after.len()] == b'\n' {
+            return false;
+        }
+        if self.open_aggregates.len() >= self.depth {
+            return false;
+        }
+        let Some(_) = TypeByte::from_byte(*first) else {
+            return false;
+        };
+        counts.look();
+        counts.examine(1);
+        self.scanned = bytes.len();
+        true
+    }
+
     /// The same, with a whole value handed out.
     #[inline(always)]
     pub(crate) fn read(
@@ -427,11 +455,14 @@ impl<B: Builder> Machine<B> {
         if bytes.is_empty() {
             return Ok((0, false));
         }
+        if self.looks_on(bytes, counts) {
+            return Ok((0, false));
+        }
         let (taken, whole) = self.run(alloc, bytes, counts)?;
-        let Some(whole) = whole else {
+        if whole.is_none() {
             return Ok((taken, false));
-        };
-        self.builder.put(whole.made, out);
+        }
+        self.builder.put(out);
         Ok((taken, true))
     }
 }

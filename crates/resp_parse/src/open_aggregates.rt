@@ -90,6 +90,7 @@ impl OpenAggregates {
     }
 
     /// Opens an aggregate inside the others.
+    #[inline(always)]
     pub(crate) fn push(&mut self, aggregate: OpenAggregate) -> Result<(), AllocError>
         ensures ok { OnOk result (self.new ≡ aggregate ∷ self.old) }
         ensures most { length self.new ≤ length self.old + 1 }

@@ -3,7 +3,7 @@
 ghost use Rattle.std.specs.Prelude.{◌≡◌, ◌≢◌, ◌↔◌, ◌⊎◌, [], true, false, Err, List, ℕ};
 ghost use Rattle.std.specs.Prelude.{length, IsTrue, IfErr, IfOk, IsOk, OnOk, IfSome, None};
 ghost use Rattle.resp_parse.specs.State.{StandsAfter, FailedAfter, IsBetweenValues, has_failed};
-ghost use Rattle.resp_parse.specs.State.{KeepsFaultOffset};
+ghost use Rattle.resp_parse.specs.State.{KeepsFaultOffset, answered};
 ghost use Rattle.resp_parse.specs.Limits.{AreLimits, IsDepthLimit, RefusesLimits};
 ghost use Rattle.resp_parse.specs.Limits.{depth_refused, of_depth, usual};
 ghost use Rattle.resp_parse.specs.Limited.{FaultShownAt};
@@ -11,8 +11,9 @@ ghost use Rattle.resp_parse.specs.Calls.{Feeds, Takes, TakesInto, Asks, Parses, 
 ghost use Rattle.resp_parse.specs.Bounds.{Bounded, FedBy, OneCall, CallsWithin, AskedFor};
 ghost use Rattle.resp_parse.specs.Counts.{nothing_done};
 
-use crate::decoder::{Decoder, failed_before};
+use crate::decoder::{Decoder, failed_before, refusal};
 use crate::limits::Limits;
+use crate::read_error::ReadError;
 use crate::reader_source::Reading;
 use crate::source::ReplySource;
 use crate::tree_builder::TreeBuilder;
@@ -175,26 +176,28 @@ impl Parser {
         ensures offset { self.old.failed ≡ false → KeepsFaultOffset self.new result }
         ensures counts { self.old.failed ≡ false → OneCall self.old.counts self.new.counts }
     {
+        if self.decoder.is_failed() {
+            return Err(failed_before());
+        }
         let mut value = Value::Nil;
-        match self.take(&mut value) {
+        match self.read(&mut value) {
             Ok(true) => Ok(Some(value)),
             Ok(false) => Ok(None),
-            Err(why) => Err(why),
+            Err(why) => Err(refusal(why)),
         }
     }
 
     /// The next value, put in its place; false while it is incomplete.
-    fn take(&mut self, value: &mut Value) -> RedisResult<bool>
-        ensures failed { self.old.failed ≡ true → (result ≡ Err has_failed)
-            × (self.new ≡ self.old) }
+    fn read(&mut self, value: &mut Value) -> Result<bool, ReadError>
+        requires works { self.old.failed ≡ false }
         ensures takes { (b : List ℕ) → StandsAfter self.old b →
-            TakesInto (λ v w. v ≡ w) b self.new value.old value.new result }
+            TakesInto (λ v w. v ≡ w) b self.new value.old value.new (answered result) }
         ensures limits { self.new.limits ≡ self.old.limits }
         ensures bounds { Bounded self.new }
-        ensures offset { self.old.failed ≡ false → KeepsFaultOffset self.new result }
-        ensures counts { self.old.failed ≡ false → OneCall self.old.counts self.new.counts }
+        ensures offset { KeepsFaultOffset self.new (answered result) }
+        ensures counts { OneCall self.old.counts self.new.counts }
     {
-        self.decoder.take(value)
+        self.decoder.read(value)
     }
 
     /// The next value, with bytes from a source where those in the buffer don't hold one. Bytes

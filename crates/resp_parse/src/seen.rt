@@ -90,6 +90,16 @@ impl Shows<History> for OfBytes {
     ghost values = { λ bytes. BulkString bytes ∷ [] };
 }
 
+/// The bulk string of these bytes, which are at hand.
+struct OfSlice;
+
+impl Shows<&[u8]> for OfSlice {
+    ghost use Rattle.std.specs.Prelude.{◌∷◌, []};
+    ghost use Rattle.resp_value.specs.declared.value.Value.{BulkString};
+
+    ghost values = { λ bytes. BulkString bytes.now ∷ [] };
+}
+
 /// What elements make.
 struct OfElements;
 
@@ -125,6 +135,15 @@ impl SeenValue {
     {
         SeenValue {
             seen: Seen::of::<History, OfBytes>(bytes),
+        }
+    }
+
+    /// The bulk string of these bytes, which are at hand.
+    pub(crate) fn bulk_of(bytes: &[u8]) -> SeenValue
+        ensures { result ≡ BulkString bytes.now }
+    {
+        SeenValue {
+            seen: Seen::of::<&[u8], OfSlice>(&bytes),
         }
     }
 

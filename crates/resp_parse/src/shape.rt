@@ -92,26 +92,17 @@ impl ElementsKind {
         }
     }
 
-    /// The value of the elements and of one more, the last.
-    pub(crate) fn value(
-        self,
-        alloc: Global,
-        elements: Elements,
-        last: Value,
-    ) -> Result<Value, ReadError>
+    /// The value of the elements.
+    pub(crate) fn value(self, alloc: Global, elements: Elements) -> Result<Value, ReadError>
         ensures value { (vs : List Value) → elements ≡ kept_as self vs →
-            Computes result (elements_value self (vs ++ last ∷ [])) }
+            Computes result (elements_value self vs) }
     {
-        if let ElementsKind::Attribute = self {
-            return Ok(attribute_of(alloc, last, elements.into_pairs(alloc))?);
-        }
-        let mut elements = elements;
-        elements.push(last)?;
         match self {
             ElementsKind::Array => Ok(Value::Array(elements.into_values(alloc))),
             ElementsKind::Set => Ok(Value::Set(elements.into_values(alloc))),
+            ElementsKind::Map => Ok(Value::Map(elements.into_pairs(alloc))),
+            ElementsKind::Attribute => Ok(elements.into_attribute(alloc)?),
             ElementsKind::Push => push_of(elements.into_values(alloc).into_vec()),
-            _ => Ok(Value::Map(elements.into_pairs(alloc))),
         }
     }
 }
@@ -162,6 +153,7 @@ pub(crate) enum Shape<'a> {
 
 /// What a line announces, for a value of this type. `number` is what it writes, where that was read
 /// with it.
+#[inline(always)]
 pub(crate) fn shape_of(
     kind: TypeByte,
     line: &[u8],
@@ -176,6 +168,15 @@ pub(crate) fn shape_of(
             return Ok(shape);
         }
     }
+    shape_of_line(kind, line)
+}
+
+/// What a line announces, for a value of this type.
+#[inline(never)]
+fn shape_of_line(kind: TypeByte, line: &[u8]) -> Result<Shape<'_>, ReadError>
+    ensures announced { Announces result (announced_in_line kind line.now) }
+    ensures small { IfOk result is_small }
+{
     let Ok(text) = std::str::from_utf8(line) else {
         return Err(ReadError::Fault(FrameFault::LineNotUtf8));
     };
@@ -184,6 +185,7 @@ pub(crate) fn shape_of(
 
 /// What a line of digits alone announces, for an integer, a bulk string, an array or a map. None for
 /// other types.
+#[inline(always)]
 fn shape_of_number(kind: TypeByte, n: u64) -> Option<Shape<'static>>
     requires small { n < 2 ^ 63 }
     ensures announced { (line : List ℕ) → IsNumeral line n →

@@ -1,9 +1,11 @@
 //! A value that is built as a tree.
 
-ghost use Rattle.std.specs.Prelude.{◌≡◌, ◌∷◌, ◌++◌, [], IfOk, OnOk};
-ghost use Rattle.resp_parse.specs.Computes.{ComputesSeen};
+ghost use Rattle.std.specs.Prelude.{◌≡◌, ◌∷◌, ◌++◌, [], List, IfOk, OnOk};
+ghost use Rattle.resp_parse.specs.Computes.{Computes};
 ghost use Rattle.resp_parse.specs.KeptElements.{kept_as};
 ghost use Rattle.resp_parse.specs.Shapes.{body_value};
+ghost use Rattle.resp_parse.specs.TreeBuilders.{HoldsElements, HoldsWhole};
+ghost use Rattle.resp_parse.specs.declared.open_aggregates.OpenAggregate.{OpenAggregate};
 
 use crate::body::Body;
 use crate::builder::Builder;
@@ -13,7 +15,6 @@ use crate::read_error::ReadError;
 use crate::seen::SeenValue;
 use crate::shape::{BodyKind, ElementsKind};
 use crate::value_of::simple_of;
-use crate::whole::Whole;
 use resp_value::{Bytes, Items, Value};
 use std::alloc::{AllocError, Global};
 use std::mem;
@@ -31,7 +32,7 @@ fn room_for(
     let room = count.min((at_hand / 3).max(4)).min(128);
     match kind {
         ElementsKind::Map | ElementsKind::Attribute => Ok(Elements::Pairs(
-            Items::from(Vec::with_capacity(alloc, room / 2)?),
+            Items::from(Vec::with_capacity(alloc, (room + 1) / 2)?),
             false,
         )),
         _ => Ok(Elements::Values(Items::from(Vec::with_capacity(alloc, room)?))),
@@ -56,29 +57,33 @@ pub(crate) struct TreeBuilder {
     bytes: Bytes,
 }
 
-/// A value that stands for itself.
-fn whole(value: Value) -> Whole<Value>
-    ensures made { result.made ≡ value }
-    ensures seen { result.seen ≡ value }
-{
-    let seen = SeenValue::of(&value);
-    Whole { made: value, seen }
-}
-
 /// The bytes of a body are an error or a verbatim string.
 #[inline(never)]
-fn text_body(alloc: Global, kind: BodyKind, bytes: Bytes) -> Result<Whole<Value>, ReadError>
-    ensures value { ComputesSeen result (body_value kind bytes) }
-    ensures made { IfOk result (λ w. w.made ≡ w.seen) }
+fn text_body(alloc: Global, kind: BodyKind, bytes: Bytes) -> Result<Value, ReadError>
+    ensures value { Computes result (body_value kind bytes) }
 {
-    Ok(whole(kind.value(alloc, bytes)?))
+    kind.value(alloc, bytes)
+}
+
+impl TreeBuilder {
+    /// A value is whole: it stands after the elements so far.
+    #[inline(always)]
+    #[tactic(auto, using(crate::proofs::TreeLists::appended))]
+    fn append(&mut self, value: Value) -> Result<SeenValue, AllocError>
+        ensures seen { IfOk result (λ v. v ≡ value) }
+        ensures stands { (fs : List OpenAggregate) →
+            HoldsElements self.old.outer.items self.old.elements fs →
+            OnOk result (HoldsWhole self.new.outer.items self.new.elements fs value) }
+    {
+        let seen = SeenValue::of(&value);
+        self.elements.push(value)?;
+        Ok(seen)
+    }
 }
 
 impl Builder for TreeBuilder {
     ghost use Rattle.std.specs.Prelude.{◌≡◌};
     ghost use Rattle.resp_parse.specs.TreeBuilders.{BuildsTree, values_in, tree-paid_for};
-
-    type Made = Value;
 
     type Reply = Value;
 
@@ -99,17 +104,23 @@ impl Builder for TreeBuilder {
     }
 
     #[inline(always)]
-    fn leaf(&mut self, value: Value) -> Result<Whole<Value>, AllocError> {
-        Ok(whole(value))
+    fn leaf(&mut self, value: Value) -> Result<SeenValue, AllocError> {
+        self.append(value)
     }
 
     #[inline(always)]
-    fn int(&mut self, n: i64) -> Result<Whole<Value>, AllocError> {
-        Ok(whole(Value::Int(n)))
+    fn int(&mut self, n: i64) -> Result<SeenValue, AllocError> {
+        self.append(Value::Int(n))
     }
 
-    fn simple(&mut self, alloc: Global, text: &str) -> Result<Whole<Value>, AllocError> {
-        Ok(whole(simple_of(alloc, text)?))
+    fn simple(&mut self, alloc: Global, text: &str) -> Result<SeenValue, AllocError> {
+        self.append(simple_of(alloc, text)?)
+    }
+
+    #[inline(always)]
+    fn bulk(&mut self, alloc: Global, bytes: &[u8]) -> Result<SeenValue, AllocError> {
+        let bytes = Bytes::from_slice(alloc, bytes)?;
+        self.append(Value::BulkString(bytes))
     }
 
     fn begin_body(&mut self, alloc: Global, missing: usize) -> Result<(), AllocError> {
@@ -122,11 +133,11 @@ impl Builder for TreeBuilder {
         self.bytes.extend_from_slice(part)
     }
 
-    fn end_body(&mut self, alloc: Global, body: &Body) -> Result<Whole<Value>, ReadError> {
+    fn end_body(&mut self, alloc: Global, body: &Body) -> Result<SeenValue, ReadError> {
         let bytes = mem::replace(&mut self.bytes, Bytes::new(alloc));
         match body.kind {
-            BodyKind::Bulk => Ok(whole(Value::BulkString(bytes))),
-            kind => text_body(alloc, kind, bytes),
+            BodyKind::Bulk => Ok(self.append(Value::BulkString(bytes))?),
+            kind => Ok(self.append(text_body(alloc, kind, bytes)?)?),
         }
     }
 
@@ -143,27 +154,26 @@ impl Builder for TreeBuilder {
         Ok(())
     }
 
-    fn keep(&mut self, made: Value) -> Result<(), AllocError> {
-        self.elements.push(made)
+    fn keep(&mut self) -> Result<(), AllocError> {
+        Ok(())
     }
 
-    fn close(
-        &mut self,
-        alloc: Global,
-        closed: &OpenAggregate,
-        made: Value,
-    ) -> Result<Whole<Value>, ReadError> {
-        let outer = self
-            .outer
-            .pop()
-            .unwrap_or(Elements::Values(Items::new(alloc)));
-        let elements = mem::replace(&mut self.elements, outer);
-        Ok(whole(closed.kind.value(alloc, elements, made)?))
+    fn close(&mut self, alloc: Global, closed: &OpenAggregate) -> Result<SeenValue, ReadError> {
+        let elements = match self.outer.pop() {
+            Some(outer) => mem::replace(&mut self.elements, outer),
+            None => mem::replace(&mut self.elements, Elements::Values(Items::new(alloc))),
+        };
+        match closed.kind {
+            ElementsKind::Array => Ok(self.append(Value::Array(elements.into_values(alloc)))?),
+            kind => Ok(self.append(kind.value(alloc, elements)?)?),
+        }
     }
 
     #[inline(always)]
-    fn put(&mut self, made: Value, out: &mut Value) {
-        *out = made;
+    fn put(&mut self, out: &mut Value) {
+        if let Some(value) = self.elements.pop() {
+            *out = value;
+        }
     }
 
     ghost paid_for = { λ b fs body h. tree-paid_for b.outer.items b.elements b.bytes fs body h };

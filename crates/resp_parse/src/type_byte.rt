@@ -25,6 +25,7 @@ pub enum TypeByte {
 
 impl TypeByte {
     /// The type of a byte, if it is one's.
+    #[inline(always)]
     #[tactic(auto, unfolding(crate::specs::TypeBytes::type_of))]
     pub(crate) fn from_byte(byte: u8) -> Option<TypeByte>
         ensures kind { result ≡ type_of byte }

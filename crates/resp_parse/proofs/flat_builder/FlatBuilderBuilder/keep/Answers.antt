@@ -5,9 +5,9 @@ use Rattle.resp_parse.proofs.flat_builder.FlatBuilderBuilder.keep.Goals as goal
 
 pub returns : goal.returns
 returns c = record {
-  stands = λ f fs w k m a h.
+  stands = λ f fs w k a h.
       let r = c.args.self.now.reply in
       let opens = c.args.self.now.opens.items in
-      let kept = flat-kept r opens f fs w.seen h k a in
+      let kept = flat-kept r opens f fs w h k a in
       (kept, flat-paid r opens _ [] kept);
 }

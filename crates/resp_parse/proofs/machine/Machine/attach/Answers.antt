@@ -7,7 +7,7 @@ use Rattle.resp_parse.proofs.machine.Machine.attach.Goals as goal
 
 pub returns-in-StillOpen-clause-builds : goal.returns-in-StillOpen-clause-builds
 returns-in-StillOpen-clause-builds g c =
-    let a : KeptIn c.loop-value.self.open_aggregates c.loop-value.value.seen c.add.new.self = c.in-StillOpen.ensures.adds in
+    let a : KeptIn c.loop-value.self.open_aggregates c.loop-value.value c.add.new.self = c.in-StillOpen.ensures.adds in
     rw c.loop-value.invariant.no_body
     (builds-kept g.B.Builder.stands c.loop-value.self.builder c.loop-value.self.open_aggregates c.loop-value.value c.add.new.self c.loop-value.invariant.builds c.keep.new.self a c.in_ok-keep-in-StillOpen.ensures.stands)
 
@@ -24,11 +24,11 @@ returns-in-Err-clause-ends g c =
     let f = c.in-Closed.closed in
     let d = c.args.self.now.depth in
     let gs = c.args.self.now.open_aggregates in
-    let v = c.args.value.seen in
+    let v = c.args.value in
     let same = c.loop-value.invariant.same in
-    let a : ClosedBy now w.seen fs f = c.in-Closed.ensures.adds in
+    let a : ClosedBy now w fs f = c.in-Closed.ensures.adds in
     let all = builds-closed g.B.Builder.stands c.loop-value.self.builder now w fs c.loop-value.invariant.builds f a in
-    added-refused d gs v now w.seen same fs f a c.args.self.now c.in-Err.why (c.in-Err.ensures.value a.aggregate fs w refl a.last a.closed_is all)
+    added-refused d gs v now w same fs f a c.args.self.now c.in-Err.why (c.in-Err.ensures.value a.aggregate fs w a.last a.closed_is all)
 
 pub returns-in-Err-clause-places : goal.returns-in-Err-clause-places
 returns-in-Err-clause-places g c =
@@ -38,11 +38,11 @@ returns-in-Err-clause-places g c =
     let f = c.in-Closed.closed in
     let d = c.args.self.now.depth in
     let gs = c.args.self.now.open_aggregates in
-    let v = c.args.value.seen in
+    let v = c.args.value in
     let same = c.loop-value.invariant.same in
-    let a : ClosedBy now w.seen fs f = c.in-Closed.ensures.adds in
+    let a : ClosedBy now w fs f = c.in-Closed.ensures.adds in
     let t : c.iterate.new.self.iterations ≡ c.loop-value.counts.iterations + 1 = ap (λ (n : Counts). n.iterations) c.iterate.ensures in
-    let l = closed-potential d gs v now w.seen same fs f a in
+    let l = closed-potential d gs v now w same fs f a in
     omega (arith, l, t, c.loop-value.invariant.places)
 
 pub returns-in-Err-clause-iterations : goal.returns-in-Err-clause-iterations
@@ -57,21 +57,21 @@ loop-value-preserved g c =
     let f = c.in-Closed.closed in
     let d = c.args.self.now.depth in
     let gs = c.args.self.now.open_aggregates in
-    let v = c.args.value.seen in
+    let v = c.args.value in
     let same = c.loop-value.invariant.same in
-    let a : ClosedBy now w.seen fs f = c.in-Closed.ensures.adds in
+    let a : ClosedBy now w fs f = c.in-Closed.ensures.adds in
     let all = builds-closed g.B.Builder.stands c.loop-value.self.builder now w fs c.loop-value.invariant.builds f a in
-    let u = c.in-Ok.made.seen in
-    let made = c.in-Ok.ensures.value a.aggregate fs w refl a.last a.closed_is all in
+    let u = c.in-Ok.made in
+    let made = c.in-Ok.ensures.value a.aggregate fs w a.last a.closed_is all in
     let t : c.iterate.new.self.iterations ≡ c.loop-value.counts.iterations + 1 = ap (λ (n : Counts). n.iterations) c.iterate.ensures in
     record {
-      same = added-closed d gs v now w.seen same fs f a u made;
+      same = added-closed d gs v now w same fs f a u made;
       limit = c.loop-value.invariant.limit;
-      depth = (let l = closed-shorter d gs v now w.seen same fs f a in let m = c.loop-value.invariant.depth in omega (arith, l, m));
-      builds = c.in-Ok.ensures.stands a.aggregate fs w refl a.last a.closed_is all;
+      depth = (let l = closed-shorter d gs v now w same fs f a in let m = c.loop-value.invariant.depth in omega (arith, l, m));
+      builds = c.in-Ok.ensures.stands a.aggregate fs w a.last a.closed_is all;
       no_body = c.loop-value.invariant.no_body;
       scanned = c.loop-value.invariant.scanned;
-      built_within = (let m = closed-least_bytes d gs v now w.seen same fs f a u made in omega (arith, m, c.loop-value.invariant.built_within));
-      places = (let l = closed-potential d gs v now w.seen same fs f a in omega (arith, l, t, c.loop-value.invariant.places));
+      built_within = (let m = closed-least_bytes d gs v now w same fs f a u made in omega (arith, m, c.loop-value.invariant.built_within));
+      places = (let l = closed-potential d gs v now w same fs f a in omega (arith, l, t, c.loop-value.invariant.places));
       iterations = same-iterations c.args.counts.now c.loop-value.counts c.iterate.new.self c.loop-value.invariant.iterations (same-iterate c.loop-value.counts c.iterate.new.self c.iterate.ensures);
     }

@@ -1,7 +1,11 @@
-use Rattle.std.proofs.Common.{◌≡◌, ◌<◌, [], length, ap, arith, refl, sym}
+use Rattle.std.proofs.Common.{◌≡◌, ◌<◌, ◌+◌, ◌-◌, ◌∙◌, [], length, take, drop, ap, arith, refl, subst, sym}
 use Rattle.std.proofs.lemmas.Grind.{common_steps}
 use Rattle.resp_parse.specs.declared.machine.Machine.{Machine}
-use Rattle.resp_parse.proofs.HeadersInPieces.{empty-waits, unknown_type, line-waits, header-stops, header-goes, header-whole}
+use Rattle.resp_parse.proofs.HeadersInPieces.{empty-waits, unknown_type, line-waits, header-stops, header-goes, header-whole, header-bulk}
+use Rattle.resp_parse.specs.declared.shape.BodyKind.TheVariants as body_kind
+use Rattle.resp_parse.specs.Resume.{BeginsWithBulk}
+use Rattle.resp_parse.specs.Built.{built}
+use Rattle.resp_parse.proofs.Sizes.{body-small}
 use Rattle.resp_parse.proofs.AmortisedCost.{header-looks, header-cost}
 use Rattle.resp_parse.proofs.machine.Machine.header.Goals as goal
 
@@ -61,3 +65,20 @@ returns-in_default-from_byte-clause-steps g c =
     let l : length c.args.self.now.open_aggregates < c.args.self.now.depth = omega arith in
     rw (c.record_fault-in_default-from_byte.ensures.why, c.in-Some.ensures.cases.0)
     (unknown_type c.args.self.now c.in-Some.first.now c.in-Some.after.now c.requires.no_body l c.record_fault-in_default-from_byte.new.self (ap (λ (m : Machine _). m.shown) c.record_fault-in_default-from_byte.ensures.shown) (sym c.in_default-from_byte.ensures.kind))
+
+-- a bulk string whose body is at hand
+pub returns-in-Some-bulk_at_hand-clause-steps : goal.returns-in-Some-bulk_at_hand-clause-steps
+returns-in-Some-bulk_at_hand-clause-steps g c =
+    let l : length c.args.self.now.open_aggregates < c.args.self.now.depth = omega arith in
+    let n = c.in-Some-first_line.line.len in
+    let after = c.in-Some.after.now in
+    let x : take (length after - (n + 2)) (drop (n + 2) after) ≡ drop (n + 2) after = grind (arith, common_steps) in
+    let b = subst (λ s. BeginsWithBulk c.in-Some-from_byte.kind c.in-Some-first_line.line.number s c.in-Some-bulk_at_hand.body.now) x c.in-Some-bulk_at_hand.ensures.body in
+    rw (c.in_ok-whole.ensures.seen, c.in-Some.ensures.cases.0)
+    (header-bulk c.args.self.now c.in-Some.first.now after c.requires.no_body l c.in-Some-from_byte.kind (sym c.in-Some-from_byte.ensures.kind) n c.in-Some-first_line.ensures.line
+    _ c.in-Some-first_line.line.number c.in-Some-bulk_at_hand.body.now c.in-Some-first_line.ensures.number b refl refl c.requires.no_body refl)
+
+pub returns-in-Some-bulk_at_hand-clause-built_within : goal.returns-in-Some-bulk_at_hand-clause-built_within
+returns-in-Some-bulk_at_hand-clause-built_within g c =
+    let one : built c.in_ok-whole.whole ≡ 1 = ap built c.in_ok-whole.ensures.seen ∙ body-small body_kind.Bulk c.in-Some-bulk_at_hand.body.now _ refl in
+    omega (arith, one)

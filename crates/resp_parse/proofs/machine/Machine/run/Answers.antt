@@ -25,7 +25,7 @@ returns-clause-built_within g c = c.loop-at.invariant.cost_so_far.built_within
 
 pub returns-in-Ok-Waits-clause-built_within : goal.returns-in-Ok-Waits-clause-built_within
 returns-in-Ok-Waits-clause-built_within g c =
-    let w : StepBuiltWithin {M = Unit {0}} c.loop-at.self c.step.new.self (Ok (step.Waits c.in-Ok-Waits.taken)) = rw c.in-Ok-Waits.field-0-is at c.in-Ok-Waits.ensures.built_within in
+    let w : StepBuiltWithin c.loop-at.self c.step.new.self (Ok (step.Waits c.in-Ok-Waits.taken)) = rw c.in-Ok-Waits.field-0-is at c.in-Ok-Waits.ensures.built_within in
     omega (arith, w, c.loop-at.invariant.cost_so_far.built_within)
 
 pub returns-in-Ok-Waits-clause-cost : goal.returns-in-Ok-Waits-clause-cost
@@ -45,7 +45,7 @@ returns-in-Ok-Some-clause-cost g c =
 pub loop-at-preserved-in-Ok-Goes : goal.loop-at-preserved-in-Ok-Goes
 loop-at-preserved-in-Ok-Goes g c =
     let f : take (length c.args.bytes.now - c.loop-at.at) (drop c.loop-at.at c.args.bytes.now) ≡ drop c.loop-at.at c.args.bytes.now = grind (arith, common_steps) in
-    let s : Steps {M = Unit {0}} c.loop-at.self (drop c.loop-at.at c.args.bytes.now) c.step.new.self (Ok (step.Goes c.in-Ok-Goes.taken)) = rw f at (rw c.in-Ok-Goes.field-0-is at c.in-Ok-Goes.ensures.steps) in
+    let s : Steps c.loop-at.self (drop c.loop-at.at c.args.bytes.now) c.step.new.self (Ok (step.Goes c.in-Ok-Goes.taken)) = rw f at (rw c.in-Ok-Goes.field-0-is at c.in-Ok-Goes.ensures.steps) in
     record {
       ran = Ran-goes c.args.self.now c.loop-at.self c.args.bytes.now c.loop-at.at c.loop-at.invariant.ran c.step.new.self c.in-Ok-Goes.taken s c.in-Ok-Goes.ensures.limit c.in-Ok-Goes.ensures.depth;
       builds = rw c.in-Ok-Goes.field-0-is at c.in-Ok-Goes.ensures.builds;
@@ -55,7 +55,7 @@ loop-at-preserved-in-Ok-Goes g c =
 pub returns-in-Ok-Waits-clause-runs : goal.returns-in-Ok-Waits-clause-runs
 returns-in-Ok-Waits-clause-runs g c =
     let f : take (length c.args.bytes.now - c.loop-at.at) (drop c.loop-at.at c.args.bytes.now) ≡ drop c.loop-at.at c.args.bytes.now = grind (arith, common_steps) in
-    let s : Steps {M = Unit {0}} c.loop-at.self (drop c.loop-at.at c.args.bytes.now) c.step.new.self (Ok (step.Waits c.in-Ok-Waits.taken)) = rw f at (rw c.in-Ok-Waits.field-0-is at c.in-Ok-Waits.ensures.steps) in
+    let s : Steps c.loop-at.self (drop c.loop-at.at c.args.bytes.now) c.step.new.self (Ok (step.Waits c.in-Ok-Waits.taken)) = rw f at (rw c.in-Ok-Waits.field-0-is at c.in-Ok-Waits.ensures.steps) in
     Ran-waits c.args.self.now c.loop-at.self c.args.bytes.now c.loop-at.at c.loop-at.invariant.ran c.step.new.self c.in-Ok-Waits.taken s
 
 pub returns-in-Ok-Some-clause-runs : goal.returns-in-Ok-Some-clause-runs
