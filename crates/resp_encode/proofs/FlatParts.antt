@@ -1,11 +1,13 @@
 -- What is sent for a value with others inside it.
-use Rattle.std.proofs.Common.{◌≡◌, ℕ, suc, ◌<◌, ◌^◌, nat_lt, decimal, ℤ, Bool, true, false, cond, List, [], ◌∷◌, length}
+use Rattle.std.proofs.Common.{◌≡◌, ℕ, suc, ◌<◌, ◌^◌, nat_lt, decimal, ℤ, Bool, true, false, cond, List, [], ◌∷◌}
+use Rattle.std.proofs.Common.{length}
 use Rattle.std.proofs.Common.{Option, None, Some, refl, sym, ap, ◌∙◌, arith, option_and_then}
 use Rattle.std.proofs.lemmas.Bool.Decides.{nat_tests}
 use Rattle.std.specs.Fmt.{◌++?◌}
 use Rattle.std.specs.Str.{is_utf8}
 use Rattle.resp_value.specs.declared.value.Value.{Value, BulkString, Array, Map, Attribute, Set, Push}
-use Rattle.resp_value.specs.declared.value.Value.TheVariants.{rolls-Array, rolls-Map, rolls-Attribute, rolls-Set, rolls-Push}
+use Rattle.resp_value.specs.declared.value.Value.TheVariants.{rolls-Array, rolls-Map, rolls-Attribute, rolls-Set}
+use Rattle.resp_value.specs.declared.value.Value.TheVariants.{rolls-Push}
 use Rattle.resp_value.specs.declared.value.Value.TheOpen.{Value-F}
 use Rattle.resp_value.specs.declared.names.PushKind.{PushKind}
 use Rattle.resp_value.specs.declared.names.PushKind.TheVariants as push
@@ -16,7 +18,8 @@ use Rattle.resp_parse.specs.declared.type_byte.TypeByte.TheVariants as type_byte
 use Rattle.resp_flat.specs.declared.token.Token.{Token}
 use Rattle.resp_flat.specs.declared.token.TokenKind.{TokenKind}
 use Rattle.resp_flat.specs.declared.token.TokenKind.TheVariants as kind
-use Rattle.resp_flat.specs.Reading.{Read, refused, got, then, made_of, next_values, next_pairs, next_attribute, next_push}
+use Rattle.resp_flat.specs.Reading.{Read, refused, got, then, made_of, next_values, next_pairs, next_attribute}
+use Rattle.resp_flat.specs.Reading.{next_push}
 use Rattle.resp_flat.specs.Reading.{next_kind, next_value, next_token, next_bytes, next_leaf, leaf_of, after_token}
 use Rattle.resp_flat.proofs.ReadsOnly.{name-kind_named}
 use Rattle.resp_flat.proofs.ReadSteps.{by_token}
@@ -140,7 +143,8 @@ push_is (Some RESP3) d [] [] u =
     layer3 d (Value-F.Push (kind_named []) []) (Push (kind_named []) []) (rolls-Push (kind_named []) [])
     ∙ empty_push d
 push_is (Some RESP3) d [] (v ∷ vs) u =
-    layer3 d (Value-F.Push (kind_named []) (v ∷ vs)) (Push (kind_named []) (v ∷ vs)) (rolls-Push (kind_named []) (v ∷ vs))
+    layer3 d (Value-F.Push (kind_named []) (v ∷ vs)) (Push (kind_named []) (v ∷ vs)) (rolls-Push (kind_named [])
+    (v ∷ vs))
     ∙ pushed3 (encoding_in RESP3 d) [] (v ∷ vs) u (λ k (e : v ∷ vs ≡ []). cc)
 push_is (Some RESP3) d (c ∷ name) vs u =
     layer3 d (Value-F.Push (kind_named (c ∷ name)) vs) (Push (kind_named (c ∷ name)) vs)
@@ -175,7 +179,8 @@ module _ (p : Sent) (d : ℕ) (x : List ℕ) where
   pub array_read : (n : ℕ) (ts : Tokens) (at : ℕ)
       → spelled (spelled_in p (suc d)) (then (next_values (next_value x d) n ts at) (λ vs. got (Array vs)))
       ≡ both (made_of (counted_in p 42 n) ts at) (values_in p d x n)
-  array_read n ts at = list_read (spelled_in p d) (next_value x d) (spelled_in p (suc d)) Array (counted_in p 42) n ts at
+  array_read n ts at = list_read (spelled_in p d) (next_value x d) (spelled_in p (suc d)) Array
+      (counted_in p 42) n ts at
       (array_is p d)
 
   pub set_read : (n : ℕ) (ts : Tokens) (at : ℕ)
@@ -207,7 +212,8 @@ module _ (p : Sent) (d : ℕ) (x : List ℕ) where
     where
       pairs_are : (p : Sent) (n : ℕ) (ts : Tokens) (at : ℕ)
           → spelled (attributes p d) (next_pairs (next_value x d) n ts at) ≡ attributes_in p d x n ts at
-      pairs_are None n ts at = spelled_same _ _ (next_pairs (next_value x d) n ts at) (λ ps. sym (nothing_joined d (flat ps)))
+      pairs_are None n ts at = spelled_same _ _ (next_pairs (next_value x d) n ts at) (λ ps. sym (nothing_joined d
+          (flat ps)))
       pairs_are (Some RESP2) n ts at = spelled_same _ _ (next_pairs (next_value x d) n ts at)
           (λ ps. sym (nothing_joined d (flat ps)))
       pairs_are (Some RESP3) n ts at = pairs_read (spelled_in (Some RESP3) d) (next_value x d)
@@ -220,7 +226,8 @@ module _ (p : Sent) (d : ℕ) (x : List ℕ) where
   push_read n name ts us at from u e =
       ap (λ (r : Read PushKind). spelled (spelled_in p (suc d))
       (then r (λ k us from. then (next_values (next_value x d) n us from) (λ vs. got (Push k vs))))) e
-      ∙ list_read (spelled_in p d) (next_value x d) (spelled_in p (suc d)) (Push (kind_named name)) (push_head p d name) n
+      ∙ list_read (spelled_in p d) (next_value x d) (spelled_in p (suc d)) (Push (kind_named name))
+      (push_head p d name) n
       us from (λ vs. push_is p d name vs u)
 
   -- ---- the next value

@@ -52,13 +52,15 @@ module _ (w : Spell Value) (n : ℕ) where
   all r = option_and_then w (whole n r)
 
   -- a value was written, with which the reply ends
-  pub whole_done : (r : Read Value) (a b : Bytes) (us : Tokens) (from : ℕ) → AppendsRead (Ok tt) (spelled w r) a b us from
+  pub whole_done : (r : Read Value) (a b : Bytes) (us : Tokens) (from : ℕ)
+      → AppendsRead (Ok tt) (spelled w r) a b us from
       → us ≡ [] → from ≡ n → AppendsText (Ok tt) (all r) a b
   unfolding AppendsRead AppendsText
   whole_done refused a b us from h none end = absurd (cc)
   whole_done (got v ts at) a b us from h none end = by (w v) refl h
     where
-      by : (o : Option Bytes) → w v ≡ o → after a (made_of o ts at) ≡ got b us from → (Some a ++? all (got v ts at)) ≡ Some b
+      by : (o : Option Bytes) → w v ≡ o → after a (made_of o ts at) ≡ got b us from
+          → (Some a ++? all (got v ts at)) ≡ Some b
       by None e i = absurd (cc)
       by (Some x) e i =
           let z : a ++ x ≡ b = cc in
@@ -67,7 +69,8 @@ module _ (w : Spell Value) (n : ℕ) where
           ap (λ (o : Option Bytes). Some a ++? o) (whole_at w n v ts at t m ∙ e) ∙ ap (λ (y : Bytes). Some y) z
 
   -- a value was written, and more is there
-  pub whole_left : (r : Read Value) (a b : Bytes) (us : Tokens) (from : ℕ) → AppendsRead (Ok tt) (spelled w r) a b us from
+  pub whole_left : (r : Read Value) (a b : Bytes) (us : Tokens) (from : ℕ)
+      → AppendsRead (Ok tt) (spelled w r) a b us from
       → (us ≡ [] → from ≡ n → ⊥) → AppendsText (Err NoSpelling) (all r) a b
   unfolding AppendsRead AppendsText
   whole_left refused a b us from h more = absurd (cc)
@@ -85,7 +88,8 @@ module _ (w : Spell Value) (n : ℕ) where
           let m : at ≡ from = cc in (never ts t m, subst (Keeps a) z (front a x))
 
   -- none was
-  pub whole_exit : (q : Result (Unit {0}) WriteError) (e : WriteError) (r : Read Value) (a b : Bytes) (us : Tokens) (from : ℕ)
+  pub whole_exit : (q : Result (Unit {0}) WriteError) (e : WriteError) (r : Read Value) (a b : Bytes)
+      (us : Tokens) (from : ℕ)
       → IsErrAnd q (λ y. y ≡ e) → AppendsRead (Err e) (spelled w r) a b us from → AppendsText q (all r) a b
   unfolding AppendsRead AppendsText
   whole_exit q e r a b us from x h = let p = err_from_is_err_and q x in rw (p.1, p.2) (by e h)
@@ -113,7 +117,8 @@ pub flat_is : (p : ProtocolVersion) (d : ℕ) (ts : Tokens) (x : Bytes) (v : Val
 flat_is p d ts x v tokens text readable =
     ap (λ (us : Tokens). flat_encoding p d us x) tokens
     ∙ ap (λ (y : Bytes). flat_encoding p d (placed 0 (tokens_of v)) y) text
-    ∙ ap (λ (r : Read Value). option_and_then (encoding_in p d) (whole (length (text_of v)) r)) (reads-whole d v readable)
+    ∙ ap (λ (r : Read Value). option_and_then (encoding_in p d) (whole (length (text_of v)) r))
+    (reads-whole d v readable)
     ∙ ap (λ (b : Bool). option_and_then (encoding_in p d) (cond b (Some v) None)) (same (length (text_of v)))
 
 -- where bytes are sent, they are a value's
@@ -121,7 +126,8 @@ pub flat_only : (p : ProtocolVersion) (d : ℕ) (ts : Tokens) (x b : Bytes) → 
     → SendsReply p d ts x b
 flat_only p d ts x b e = by (whole (length x) (next_value x d ts 0)) refl e
   where
-    by : (o : Option Value) → whole (length x) (next_value x d ts 0) ≡ o → option_and_then (encoding_in p d) o ≡ Some b
+    by : (o : Option Value) → whole (length x) (next_value x d ts 0) ≡ o → option_and_then (encoding_in p d) o
+        ≡ Some b
         → SendsReply p d ts x b
     by None i j = absurd (cc)
     by (Some v) i j = let is = whole-is d ts x v i in record {

@@ -1,5 +1,6 @@
 -- What is read and written, one after another.
-use Rattle.std.proofs.Common.{◌≡◌, ℕ, zero, suc, ◌+◌, List, [], ◌∷◌, ◌++◌, length, Option, None, Some, Result, Ok, Err}
+use Rattle.std.proofs.Common.{◌≡◌, ℕ, zero, suc, ◌+◌, List, [], ◌∷◌, ◌++◌, length, Option, None, Some, Result, Ok}
+use Rattle.std.proofs.Common.{Err}
 use Rattle.std.proofs.Common.{refl, sym, ap, subst, ◌∙◌, append_assoc, append-nil, arith}
 use Rattle.std.proofs.lemmas.Result.{err_from_is_err_and}
 use Rattle.std.specs.Result.{IsErrAnd}
@@ -64,7 +65,11 @@ reads_then r (got x ts at) f a b c us ws from to h k =
         → after a (after x (f ts at)) ≡ after b (f us from) → AppendsRead r (f us from) b c ws to
         → AppendsRead r (after x (f ts at)) a c ws to
     by (Ok done) here keeps same k = same ∙ k
-    by (Err NoSpelling) here keeps same k = (ap (λ (q : Read Bytes). after x q) (here ∙ k.0), keeps_then a b c keeps k.1)
+    by (Err NoSpelling) here keeps same k = (
+      ap (λ (q : Read Bytes). after x q) (here
+          ∙ k.0),
+      keeps_then a b c keeps k.1,
+    )
     by (Err Memory) here keeps same k = keeps_then a b c keeps k
 
 -- the exit of a `?`: a refusal stays, whatever follows
@@ -85,7 +90,8 @@ pub text_exit : (r : Result (Unit {0}) WriteError) (e : WriteError) (t : Option 
 text_exit r e t f a b us ws from to x h = reads_exit r e (made_of t us from) f a b us ws from to x
     (text_read (Err e) t us from a b h)
 
-pub text_then : (r : Result (Unit {0}) WriteError) (t : Option Bytes) (f : Next Bytes) (a b c : Bytes) (us ws : Tokens)
+pub text_then : (r : Result (Unit {0}) WriteError) (t : Option Bytes) (f : Next Bytes) (a b c : Bytes)
+    (us ws : Tokens)
     (from to : ℕ) → AppendsText (Ok tt) t a b → AppendsRead r (f us from) b c ws to
     → AppendsRead r (both (made_of t us from) f) a c ws to
 text_then r t f a b c us ws from to h k = reads_then r (made_of t us from) f a b c us ws from to
@@ -104,7 +110,8 @@ reads_refused s a ts at e = (e, ap (λ (x : Bytes). x) (keeps_itself a))
     keeps_itself a = subst (Keeps a) (append-nil a) (front a [])
 
 -- the exit of a `?` at what isn't read
-pub refused_exit : (r : Result (Unit {0}) WriteError) (e : WriteError) (s : Read Bytes) (a : Bytes) (ts : Tokens) (at : ℕ)
+pub refused_exit : (r : Result (Unit {0}) WriteError) (e : WriteError) (s : Read Bytes) (a : Bytes) (ts : Tokens)
+    (at : ℕ)
     → IsErrAnd r (λ y. y ≡ e) → e ≡ NoSpelling → s ≡ refused → AppendsRead r s a a ts at
 refused_exit r e s a ts at x is none = let p = err_from_is_err_and r x in
     rw (p.1, p.2 ∙ is) (reads_refused s a ts at none)
@@ -170,7 +177,8 @@ module _ (spell : Spell Value) (read : Next Value) where
 
   pub values_more : (n : ℕ) (ts : Tokens) (at : ℕ) → Values (suc n) ts at
       ≡ both (spelled spell (read ts at)) (Values n)
-  values_more n ts at = read_both spell (joined spell) (joined spell) (λ v vs. v ∷ vs) (next_values read n) (read ts at)
+  values_more n ts at = read_both spell (joined spell) (joined spell) (λ v vs. v ∷ vs) (next_values read n)
+      (read ts at)
       (λ v vs. refl)
 
   -- one, and those after it
@@ -191,9 +199,11 @@ module _ (spell : Spell Value) (read : Next Value) where
   value_exit r e m n a b ts us ws at from to more x h = reads_as r _ _ a b ws to (values_first m n ts at more)
       (reads_exit r e (spelled spell (read ts at)) (Values n) a b us ws from to x h)
 
-  pub values_none : (n : ℕ) (a : Bytes) (ts : Tokens) (at : ℕ) → n ≡ 0 → AppendsRead (Ok tt) (Values n ts at) a a ts at
+  pub values_none : (n : ℕ) (a : Bytes) (ts : Tokens) (at : ℕ) → n ≡ 0
+      → AppendsRead (Ok tt) (Values n ts at) a a ts at
   unfolding AppendsRead
-  values_none n a ts at e = ap (λ (k : ℕ). after a (Values k ts at)) e ∙ ap (λ (b : Bytes). got b ts at) (append-nil a)
+  values_none n a ts at e = ap (λ (k : ℕ). after a (Values k ts at)) e
+      ∙ ap (λ (b : Bytes). got b ts at) (append-nil a)
 
   values_sum : (m n : ℕ) (ts : Tokens) (at : ℕ) → Values (m + n) ts at ≡ both (Values m ts at) (Values n)
   values_sum zero n ts at =
@@ -235,7 +245,8 @@ module _ (spell : Spell Value) (read : Next Value) where
           two k (read us from) ∙ head_made rest (spell k) second us from
           ∙ both_same (made_of (spell k) us from) (λ ts at. spelled rest (second ts at))
           (λ ws to. both (spelled spell (read ws to)) (Pairs n))
-          (λ ws to. read_both spell (λ ps. joined spell (flat ps)) rest (λ v ps. (v, ps)) (next_pairs read n) (read ws to)
+          (λ ws to. read_both spell (λ ps. joined spell (flat ps)) rest (λ v ps. (v, ps)) (next_pairs read n)
+          (read ws to)
           (λ v ps. refl))
 
   pairs_sum : (n : ℕ) (ts : Tokens) (at : ℕ) → Pairs n ts at ≡ Values (n + n) ts at
@@ -245,7 +256,8 @@ module _ (spell : Spell Value) (read : Next Value) where
   pairs_sum (suc n) ts at =
       let e : suc (suc (n + n)) ≡ suc n + suc n = omega arith in
       pair_more n ts at
-      ∙ both_same (spelled spell (read ts at)) (λ us from. both (spelled spell (read us from)) (Pairs n)) (Values (suc (n + n)))
+      ∙ both_same (spelled spell (read ts at)) (λ us from. both (spelled spell (read us from)) (Pairs n)) (Values
+      (suc (n + n)))
       (λ us from. both_same (spelled spell (read us from)) (Pairs n) (Values (n + n)) (pairs_sum n)
       ∙ sym (values_more (n + n) us from))
       ∙ sym (values_more (suc (n + n)) ts at) ∙ ap (λ (k : ℕ). Values k ts at) e
@@ -261,9 +273,11 @@ module _ (spell : Spell Value) (read : Next Value) where
   values_counted w (suc n) ts at = by (read ts at) (λ v. values_counted (λ k vs. w (suc k) (v ∷ vs)) n)
     where
       by : (r : Read Value)
-          → ((v : Value) (us : Tokens) (from : ℕ) → spelled (λ vs. w (suc (length vs)) (v ∷ vs)) (next_values read n us from)
+          → ((v : Value) (us : Tokens) (from : ℕ) → spelled (λ vs. w (suc (length vs)) (v ∷ vs))
+          (next_values read n us from)
           ≡ spelled (λ vs. w (suc n) (v ∷ vs)) (next_values read n us from))
-          → spelled (λ vs. w (length vs) vs) (then r (λ v us from. then (next_values read n us from) (λ vs. got (v ∷ vs))))
+          → spelled (λ vs. w (length vs) vs) (then r (λ v us from. then (next_values read n us from) (λ vs. got
+          (v ∷ vs))))
           ≡ spelled (w (suc n)) (then r (λ v us from. then (next_values read n us from) (λ vs. got (v ∷ vs))))
       by refused others = refl
       by (got v us from) others =
@@ -282,7 +296,8 @@ module _ (spell : Spell Value) (read : Next Value) where
           ≡ spelled (λ ps. w (suc n) ((k, v) ∷ ps)) (next_pairs read n us from)
 
       inner : (k : Value) (r : Read Value) → Others
-          → spelled (λ ps. w (length ps) ps) (then r (λ v ws to. then (next_pairs read n ws to) (λ ps. got ((k, v) ∷ ps))))
+          → spelled (λ ps. w (length ps) ps) (then r (λ v ws to. then (next_pairs read n ws to) (λ ps. got
+          ((k, v) ∷ ps))))
           ≡ spelled (w (suc n)) (then r (λ v ws to. then (next_pairs read n ws to) (λ ps. got ((k, v) ∷ ps))))
       inner k refused others = refl
       inner k (got v ws to) others =

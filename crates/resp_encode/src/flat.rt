@@ -45,14 +45,9 @@ pub fn encode_reply(
     ensures unchanged { OnErr result (out.new.items ≡ out.old.items) }
     ensures value { OnOk result ((v : Value) × (IsFlatOf reply.now v × IsReadable usual.depth v)) }
 {
-    let text = reply.text.as_slice();
-    encode_tokens(
-        reply.tokens.as_slice(),
-        text,
-        protocol,
-        Limits::default().depth,
-        out,
-    )
+    let tokens = reply.tokens.as_slice();
+    let depth = Limits::default().depth;
+    encode_tokens(tokens, reply.text.as_slice(), protocol, depth, out)
 }
 
 /// As [`encode_reply`], of tokens that may stand anywhere, up to so many levels of values inside

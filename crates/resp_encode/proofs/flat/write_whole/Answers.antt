@@ -10,15 +10,18 @@ returns-in_err-write_next g c =
 
 pub returns-then-place-text : goal.returns-then-place-text
 returns-then-place-text g c =
-    whole_left (encoding_in c.args.protocol c.args.depth) (length c.args.text.now) _ _ _ _ _ c.in_ok-write_next.ensures
+    whole_left (encoding_in c.args.protocol c.args.depth)
+    (length c.args.text.now) _ _ _ _ _ c.in_ok-write_next.ensures
     (λ none end. c.if-place-text.true end)
 
 pub returns-in-Some : goal.returns-in-Some
 returns-in-Some g c =
-    whole_left (encoding_in c.args.protocol c.args.depth) (length c.args.text.now) _ _ _ _ _ c.in_ok-write_next.ensures
+    whole_left (encoding_in c.args.protocol c.args.depth)
+    (length c.args.text.now) _ _ _ _ _ c.in_ok-write_next.ensures
     (λ none end. let more = c.in-Some.ensures.next in cc)
 
 pub returns : goal.returns
 returns g c =
-    whole_done (encoding_in c.args.protocol c.args.depth) (length c.args.text.now) _ _ _ _ _ c.in_ok-write_next.ensures
+    whole_done (encoding_in c.args.protocol c.args.depth)
+    (length c.args.text.now) _ _ _ _ _ c.in_ok-write_next.ensures
     c.in-None.ensures.next c.if-place-text.false

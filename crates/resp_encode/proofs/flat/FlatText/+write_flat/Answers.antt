@@ -12,25 +12,31 @@ use Rattle.resp_encode.proofs.FlatWriting.{text_exit, text_read, text_then, valu
 use Rattle.resp_encode.proofs.flat.FlatText.+write_flat.Goals as goal
 
 pub write_array-returns-in_err-write_count : goal.write_array-returns-in_err-write_count
-write_array-returns-in_err-write_count t g c = text_exit c.from_residual.result c.in_err-write_count.field-0.0 _ _ _ _ _ _ _ _
+write_array-returns-in_err-write_count t g c = text_exit c.from_residual.result c.in_err-write_count.field-0.0 _ _
+    _ _ _ _ _ _
     c.from_residual.ensures.1 c.in_err-write_count.ensures
 
 pub write_array-returns : goal.write_array-returns
-write_array-returns t g c = text_then c.write_values.result _ _ _ _ _ _ _ _ _ c.in_ok-write_count.ensures c.write_values.ensures
+write_array-returns t g c = text_then c.write_values.result _ _ _ _ _ _ _ _ _ c.in_ok-write_count.ensures
+    c.write_values.ensures
 
 pub write_map-returns-in_err-write_map_count : goal.write_map-returns-in_err-write_map_count
-write_map-returns-in_err-write_map_count t g c = text_exit c.from_residual.result c.in_err-write_map_count.field-0.0 _ _ _ _ _ _ _ _
+write_map-returns-in_err-write_map_count t g c = text_exit c.from_residual.result
+    c.in_err-write_map_count.field-0.0 _ _ _ _ _ _ _ _
     c.from_residual.ensures.1 c.in_err-write_map_count.ensures
 
 pub write_map-returns : goal.write_map-returns
-write_map-returns t g c = text_then c.write_pairs.result _ _ _ _ _ _ _ _ _ c.in_ok-write_map_count.ensures c.write_pairs.ensures
+write_map-returns t g c = text_then c.write_pairs.result _ _ _ _ _ _ _ _ _ c.in_ok-write_map_count.ensures
+    c.write_pairs.ensures
 
 pub write_attribute-returns-in_err-write_attributes : goal.write_attribute-returns-in_err-write_attributes
-write_attribute-returns-in_err-write_attributes t g c = reads_exit c.from_residual.result c.in_err-write_attributes.field-0.0 _ _ _ _ _ _ _ _
+write_attribute-returns-in_err-write_attributes t g c = reads_exit c.from_residual.result
+    c.in_err-write_attributes.field-0.0 _ _ _ _ _ _ _ _
     c.from_residual.ensures.1 c.in_err-write_attributes.ensures
 
 pub write_attribute-returns : goal.write_attribute-returns
-write_attribute-returns t g c = reads_then c.write_next.result _ _ _ _ _ _ _ _ _ c.in_ok-write_attributes.ensures c.write_next.ensures
+write_attribute-returns t g c = reads_then c.write_next.result _ _ _ _ _ _ _ _ _ c.in_ok-write_attributes.ensures
+    c.write_next.ensures
 
 pub write_values-returns : goal.write_values-returns
 write_values-returns t g c =
@@ -86,7 +92,8 @@ write_next-returns t g c =
 pub write_attributes-returns-in_err-write_length : goal.write_attributes-returns-in_err-write_length
 write_attributes-returns-in_err-write_length t g c =
     let sent : c.args.self.now.sent ≡ Some RESP3 = search rules in
-    rw sent (text_exit c.from_residual.result c.in_err-write_length.field-0.0 _ _ _ _ _ _ _ _ c.from_residual.ensures.1
+    rw sent (text_exit c.from_residual.result c.in_err-write_length.field-0.0 _ _ _ _ _ _ _ _
+    c.from_residual.ensures.1
     c.in_err-write_length.ensures)
 
 pub write_attributes-returns : goal.write_attributes-returns
@@ -112,7 +119,8 @@ write_push-returns-in_err-write_push_head t g c =
     reads_as c.from_residual-in_err-write_push_head.result _ _ _ _ us from
     (push_read c.args.self.now.sent c.args.levels c.args.self.now.text.now c.args.payload _
     (left c.args.place.now.tokens) us c.args.place.now.at from name.0 name.1)
-    (text_exit c.from_residual-in_err-write_push_head.result c.in_err-write_push_head.field-0.0 _ _ _ _ us us from from
+    (text_exit c.from_residual-in_err-write_push_head.result c.in_err-write_push_head.field-0.0 _ _ _ _ us us from
+    from
     c.from_residual-in_err-write_push_head.ensures.1 c.in_err-write_push_head.ensures)
 
 pub write_push-returns : goal.write_push-returns
@@ -159,7 +167,8 @@ write_token-returns-in-Set t g c =
     let at = c.args.place.now.at in
     let n = c.args.token.size in
     rw (c.in-Set.is)
-    (reads_as c.write_array-in-Set.result _ (both (made_of (counted_in c.args.self.now.sent c.set_mark.result n) ts at)
+    (reads_as c.write_array-in-Set.result _ (both (made_of
+    (counted_in c.args.self.now.sent c.set_mark.result n) ts at)
     (values_in c.args.self.now.sent c.args.levels x n)) _ _ _ _
     (set_read c.args.self.now.sent c.args.levels x n ts at
     ∙ ap (λ (o : Option (List ℕ)). both (made_of o ts at) (values_in c.args.self.now.sent c.args.levels x n))
@@ -203,6 +212,7 @@ write_token-returns-in_ok-bytes-in_default t g c =
     (other_token (next_value x c.args.levels) x c.args.token.kind c.args.token.size c.args.token.number
     (left c.args.place.now.tokens) c.args.place.now.at other.not-Nil other.not-Okay other.not-Int other.not-Array
     other.not-Map other.not-Attribute other.not-Boolean other.not-Set other.not-Push)
-    ∙ leaf_read c.args.self.now.sent c.args.levels x c.args.token.kind c.args.token.size (left c.args.place.now.tokens)
+    ∙ leaf_read c.args.self.now.sent c.args.levels x c.args.token.kind c.args.token.size
+    (left c.args.place.now.tokens)
     us c.args.place.now.at from _ c.in_ok-bytes-in_default.ensures.bytes)
     (text_read _ _ us from _ _ (c.write_leaf.ensures c.args.levels))

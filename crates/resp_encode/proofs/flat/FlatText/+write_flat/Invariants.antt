@@ -35,7 +35,9 @@ abbrev pub invariant-write_values-loop : goal.invariant-write_values-loop
 invariant-write_values-loop g l =
     let left = g.T.Tokens.left in
     (r : Result (Unit {0}) WriteError) (new : List ℕ) (ts : List Token) (at : ℕ)
-    → AppendsRead r (values_in l.self.sent l.levels l.self.text.now (l.count - l.counter) (left l.place.tokens) l.place.at)
+    → AppendsRead r (values_in l.self.sent l.levels l.self.text.now (l.count - l.counter)
+    (left l.place.tokens) l.place.at)
     l.out.items new ts at
-    → AppendsRead r (values_in l.self.sent l.levels l.self.text.now l.count (left l.initial.place.tokens) l.initial.place.at)
+    → AppendsRead r (values_in l.self.sent l.levels l.self.text.now l.count
+    (left l.initial.place.tokens) l.initial.place.at)
     l.initial.out.items new ts at
