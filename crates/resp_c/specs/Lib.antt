@@ -1,4 +1,5 @@
 pub mod Calls
+pub mod GivenTokens
 pub mod Held
 pub mod Packing
 pub mod Replies

@@ -9,7 +9,6 @@ use Rattle.resp_encode.specs.Encodings.{encoding_in}
 use Rattle.resp_flat.specs.declared.token.Token.{Token}
 use Rattle.resp_flat.specs.declared.token.TokenKind.{TokenKind}
 use Rattle.resp_flat.specs.declared.token.TokenKind.TheVariants as kind
-use Rattle.resp_flat.specs.declared.flat_reply.FlatReply.{FlatReply}
 use Rattle.resp_flat.specs.FlatReplies.{placed, tokens_of, text_of}
 use Rattle.resp_flat.specs.Readable.{IsReadable}
 use Rattle.resp_c.specs.declared.token.RespToken.{RespToken}
@@ -36,11 +35,6 @@ number_of_kind kind.Push = 14
 -- a token as C has it
 abbrev pub in_c : Token → RespToken
 in_c t = record { kind = number_of_kind t.kind; size = t.size; number = t.number; start = t.start }
-
--- the reply has the tokens and the text that C gave
-pub record HoldsGiven (tokens : List RespToken) (text : List ℕ) (reply : FlatReply) : Type 0 where
-  pub tokens_are : map in_c reply.tokens.items ≡ tokens
-  pub text_is : reply.text.items ≡ text
 
 -- each is the token of a kind
 abbrev pub AreTokens : List RespToken → Type 0

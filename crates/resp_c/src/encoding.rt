@@ -1,18 +1,18 @@
 //! Replies as bytes.
 
 ghost use Rattle.std.specs.Prelude.{◌≡◌, IfOk, IfErr, IsSome, Some};
-ghost use Rattle.resp_value.specs.declared.value.Value.{Value};
-ghost use Rattle.resp_encode.specs.Encodings.{encoding_in};
+ghost use Rattle.resp_encode.specs.FlatEncoding.{flat_encoding};
+ghost use Rattle.std.specs.List.{list_all};
+ghost use Rattle.resp_c.specs.GivenTokens.{is_known, known_tokens};
 ghost use Rattle.resp_c.specs.Packing.{Refuses};
-ghost use Rattle.resp_c.specs.Replies.{AreTokens, CanSend, HoldsGiven, IsGiven, Sends};
-ghost use Rattle.resp_c.specs.Replies.{refusal_status, version_of};
+ghost use Rattle.resp_c.specs.Replies.{CanSend, Sends, refusal_status, version_of};
 
+use crate::given_tokens::GivenTokens;
 use crate::status::{MEMORY, RANGE};
 use crate::token::RespToken;
 use resp_args::ProtocolVersion;
-use resp_encode::encode_within;
-use resp_flat::FlatReply;
-use resp_value::{RedisError, Value};
+use resp_encode::encode_tokens;
+use resp_value::RedisError;
 use std::alloc::Global;
 
 /// How many levels of values inside values are sent.
@@ -31,8 +31,17 @@ pub fn encode(
     let Some(version) = version_numbered(protocol) else {
         return Err(RANGE);
     };
-    let value = value_of(alloc, tokens, text)?;
-    bytes_of(alloc, &value, version)
+    if !are_known(tokens) {
+        return Err(RANGE);
+    }
+    bytes_of(alloc, tokens, text, version)
+}
+
+/// Whether the kinds of all these tokens are kinds.
+fn are_known(tokens: &[RespToken]) -> bool
+    ensures { result ≡ list_all is_known tokens.now }
+{
+    tokens.iter().all(|token| token.is_known())
 }
 
 /// The version of this number, if there is one.
@@ -46,46 +55,20 @@ fn version_numbered(number: u32) -> Option<ProtocolVersion>
     }
 }
 
-/// The value of these tokens and this text.
-fn value_of(alloc: Global, tokens: &[RespToken], text: &[u8]) -> Result<Value, u32>
-    ensures value { IfOk result (IsGiven tokens.now text.now) }
-    ensures only { IfOk result (λ v. (w : Value) → IsGiven tokens.now text.now w → w ≡ v) }
-    ensures refused { IfErr result (Refuses ((v : Value) × IsGiven tokens.now text.now v)) }
-{
-    let reply = reply_of(alloc, tokens, text)?;
-    match reply.to_value(alloc) {
-        Ok(value) => Ok(value),
-        Err(error) => Err(status_of(error)),
-    }
-}
-
-/// A reply of these tokens and this text.
-fn reply_of(alloc: Global, tokens: &[RespToken], text: &[u8]) -> Result<FlatReply, u32>
-    ensures given { IfOk result (HoldsGiven tokens.now text.now) }
-    ensures refused { IfErr result (Refuses (AreTokens tokens.now)) }
-{
-    let mut reply = FlatReply::new(alloc);
-    for token in tokens {
-        let Some(token) = token.token() else {
-            return Err(RANGE);
-        };
-        if reply.tokens.push(token).is_err() {
-            return Err(MEMORY);
-        }
-    }
-    match reply.text.extend_from_slice(text) {
-        Ok(()) => Ok(reply),
-        Err(_) => Err(MEMORY),
-    }
-}
-
-/// The bytes that send a value in a version of the protocol.
-fn bytes_of(alloc: Global, value: &Value, version: ProtocolVersion) -> Result<Vec<u8>, u32>
-    ensures bytes { IfOk result (λ v. encoding_in version 1000 value.now ≡ Some v.items) }
-    ensures refused { IfErr result (Refuses (IsSome (encoding_in version 1000 value.now))) }
+/// The bytes that send the reply of these tokens and this text in a version of the protocol.
+fn bytes_of(
+    alloc: Global,
+    tokens: &[RespToken],
+    text: &[u8],
+    version: ProtocolVersion,
+) -> Result<Vec<u8>, u32>
+    ensures bytes { IfOk result (λ v. flat_encoding version 1000 (known_tokens tokens.now) text.now
+        ≡ Some v.items) }
+    ensures refused { IfErr result (Refuses
+        (IsSome (flat_encoding version 1000 (known_tokens tokens.now) text.now))) }
 {
     let mut bytes = Vec::new(alloc);
-    match encode_within(value, version, LEVELS, &mut bytes) {
+    match encode_tokens(GivenTokens { tokens }, text, version, LEVELS, &mut bytes) {
         Ok(()) => Ok(bytes),
         Err(error) => Err(status_of(error)),
     }

@@ -10,6 +10,7 @@ ghost use Rattle.resp_c.specs.Replies.{EncodedInto};
 ghost use Rattle.resp_command.specs.Packed.{packed_or_none};
 
 mod encoding;
+mod given_tokens;
 mod handle;
 mod packing;
 mod parts;

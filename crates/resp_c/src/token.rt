@@ -2,6 +2,7 @@
 
 ghost use Rattle.std.specs.Prelude.{◌≡◌, Some, IfSome};
 ghost use Rattle.resp_flat.specs.declared.token.TokenKind.{TokenKind};
+ghost use Rattle.resp_c.specs.GivenTokens.{is_known};
 ghost use Rattle.resp_c.specs.Replies.{number_of_kind, in_c};
 ghost use Rattle.resp_flat.specs.declared.token.Token.{Token};
 
@@ -18,6 +19,13 @@ pub struct RespToken {
 }
 
 impl RespToken {
+    /// Whether its kind is one.
+    pub fn is_known(&self) -> bool
+        ensures { result ≡ is_known self.now }
+    {
+        kind_numbered(self.kind).is_some()
+    }
+
     /// The token, if its kind is one.
     pub fn token(&self) -> Option<Token>
         ensures token { IfSome result (λ t. in_c t ≡ self.now) }

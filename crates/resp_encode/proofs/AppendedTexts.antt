@@ -16,11 +16,11 @@ use Rattle.resp_encode.specs.Resp2.{flat}
 use Rattle.resp_encode.specs.Encoding.{joined, given, is_line, has_break}
 use Rattle.resp_encode.specs.Appending.{Keeps, AppendsText}
 
-front : (a x : List ℕ) → Keeps a (a ++ x)
+pub front : (a x : List ℕ) → Keeps a (a ++ x)
 front [] x = refl
 front (c ∷ a) x = ap (λ s. c ∷ s) (front a x)
 
-keeps_then : (a b c : List ℕ) → Keeps a b → Keeps b c → Keeps a c
+pub keeps_then : (a b c : List ℕ) → Keeps a b → Keeps b c → Keeps a c
 keeps_then [] b c h k = refl
 keeps_then (x ∷ a) [] c h k = absurd (cc)
 keeps_then (x ∷ a) (y ∷ b) [] h k = absurd (cc)
@@ -132,7 +132,7 @@ chosen r false o p a b h k = k refl
 
 -- ---- values one after another
 
-append_texts : (t u w : Option (List ℕ)) → ((t ++? u) ++? w) ≡ (t ++? (u ++? w))
+pub append_texts : (t u w : Option (List ℕ)) → ((t ++? u) ++? w) ≡ (t ++? (u ++? w))
 append_texts (Some x) (Some y) (Some z) = ap (λ s. Some s) (append_assoc x y z)
 append_texts (Some x) (Some y) None = refl
 append_texts (Some x) None w = refl
@@ -207,7 +207,7 @@ joined_pushed spell (v ∷ vs) w = ap (λ t. spell v ++? t) (joined_pushed spell
     ∙ sym (append_texts (spell v) (joined spell vs) (spell w))
 
 -- a count, values and one after them
-counted_pushed : (spell : Value → Option (List ℕ)) (t : Option (List ℕ)) (vs : List Value) (w : Value)
+pub counted_pushed : (spell : Value → Option (List ℕ)) (t : Option (List ℕ)) (vs : List Value) (w : Value)
     → (t ++? joined spell (vs ++ w ∷ [])) ≡ ((t ++? joined spell vs) ++? spell w)
 counted_pushed spell t vs w = ap (λ u. t ++? u) (joined_pushed spell vs w)
     ∙ sym (append_texts t (joined spell vs) (spell w))

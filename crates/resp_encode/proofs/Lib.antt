@@ -3,7 +3,11 @@ pub mod BreaksFound
 pub mod CutTexts
 pub mod DoublesReadBack
 pub mod EncodedSpells
+pub mod FlatLeaves
+pub mod FlatParts
+pub mod FlatWhole
 pub mod FlatWires
+pub mod FlatWriting
 pub mod Levels
 pub mod NumbersReadBack
 pub mod OwnNames

@@ -1,9 +1,14 @@
 //! The laws of what is sent: functions that do nothing, and whose clauses are proved.
 
-ghost use Rattle.std.specs.Prelude.{◌≡◌, ℕ, List};
+ghost use Rattle.std.specs.Prelude.{◌≡◌, ℕ, List, Some};
 ghost use Rattle.resp_value.specs.declared.value.Value.{Value};
 ghost use Rattle.resp_encode.specs.Encoding.{LawOfEncoding};
 ghost use Rattle.resp_encode.specs.FlatLaw.{LawOfFlatReplies};
+ghost use Rattle.resp_encode.specs.Encodings.{encoding_in};
+ghost use Rattle.resp_encode.specs.FlatEncoding.{flat_encoding, SendsReply};
+ghost use Rattle.resp_args.specs.declared.options.ProtocolVersion.{ProtocolVersion};
+ghost use Rattle.resp_flat.specs.declared.token.Token.{Token};
+ghost use Rattle.resp_flat.specs.FlatReplies.{placed, tokens_of, text_of};
 ghost use Rattle.resp_flat.specs.Readable.{IsReadable};
 ghost use Rattle.resp_parse.specs.Grammar.{WellFormed};
 ghost use Rattle.resp_encode.specs.Resp2.{resp2_of, IsResp2};
@@ -31,6 +36,17 @@ pub fn law_of_encoding()
 /// begins with one of the five type bytes of RESP2.
 pub fn law_of_resp2_encoding()
     ensures law { (d : ℕ) (v : Value) → LawOfResp2Encoding d v }
+{}
+
+/// What is sent for the tokens and the text of a value, as
+/// [`encode_tokens`](crate::encode_tokens) does, is what is sent for the value; and where something
+/// is sent, the tokens and the text are a value's.
+pub fn law_of_flat_encoding()
+    ensures value { (p : ProtocolVersion) (d : ℕ) (ts : List Token) (x : List ℕ) (v : Value) →
+        ts ≡ placed 0 (tokens_of v) → x ≡ text_of v → IsReadable d v →
+        flat_encoding p d ts x ≡ encoding_in p d v }
+    ensures only { (p : ProtocolVersion) (d : ℕ) (ts : List Token) (x bytes : List ℕ) →
+        flat_encoding p d ts x ≡ Some bytes → SendsReply p d ts x bytes }
 {}
 
 /// The tokens and the text of a flat reply are those of one value, of all that a server can send.

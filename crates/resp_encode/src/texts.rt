@@ -74,7 +74,7 @@ pub(crate) fn write_error(out: &mut Vec<u8>, error: &ServerError) -> Result<(), 
 
 /// Appends an error's text in a line, or in a body where CR LF stands in it.
 #[tactic(auto, using(crate::proofs::AppendedTexts::chosen))]
-fn write_error_text(out: &mut Vec<u8>, text: &[u8]) -> Result<(), WriteError>
+pub(crate) fn write_error_text(out: &mut Vec<u8>, text: &[u8]) -> Result<(), WriteError>
     ensures { AppendsText result (error_text text.now) out.old.items out.new.items }
 {
     if breaks(text) {

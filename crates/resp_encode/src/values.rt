@@ -68,7 +68,7 @@ pub fn encode_within(
 }
 
 /// What a call answers that doesn't write a value.
-fn refusal(error: WriteError) -> RedisError
+pub(crate) fn refusal(error: WriteError) -> RedisError
     ensures { RefusalFor error result }
 {
     match error {
@@ -283,7 +283,7 @@ fn write_named(
 }
 
 /// Appends a name as a bulk string, one level deeper than what it names.
-fn write_name(
+pub(crate) fn write_name(
     out: &mut Vec<u8>,
     name: &str,
     protocol: ProtocolVersion,

@@ -407,24 +407,27 @@ over-value x (suc d) ts at =
 nothing-behind : (y : List ℕ) → drop (length y) y ≡ []
 nothing-behind y = grind (arith, common_steps)
 
--- what is read of a whole reply is the value whose flat form it is
-pub read-flat : (d : ℕ) (reply : FlatReply) (ts : Tokens) (x : List ℕ) (v : Value) → ts ≡ reply.tokens.items → x ≡ reply.text.items → whole (length x) (next_value x d ts 0) ≡ Some v → IsFlatOf reply v
-read-flat d reply ts x v tokens text read = by (next_value x d ts 0) (over-value x d ts 0) read
+-- what is read of all tokens and all text is the value of which they are
+pub whole-is : (d : ℕ) (ts : Tokens) (x : List ℕ) (v : Value) → whole (length x) (next_value x d ts 0) ≡ Some v → (ts ≡ placed 0 (tokens_of v)) × (x ≡ text_of v)
+whole-is d ts x v read = by (next_value x d ts 0) (over-value x d ts 0) read
   where
     is-end : (w : Value) (b : Bool) → cond b (Some w) None ≡ Some v → (b ≡ true) × (w ≡ v)
     is-end w true e = (refl, cc)
     is-end w false e = absurd (cc)
 
-    by : (r : Read Value) → Holds (OverValue x ts 0) r → whole (length x) r ≡ Some v → IsFlatOf reply v
+    by : (r : Read Value) → Holds (OverValue x ts 0) r → whole (length x) r ≡ Some v → (ts ≡ placed 0 (tokens_of v)) × (x ≡ text_of v)
     by refused h e = absurd (cc)
     by (got w (t ∷ us) to) h e = absurd (cc)
     by (got w [] to) h e =
         let its = is-end w (to == length x) e in
-        let end : to ≡ length x = eqb-true to (length x) its.0 in
-        record {
-          tokens = sym tokens ∙ h.tokens ∙ append-nil (placed 0 (tokens_of w)) ∙ ap (λ (y : Value). placed 0 (tokens_of y)) its.1;
-          text = sym text ∙ h.text ∙ ap (λ (n : ℕ). text_of w ++ drop n x) end ∙ ap (λ (y : List ℕ). text_of w ++ y) (nothing-behind x) ∙ append-nil (text_of w) ∙ ap text_of its.1;
-        }
+        let end : to ≡ length x = eqb-true to (length x) its.0 in (
+          h.tokens ∙ append-nil (placed 0 (tokens_of w)) ∙ ap (λ (y : Value). placed 0 (tokens_of y)) its.1,
+          h.text ∙ ap (λ (n : ℕ). text_of w ++ drop n x) end ∙ ap (λ (y : List ℕ). text_of w ++ y) (nothing-behind x) ∙ append-nil (text_of w) ∙ ap text_of its.1,
+        )
+
+-- what is read of a whole reply is the value whose flat form it is
+pub read-flat : (d : ℕ) (reply : FlatReply) (ts : Tokens) (x : List ℕ) (v : Value) → ts ≡ reply.tokens.items → x ≡ reply.text.items → whole (length x) (next_value x d ts 0) ≡ Some v → IsFlatOf reply v
+read-flat d reply ts x v tokens text read = let is = whole-is d ts x v read in record { tokens = sym tokens ∙ is.0; text = sym text ∙ is.1 }
 
 -- what is read from a token on is shown there
 pub read-shown : (d : ℕ) (t : Token) (ts : Tokens) (x : List ℕ) (v : Value) → value_from x d t ts ≡ Some v → IsShownIn (t ∷ ts, x) v

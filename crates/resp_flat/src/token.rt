@@ -78,8 +78,9 @@ impl Token {
     ghost use Rattle.resp_flat.specs.FlatValues.{int_at, truth_at, is_attribute};
     ghost use Rattle.resp_flat.specs.FlatValues.{element_count, pair_count};
 
-    /// Whether a token of its kind may have its size and its number.
-    pub(crate) fn may_stand(&self) -> bool
+    /// Whether a token of its kind may have its size and its number: a kind with text has no number,
+    /// and a push has at least the name of its kind.
+    pub fn may_stand(&self) -> bool
         ensures { result ≡ may_have self.now.kind self.now.size self.now.number }
     {
         match self.kind {

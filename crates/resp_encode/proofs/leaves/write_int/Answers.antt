@@ -1,0 +1,17 @@
+use Rattle.resp_value.specs.declared.value.Value.{Int}
+use Rattle.resp_value.specs.declared.value.Value.TheVariants.{rolls-Int}
+use Rattle.resp_value.specs.declared.value.Value.TheOpen.{Value-F}
+use Rattle.std.proofs.Common.{rules}
+use Rattle.resp_encode.proofs.FlatLeaves.{in_resp2, in_resp3, unsent}
+use Rattle.resp_encode.proofs.leaves.write_int.Goals as goal
+
+pub returns-in-Some-RESP2 : goal.returns-in-Some-RESP2
+returns-in-Some-RESP2 c = λ d. in_resp2 _ _ d (Value-F.Int c.args.n) (Int c.args.n) _ _ (rolls-Int c.args.n)
+    (search rules) (search rules)
+
+pub returns-in-Some-RESP3 : goal.returns-in-Some-RESP3
+returns-in-Some-RESP3 c = λ d. in_resp3 _ _ d (Value-F.Int c.args.n) (Int c.args.n) _ _ (rolls-Int c.args.n)
+    (search rules) (search rules)
+
+pub returns-in-None : goal.returns-in-None
+returns-in-None c = λ d. unsent _ d (Int c.args.n) _ c.in-None.is

@@ -1,0 +1,16 @@
+use Rattle.std.proofs.Common.{rules}
+use Rattle.resp_value.specs.declared.value.Value.{Okay}
+use Rattle.resp_value.specs.declared.value.Value.TheVariants.{rolls-Okay}
+use Rattle.resp_value.specs.declared.value.Value.TheOpen.{Value-F}
+use Rattle.resp_encode.proofs.FlatLeaves.{in_resp2, in_resp3, unsent}
+use Rattle.resp_encode.proofs.leaves.write_ok.Goals as goal
+
+pub returns-in-Some-RESP2 : goal.returns-in-Some-RESP2
+returns-in-Some-RESP2 c = λ d. in_resp2 _ _ d Value-F.Okay Okay _ _ rolls-Okay (search rules) c.write_okay.ensures
+
+pub returns-in-Some-RESP3 : goal.returns-in-Some-RESP3
+returns-in-Some-RESP3 c = λ d. in_resp3 _ _ d Value-F.Okay Okay _ _ rolls-Okay
+    (search rules) c.write_okay-in-Some-RESP3.ensures
+
+pub returns-in-None : goal.returns-in-None
+returns-in-None c = λ d. unsent _ d Okay _ c.in-None.is
