@@ -15,6 +15,8 @@ use Rattle.example_server.specs.declared.command.KeyCommand.TheVariants as comma
 use Rattle.example_server.specs.declared.command.SetOptions.{SetOptions}
 use Rattle.example_server.specs.declared.command.Condition.{Condition}
 use Rattle.example_server.specs.declared.command.Condition.TheVariants as condition
+use Rattle.example_server.specs.declared.command.Reach.{Reach}
+use Rattle.example_server.specs.declared.command.Reach.TheVariants as reach
 use Rattle.example_server.specs.declared.refusal.Refusal.{Refusal}
 use Rattle.example_server.specs.declared.refusal.Refusal.TheVariants as refusal
 use Rattle.example_server.specs.declared.reply.Reply.{Reply}
@@ -97,10 +99,14 @@ abbrev pub Counts : Store → Store → List Key → Reply → Type 0
 Counts old new keys answer =
     IsUnchanged old new × (answer ≡ reply.Count (count_by (λ key. is_some (held old key)) keys))
 
--- EXPIRE answers whether the key is there, and forgets the time
-abbrev pub Expires : Store → Store → Key → Reply → Type 0
-Expires old new key answer =
-    IsUnchanged old new × (answer ≡ reply.Count (if is_some (held old key) then 1 else 0))
+-- EXPIRE answers whether the key is there and given a time, which is forgotten: no key has one
+abbrev pub expire_count : Option Entry → Reach → ℕ
+expire_count before reach.EveryKey = if is_some before then 1 else 0
+expire_count before reach.KeysWithTime = 0
+
+abbrev pub Expires : Store → Store → Key → Reach → Reply → Type 0
+Expires old new key reached answer =
+    IsUnchanged old new × (answer ≡ reply.Count (expire_count (held old key) reached))
 
 -- one more than the integer that is held, or why there is none
 abbrev pub CountsUp : Option Entry → Result ℤ Refusal → Type 0
@@ -163,7 +169,7 @@ AnswersKeys old new (command.Set key value options) = Sets old new key value opt
 AnswersKeys old new (command.Del keys) = Deletes old new keys.items
 AnswersKeys old new (command.Exists keys) = Counts old new keys.items
 AnswersKeys old new (command.Incr key) = Increments old new key
-AnswersKeys old new (command.Expire key) = Expires old new key
+AnswersKeys old new (command.Expire key reached) = Expires old new key reached
 AnswersKeys old new (command.HSet key pairs) = SetsFields old new key pairs.items
 AnswersKeys old new (command.HGetAll key) = GetsAll old new key
 

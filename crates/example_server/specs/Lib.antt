@@ -1,7 +1,11 @@
 pub mod Connections
+pub mod Inline
 pub mod Integers
 pub mod KeyCommands
+pub mod Lines
 pub mod Names
+pub mod ProtocolErrors
 pub mod Refusals
 pub mod Replies
+pub mod Requests
 pub mod Sessions

@@ -6,7 +6,9 @@ use Rattle.std.specs.declared.alloc.Global.{Global}
 use Rattle.resp_containers.specs.Lossy.{lossy}
 use Rattle.resp_errors.specs.ServerErrors.{server_error}
 use Rattle.resp_value.specs.declared.value.Value.{Value, ServerError}
+use Rattle.example_server.specs.Lines.{end_at}
 use Rattle.example_server.specs.Names.{text_of}
+use Rattle.example_server.specs.ProtocolErrors.{spaced}
 use Rattle.example_server.specs.declared.refusal.Refusal.{Refusal}
 use Rattle.example_server.specs.declared.refusal.Refusal.TheVariants as refusal
 
@@ -14,14 +16,18 @@ use Rattle.example_server.specs.declared.refusal.Refusal.TheVariants as refusal
 abbrev pub Word : Type 0
 Word = Vec ℕ Global
 
+-- the bytes before the first NUL
+abbrev pub c_string : List ℕ → List ℕ
+c_string bytes = take (end_at 0 bytes) bytes
+
 -- no more of a word is repeated
 abbrev pub front : List ℕ → List ℕ
-front bytes = take 128 bytes
+front bytes = take 128 (c_string bytes)
 
 -- a word in quotes after what stands there, as far as 128 bytes have room for it
 abbrev pub with_quoted : List ℕ → Word → List ℕ
 with_quoted shown word = if nat_lt (length shown) 128
-    then shown ++ codes "'" ++ take (128 - length shown) word.items ++ codes "' "
+    then shown ++ codes "'" ++ take (128 - length shown) (c_string word.items) ++ codes "' "
     else shown
 
 -- words in quotes, one after another
@@ -43,7 +49,9 @@ fixed_line refusal.NoSuchVersion = codes "NOPROTO unsupported protocol version"
 fixed_line refusal.NoSuchDatabase = codes "ERR DB index is out of range"
 fixed_line refusal.ClientName =
     codes "ERR Client names cannot contain spaces, newlines or special characters."
-fixed_line refusal.ExpireTime = codes "ERR invalid expire time in 'set' command"
+fixed_line refusal.NxWithOthers =
+    codes "ERR NX and XX, GT or LT options at the same time are not compatible"
+fixed_line refusal.GtWithLt = codes "ERR GT and LT options at the same time are not compatible"
 fixed_line refusal.WrongType =
     codes "WRONGTYPE Operation against a key holding the wrong kind of value"
 fixed_line refusal.NotInteger = codes "ERR value is not an integer or out of range"
@@ -66,13 +74,11 @@ line_of (refusal.UnknownSubcommand name word) = codes "ERR unknown subcommand '"
 line_of (refusal.WrongNumber name) =
     codes "ERR wrong number of arguments for '" ++ text_of name ++ codes "' command"
 line_of (refusal.HelloOption word) =
-    codes "ERR Syntax error in HELLO option '" ++ word.items ++ codes "'"
-line_of (refusal.ExpireOption word) = codes "ERR Unsupported option " ++ word.items
+    codes "ERR Syntax error in HELLO option '" ++ c_string word.items ++ codes "'"
+line_of (refusal.ExpireOption word) = codes "ERR Unsupported option " ++ c_string word.items
+line_of (refusal.ExpireTime name) =
+    codes "ERR invalid expire time in '" ++ text_of name ++ codes "' command"
 line_of why = fixed_line why
-
--- a space for a CR or LF
-abbrev pub spaced : ℕ → ℕ
-spaced byte = if (byte == 13) || (byte == 10) then 32 else byte
 
 -- the error reply: the line without a CR or LF, and U+FFFD for what is no UTF-8
 abbrev pub error_of : Refusal → Value

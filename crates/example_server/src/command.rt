@@ -46,12 +46,21 @@ pub enum KeyCommand {
     Exists(Vec<Vec<u8>>),
     /// `INCR key`
     Incr(Vec<u8>),
-    /// `EXPIRE key seconds`
-    Expire(Vec<u8>),
+    /// `EXPIRE key seconds`, and to which keys it gives a time.
+    Expire(Vec<u8>, Reach),
     /// `HSET key`, with fields and their values.
     HSet(Vec<u8>, Vec<(Vec<u8>, Bytes)>),
     /// `HGETALL key`
     HGetAll(Vec<u8>),
+}
+
+/// To which keys `EXPIRE` gives a time. No key has one, since times are forgotten.
+#[derive(Clone, Copy)]
+pub enum Reach {
+    /// No option, `NX` or `LT`: to keys without a time, too.
+    EveryKey,
+    /// `XX` or `GT`: to keys that have one.
+    KeysWithTime,
 }
 
 /// A command about the connection.

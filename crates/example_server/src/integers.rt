@@ -2,7 +2,7 @@
 
 ghost use Rattle.std.specs.Prelude.{◌≡◌, IfOk};
 ghost use Rattle.std.specs.Fmt.{signed_decimal};
-ghost use Rattle.example_server.specs.Integers.{ReadsInteger};
+ghost use Rattle.example_server.specs.Integers.{ReadsInteger, integer};
 
 use itoa::Buffer;
 use resp_core::Bytes;
@@ -10,7 +10,8 @@ use std::alloc::{AllocError, Global};
 
 /// The integer that a server writes as these bytes: no plus sign, no leading zero, no space.
 pub fn integer_of(bytes: &[u8]) -> Option<i64>
-    ensures { ReadsInteger bytes.now result }
+    ensures writes { ReadsInteger bytes.now result }
+    ensures value { result ≡ integer bytes.now }
 {
     let Ok(text) = str::from_utf8(bytes) else {
         return None;

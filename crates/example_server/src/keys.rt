@@ -4,6 +4,7 @@ ghost use Rattle.std.specs.Prelude.{◌≡◌, ◌-◌, length, count_by, is_som
 ghost use Rattle.std.specs.BTreeMap.{get as value_at};
 ghost use Rattle.example_server.specs.KeyCommands.{cmp, without, Expires};
 
+use crate::command::Reach;
 use crate::reply::Reply;
 use crate::store::Store;
 
@@ -26,9 +27,12 @@ pub fn exists(store: &Store, keys: &[Vec<u8>]) -> usize
     keys.iter().filter(|key| store.contains_key(*key)).count()
 }
 
-/// `EXPIRE`: whether the key is there.
-pub fn expire(store: &Store, key: &Vec<u8>) -> Reply
-    ensures { Expires store.now store.now key.now result }
+/// `EXPIRE`: whether the key is there and given a time.
+pub fn expire(store: &Store, key: &Vec<u8>, reach: Reach) -> Reply
+    ensures { Expires store.now store.now key.now reach result }
 {
-    Reply::Count(if store.contains_key(key) { 1 } else { 0 })
+    match reach {
+        Reach::EveryKey => Reply::Count(if store.contains_key(key) { 1 } else { 0 }),
+        Reach::KeysWithTime => Reply::Count(0),
+    }
 }

@@ -8,6 +8,7 @@ ghost use Rattle.example_server.specs.Integers.{Writes};
 ghost use Rattle.example_server.specs.Replies.{number_of};
 
 use crate::command::{Command, ConnectionCommand, KeyCommand, Request};
+use crate::expire_options::expire_options;
 use crate::integers::integer_of;
 use crate::names::CommandName;
 use crate::refusal::Refusal;
@@ -69,7 +70,7 @@ fn command_named(name: CommandName, arguments: Vec<Vec<u8>>) -> Option<Command> 
 /// The command about the connection of this name and these arguments.
 fn connection_command(name: CommandName, arguments: Vec<Vec<u8>>) -> Option<Command> {
     let command = match name {
-        CommandName::Ping => ConnectionCommand::Ping(at_most_one(arguments)?),
+        CommandName::Ping => return Some(ping(arguments)),
         CommandName::Echo => ConnectionCommand::Echo(Bytes::from(only(arguments)?)),
         CommandName::Hello => return Some(hello(arguments)),
         CommandName::Select => return select(arguments),
@@ -111,13 +112,13 @@ fn only(arguments: Vec<Vec<u8>>) -> Option<Vec<u8>> {
     }
 }
 
-/// One argument or none.
-fn at_most_one(arguments: Vec<Vec<u8>>) -> Option<Option<Bytes>> {
+/// With two arguments or more it is a command that is refused, so a transaction can queue it.
+fn ping(arguments: Vec<Vec<u8>>) -> Command {
     let mut arguments = arguments;
     if arguments.len() <= 1 {
-        Some(arguments.pop().map(Bytes::from))
+        Command::Connection(ConnectionCommand::Ping(arguments.pop().map(Bytes::from)))
     } else {
-        None
+        Command::Refused(Refusal::WrongNumber(CommandName::Ping))
     }
 }
 
@@ -140,17 +141,13 @@ fn set(arguments: Vec<Vec<u8>>) -> Option<Command> {
     }
 }
 
-/// A time, at which the key won't expire.
 fn expire(arguments: Vec<Vec<u8>>) -> Option<Command> {
     let mut arguments = arguments.into_iter();
     let key = arguments.next()?;
     let seconds = arguments.next()?;
-    if let Some(option) = arguments.next() {
-        return Some(Command::Refused(Refusal::ExpireOption(option)));
-    }
-    match integer_of(seconds.as_slice()) {
-        Some(_) => Some(Command::Keys(KeyCommand::Expire(key))),
-        None => Some(Command::Refused(Refusal::NotInteger)),
+    match expire_options(seconds.as_slice(), arguments) {
+        Ok(reach) => Some(Command::Keys(KeyCommand::Expire(key, reach))),
+        Err(refusal) => Some(Command::Refused(refusal)),
     }
 }
 

@@ -4,8 +4,10 @@ ghost use Rattle.std.specs.Prelude.{◌≡◌, ◌++◌, IfOk, OnOk, [], map, ta
 ghost use Rattle.std.specs.Char.{to_ascii_uppercase};
 ghost use Rattle.example_server.specs.Names.{text_of};
 ghost use Rattle.example_server.specs.Refusals.{error_of, line_of, fixed_line, unknown_line};
-ghost use Rattle.example_server.specs.Refusals.{quoted_after, with_quoted, spaced};
+ghost use Rattle.example_server.specs.Refusals.{c_string, front, quoted_after, with_quoted};
+ghost use Rattle.example_server.specs.ProtocolErrors.{spaced};
 
+use crate::lines::end_of;
 use crate::names::CommandName;
 use resp_core::{RedisResult, ServerError, Text, Value};
 use std::alloc::{AllocError, Global};
@@ -33,8 +35,12 @@ pub enum Refusal {
     ClientName,
     /// The options are none of the command's.
     Syntax,
-    /// `SET` has a time that is in no future.
-    ExpireTime,
+    /// The command has a time that is out of range.
+    ExpireTime(CommandName),
+    /// `EXPIRE` has `NX` and `XX`, `GT` or `LT`.
+    NxWithOthers,
+    /// `EXPIRE` has `GT` and `LT`.
+    GtWithLt,
     /// The key holds a value of another type.
     WrongType,
     /// A value or an argument is no integer.
@@ -59,7 +65,8 @@ const REPEATED: usize = 128;
 impl Refusal {
     /// The refusal as an error reply.
     ///
-    /// A CR or LF in a word is a space in it, and what isn't UTF-8 is U+FFFD.
+    /// A word that it repeats ends before a NUL, a CR or LF in it is a space, and what isn't UTF-8 is
+    /// U+FFFD.
     pub fn into_value(self, alloc: Global) -> RedisResult<Value>
         ensures { IfOk result (λ value. value ≡ error_of self) }
     {
@@ -81,6 +88,7 @@ impl Refusal {
                 word,
                 "'",
             ),
+            Refusal::ExpireTime(name) => expire_time(alloc, *name),
             Refusal::ExpireOption(word) => around(alloc, "ERR Unsupported option ", word, ""),
             other => Vec::from_slice(alloc, other.fixed_text().as_bytes()),
         }
@@ -97,7 +105,10 @@ impl Refusal {
             Refusal::ClientName => {
                 "ERR Client names cannot contain spaces, newlines or special characters."
             }
-            Refusal::ExpireTime => "ERR invalid expire time in 'set' command",
+            Refusal::NxWithOthers => {
+                "ERR NX and XX, GT or LT options at the same time are not compatible"
+            }
+            Refusal::GtWithLt => "ERR GT and LT options at the same time are not compatible",
             Refusal::WrongType => {
                 "WRONGTYPE Operation against a key holding the wrong kind of value"
             }
@@ -128,12 +139,23 @@ fn without_ends(alloc: Global, line: &[u8]) -> Result<Vec<u8>, AllocError>
     Ok(out)
 }
 
-/// A word between two texts.
+fn expire_time(alloc: Global, name: CommandName) -> Result<Vec<u8>, AllocError>
+    ensures { IfOk result (λ line. line.items ≡ codes "ERR invalid expire time in '"
+        ++ text_of name ++ codes "' command") }
+{
+    let mut line = Vec::from_slice(alloc, b"ERR invalid expire time in '")?;
+    line.extend_from_slice(name.text().as_bytes())?;
+    line.extend_from_slice(b"' command")?;
+    Ok(line)
+}
+
+/// A word, up to its first NUL, between two texts.
 fn around(alloc: Global, before: &str, word: &Vec<u8>, after: &str) -> Result<Vec<u8>, AllocError>
-    ensures { IfOk result (λ line. line.items ≡ before.now ++ word.now.items ++ after.now) }
+    ensures { IfOk result (λ line. line.items
+        ≡ before.now ++ c_string word.now.items ++ after.now) }
 {
     let mut line = Vec::from_slice(alloc, before.as_bytes())?;
-    line.extend_from_slice(word.as_slice())?;
+    line.extend_from_slice(c_string(word.as_slice()))?;
     line.extend_from_slice(after.as_bytes())?;
     Ok(line)
 }
@@ -176,10 +198,18 @@ fn quote(quoted: &mut Vec<u8>, argument: &Vec<u8>) -> Result<(), AllocError>
     Ok(())
 }
 
-/// The first bytes, at most so many.
-fn front(bytes: &[u8], most: usize) -> &[u8]
-    ensures { result.now ≡ take most bytes.now }
+/// The bytes before the first NUL, as a server's `printf` has them.
+fn c_string(bytes: &[u8]) -> &[u8]
+    ensures { result.now ≡ c_string bytes.now }
 {
+    &bytes[..end_of(bytes, 0)]
+}
+
+/// The first bytes before a NUL, at most so many.
+fn front(bytes: &[u8], most: usize) -> &[u8]
+    ensures { result.now ≡ take most (c_string bytes.now) }
+{
+    let bytes = c_string(bytes);
     if bytes.len() <= most {
         bytes
     } else {
@@ -193,7 +223,7 @@ fn unknown_subcommand(
     word: &Vec<u8>,
 ) -> Result<Vec<u8>, AllocError>
     ensures { IfOk result (λ line. line.items ≡ codes "ERR unknown subcommand '"
-        ++ take 128 word.now.items ++ codes "'. Try " ++ map to_ascii_uppercase (text_of name)
+        ++ front word.now.items ++ codes "'. Try " ++ map to_ascii_uppercase (text_of name)
         ++ codes " HELP.") }
 {
     let mut line = Vec::from_slice(alloc, b"ERR unknown subcommand '")?;

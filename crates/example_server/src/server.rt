@@ -5,13 +5,14 @@ ghost use Rattle.example_server.specs.Sessions.{Replied};
 
 use crate::command::Request;
 use crate::reading::request_of;
+use crate::requests::{Requests, Taken};
 use crate::session::{Session, answer};
-use resp_core::{ErrorKind, IoKind, Parser, RedisError, RedisResult, Value};
+use resp_core::{Bytes, IoKind, RedisError, RedisResult};
 use resp_encode::encode;
 use std::alloc::Global;
 use std::io::{Read, Write};
 
-/// Answers the commands of a reader, until it ends or one is `QUIT`.
+/// Answers the requests of a reader, until it ends, one is `QUIT`, or one can't be read.
 pub fn serve<R: Read, W: Write>(alloc: Global, reader: &mut R, writer: &mut W) -> RedisResult<()> {
     let mut server = Server::new(alloc);
     server.serve(reader, writer)
@@ -19,24 +20,28 @@ pub fn serve<R: Read, W: Write>(alloc: Global, reader: &mut R, writer: &mut W) -
 
 /// A server with its client.
 #[derive(Drop)]
-struct Server {
+pub struct Server {
     alloc: Global,
-    parser: Parser,
-    session: Session,
-    has_quit: bool,
+    /// What the client sent and isn't answered yet.
+    pub requests: Requests,
+    /// The client, and all that the server keeps.
+    pub session: Session,
+    /// Whether nothing more is answered.
+    pub is_closed: bool,
 }
 
 impl Server {
-    fn new(alloc: Global) -> Server {
+    /// A server with no keys, of which nothing was asked.
+    pub fn new(alloc: Global) -> Server {
         Server {
             alloc,
-            parser: Parser::new(alloc),
+            requests: Requests::new(alloc),
             session: Session::new(alloc),
-            has_quit: false,
+            is_closed: false,
         }
     }
 
-    /// Answers the commands of a reader, until it ends or one is `QUIT`.
+    /// Answers the requests of a reader.
     fn serve<R: Read, W: Write>(&mut self, reader: &mut R, writer: &mut W) -> RedisResult<()> {
         let mut chunk = [0; 4096];
         for _ in 0..u64::MAX {
@@ -44,73 +49,81 @@ impl Server {
             if n == 0 {
                 break;
             }
-            self.parser.feed(&chunk[..n])?;
-            let replies = self.replies()?;
-            writer.write_all(replies.as_slice())?;
+            self.feed(&chunk[..n])?;
+            self.answer_all(writer)?;
             writer.flush()?;
-            if self.has_quit {
+            if self.is_closed {
                 return Ok(());
             }
         }
-        if self.parser.in_progress() {
+        if self.requests.in_progress() {
             return Err(RedisError::from(IoKind::UnexpectedEof));
         }
         Ok(())
     }
 
-    /// The replies to the commands that the parser holds whole, up to `QUIT`.
-    fn replies(&mut self) -> RedisResult<Vec<u8>> {
-        let mut replies = Vec::new(self.alloc);
-        for _ in 0..u64::MAX {
-            if self.has_quit {
-                break;
-            }
-            let Some(request) = self.parser.take_value()? else {
-                break;
-            };
-            self.reply(request, &mut replies)?;
-        }
-        Ok(replies)
+    /// Adds what the client sent.
+    pub fn feed(&mut self, bytes: &[u8]) -> RedisResult<()> {
+        self.requests.feed(bytes)?;
+        Ok(())
     }
 
-    /// Appends the reply to what a client sent.
-    fn reply(&mut self, value: Value, replies: &mut Vec<u8>) -> RedisResult<()> {
-        match resp_server::Request::from_value(value) {
-            Ok(request) => self.reply_to(words_of(self.alloc, request)?, replies),
-            Err(other) => other_value(&other),
+    /// Answers the requests that are whole, each before the next one is taken.
+    fn answer_all<W: Write>(&mut self, writer: &mut W) -> RedisResult<()> {
+        for _ in 0..u64::MAX {
+            let Some(reply) = self.next_reply()? else {
+                break;
+            };
+            writer.write_all(reply.as_slice())?;
         }
+        Ok(())
+    }
+
+    /// What is written for the next request, if it is whole and the connection isn't closed.
+    pub fn next_reply(&mut self) -> RedisResult<Option<Vec<u8>>> {
+        if self.is_closed {
+            return Ok(None);
+        }
+        match self.requests.take()? {
+            Taken::Unfinished => Ok(None),
+            Taken::Request(words) => {
+                let mut reply = Vec::new(self.alloc);
+                self.reply_to(words, &mut reply)?;
+                Ok(Some(reply))
+            }
+            Taken::Wrong(why) => {
+                self.is_closed = true;
+                Ok(Some(why.reply(self.alloc)?))
+            }
+        }
+    }
+
+    /// Appends the reply to a request of these words, if there are any.
+    fn reply_to(&mut self, words: Vec<Bytes>, reply: &mut Vec<u8>) -> RedisResult<()> {
+        if words.is_empty() {
+            return Ok(());
+        }
+        self.append_reply(words_of(self.alloc, words)?, reply)
     }
 
     /// Appends the reply to a request of these words.
-    fn reply_to(&mut self, words: Vec<Vec<u8>>, replies: &mut Vec<u8>) -> RedisResult<()>
-        ensures { OnOk result (Replied self.old.session self.new.session replies.old.items
-            replies.new.items) }
+    fn append_reply(&mut self, words: Vec<Vec<u8>>, reply: &mut Vec<u8>) -> RedisResult<()>
+        ensures { OnOk result (Replied self.old.session self.new.session reply.old.items
+            reply.new.items) }
     {
         let request = request_of(self.alloc, words)?;
-        self.has_quit = matches!(&request, Request::Quit);
+        self.is_closed = matches!(&request, Request::Quit);
         let answer = answer(self.alloc, &mut self.session, request)?;
         let value = answer.into_value(self.alloc)?;
-        encode(&value, self.session.state.connection.protocol, replies)
+        encode(&value, self.session.state.connection.protocol, reply)
     }
 }
 
 /// The words of a request, the name of a command first.
-fn words_of(alloc: Global, request: resp_server::Request) -> RedisResult<Vec<Vec<u8>>> {
+fn words_of(alloc: Global, request: Vec<Bytes>) -> RedisResult<Vec<Vec<u8>>> {
     let mut words = Vec::with_capacity(alloc, request.len())?;
-    for word in request.into_args() {
+    for word in request {
         words.push(word.into_vec()?)?;
     }
     Ok(words)
-}
-
-/// What becomes of a value that is no request: an array of no words has no reply, and any other
-/// value ends the server.
-fn other_value(value: &Value) -> RedisResult<()> {
-    match value {
-        Value::Array(words) if words.is_empty() => Ok(()),
-        _ => Err(RedisError::from((
-            ErrorKind::Client,
-            "Protocol error: expected an array of bulk strings",
-        ))),
-    }
 }

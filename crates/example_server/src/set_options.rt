@@ -2,6 +2,7 @@
 
 use crate::command::{Condition, SetOptions};
 use crate::integers::integer_of;
+use crate::names::CommandName;
 use crate::refusal::Refusal;
 use std::vec;
 
@@ -136,7 +137,7 @@ fn check_time(lifetime: Lifetime, number: &[u8]) -> Result<(), Refusal> {
         i64::MAX
     };
     if time <= 0 || time > most {
-        return Err(Refusal::ExpireTime);
+        return Err(Refusal::ExpireTime(CommandName::Set));
     }
     Ok(())
 }

@@ -44,7 +44,7 @@ pub fn answer_keys(
         KeyCommand::Del(keys) => Ok(Reply::Count(del(store, keys))),
         KeyCommand::Exists(keys) => Ok(Reply::Count(exists(store, keys.as_slice()))),
         KeyCommand::Incr(key) => incr(alloc, store, key),
-        KeyCommand::Expire(key) => Ok(expire(store, &key)),
+        KeyCommand::Expire(key, reach) => Ok(expire(store, &key, reach)),
         KeyCommand::HSet(key, fields) => hset(alloc, store, key, fields),
         KeyCommand::HGetAll(key) => hgetall(alloc, store, &key),
     }

@@ -1,5 +1,5 @@
 use Rattle.std.proofs.Common.{◌≡◌, ◌++◌, drop, map}
-use Rattle.example_server.specs.Refusals.{spaced}
+use Rattle.example_server.specs.ProtocolErrors.{spaced}
 use Rattle.example_server.proofs.refusal.without_ends.Given as goal
 
 abbrev pub invariant-loop-byte : goal.invariant-loop-byte

@@ -1,0 +1,4 @@
+mod Continuing
+mod LineEnds
+mod Splitting
+mod StrictIntegers
