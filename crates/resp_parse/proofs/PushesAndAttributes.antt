@@ -2,9 +2,9 @@
 use Rattle.std.proofs.Common.{◌≡◌, ℕ, suc, ◌-◌, true, false, Some, None, List, [], ◌∷◌, ◌++◌, length, take, refl, ap, ◌∙◌, arith}
 use Rattle.std.specs.Str.{is_utf8}
 use Rattle.std.proofs.lemmas.Grind.{common_steps}
-use Rattle.resp_value.specs.declared.value.Value.{Value, BulkString, Nil}
+use Rattle.resp_value.specs.declared.value.Value.{Value, BulkString, Nil, Attribute}
 use Rattle.resp_value.specs.Names.{kind_named}
-use Rattle.resp_parse.specs.Grammar.{push_kind, last_element}
+use Rattle.resp_parse.specs.Grammar.{push_kind, last_element, attribute}
 use Rattle.resp_parse.specs.declared.elements.Waits.{Waits}
 use Rattle.resp_parse.specs.declared.elements.Waits.TheVariants.{Nothing, Key}
 use Rattle.resp_parse.specs.KeptElements.{padded, waits_in}
@@ -40,3 +40,21 @@ last-taken (key ∷ value ∷ next ∷ vs) (r ∷ rest) p e =
     let all = last-taken (next ∷ vs) rest p j in
     let n : length (key ∷ value ∷ next ∷ vs) - 1 ≡ suc (suc (length (next ∷ vs) - 1)) = omega arith in
     (all.0, rw (i, n) (ap (λ ps. (key, value) ∷ ps) all.1))
+
+-- an attribute, by its last element
+last_element-append : (prefix : List Value) (v : Value) → last_element (prefix ++ v ∷ []) ≡ v
+last_element-append [] v = refl
+last_element-append (x ∷ []) v = refl
+last_element-append (x ∷ y ∷ prefix) v = last_element-append (y ∷ prefix) v
+
+last_element-popped : (elements prefix : List Value) (v : Value) → elements ≡ prefix ++ v ∷ [] → last_element elements ≡ v
+last_element-popped elements prefix v e = ap last_element e ∙ last_element-append prefix v
+
+take-popped : (elements prefix : List Value) (v : Value) → elements ≡ prefix ++ v ∷ [] → take (length elements - 1) elements ≡ prefix
+take-popped elements prefix v e = rw e (grind (arith, common_steps))
+
+pub attribute-popped : (elements prefix : List Value) (v : Value) → elements ≡ prefix ++ v ∷ [] → attribute elements ≡ Attribute v (pairs prefix)
+attribute-popped elements prefix v e =
+    let l : last_element elements ≡ v = last_element-popped elements prefix v e in
+    let t : take (length elements - 1) elements ≡ prefix = take-popped elements prefix v e in
+    rw (l, t) refl
