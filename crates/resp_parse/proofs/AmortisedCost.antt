@@ -43,13 +43,6 @@ module _ {B : Type 0} (m new : Machine B) (c d e f : Counts) (len looked : ℕ) 
       let l : d.iterations + (looked - 1) ≤ c.iterations + len + 1 = looks.1 in
       omega (arith, p, z, l, looked_is, iterations-looked, examined-now)
 
--- more bytes were looked at, none of them of a line
-pub looks-more : {B : Type 0} (m new : Machine B) (c d e : Counts) (n more : ℕ) → Looks m new c d n → e ≡ record d { examined = d.examined + more } → Looks m new c e (n + more)
-looks-more m new c d e n more l take =
-    let a : e.examined ≡ d.examined + more = ap (λ (t : Counts). t.examined) take in
-    let b : e.looks ≡ d.looks = ap (λ (t : Counts). t.looks) take in
-    record { same = examined-both c d e l.same (examined-take d e more take); once = omega (arith, l.once, a, b); examined = omega (arith, l.examined, a) }
-
 -- a machine that was `old` has taken n bytes
 pub record CostSoFar {B : Type 0} (old m : Machine B) (c d : Counts) (n : ℕ) : Type 0 where
   pub looks : Looks old m c d n

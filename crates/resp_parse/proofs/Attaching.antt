@@ -57,13 +57,6 @@ module _ (now : List OpenAggregate) (f : OpenAggregate) (fs : List OpenAggregate
   pub potential-now : aggregates_potential now ≡ 1 + aggregates_potential fs
   potential-now = ap aggregates_potential now_is
 
-  -- more elements are to come
-  pub keeps-least_bytes : (g : OpenAggregate) (new : List OpenAggregate) → g.seen ≡ vs → new ≡ g ∷ fs → aggregates_least_bytes new ≡ aggregates_least_bytes now + 3 * built v
-  keeps-least_bytes g new s e = let b : built_of g.seen ≡ built_of vs = ap built_of s in ap aggregates_least_bytes e ∙ omega (arith, b, built-more, least_bytes-now)
-
-  pub keeps-potential : (g : OpenAggregate) (new : List OpenAggregate) → new ≡ g ∷ fs → aggregates_potential new ≡ aggregates_potential now
-  keeps-potential g new e = ap aggregates_potential e ∙ sym potential-now
-
   -- all elements are there
   pub closes-least_bytes : (u : Value) → Computes (Ok u) (elements_value f.kind vs) → aggregates_least_bytes fs + 3 * built u ≤ aggregates_least_bytes now + 3 * built v
   closes-least_bytes u c = let small : built u ≤ suc (built_of vs) = elements-small f.kind vs u (omega (arith, elements-more)) c in omega (arith, small, built-more, least_bytes-now)
@@ -100,12 +93,6 @@ module _ (d : ℕ) (gs : List OpenAggregate) (w : Value) (now : List OpenAggrega
 
     pub closed-shorter : length now ≡ suc (length fs)
     closed-shorter = ap (λ (x : List OpenAggregate). length x) a.old_is
-
-pub kept-least_bytes : (now : List OpenAggregate) (v : Value) (new : List OpenAggregate) → KeptIn now v new → aggregates_least_bytes new ≡ aggregates_least_bytes now + 3 * built v
-kept-least_bytes now v new a = keeps-least_bytes now a.aggregate a.outer a.old_is v (a.aggregate.seen ++ (v ∷ [])) refl _ new refl a.new_is
-
-pub kept-potential : (now : List OpenAggregate) (v : Value) (new : List OpenAggregate) → KeptIn now v new → aggregates_potential new ≡ aggregates_potential now
-kept-potential now v new a = keeps-potential now a.aggregate a.outer a.old_is v (a.aggregate.seen ++ (v ∷ [])) refl _ new a.new_is
 
 -- what a builder holds then
 module _ {B : Type 0} (S : Stands B) (b : B) (now : List OpenAggregate) (w : Value) (new : List OpenAggregate) (h : S b now (whole w)) where

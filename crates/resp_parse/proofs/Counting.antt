@@ -69,16 +69,6 @@ depth-fresh m f = let n = nothing_open m.body m.open_aggregates f in rw n.no_fra
 pub Counted-new : {B : Type 0} (m : Machine B) (u : List ℕ) (c : Counts) → c ≡ nothing_done → fresh_of m.body m.open_aggregates ≡ true → m.scanned ≡ 0 → u ≡ [] → Counted m u c false
 Counted-new m u c e f s n = rw (e, n) (record { iterations = omega arith; looks = omega arith; examined = omega arith; works = λ _. record { cost = omega (arith, potential-fresh m f s); accounted = omega (arith, s) } })
 
--- bytes came by a call
-pub Counted-fed : {B : Type 0} (m : Machine B) (u v : List ℕ) (n : ℕ) (c d : Counts) (failed : Bool) → Counted m u c failed → d ≡ record c { received = c.received + n; calls = c.calls + 1 } → length v ≡ length u + n → Counted m v d failed
-Counted-fed m u v n c d failed k e l =
-    rw e (record {
-      iterations = omega (arith, k.iterations);
-      looks = k.looks;
-      examined = omega (arith, k.examined);
-      works = λ w. let b = k.works w in record { cost = omega (arith, b.cost); accounted = omega (arith, b.accounted, l) };
-    })
-
 pub Counted-failing : {B : Type 0} (m : Machine B) (u : List ℕ) (c : Counts) (failed : Bool) → Counted m u c failed → Counted m u c true
 Counted-failing m u c failed k = record { iterations = k.iterations; looks = k.looks; examined = k.examined; works = λ e. absurd (let z : true ≡ false = e in cc) }
 

@@ -160,13 +160,6 @@ module _ {B : Type 0} (m new : Machine B) (u since : List ℕ) (h : Resumes m u 
 pub Holds-new : {B : Type 0} (m : Machine B) (buffer since : List ℕ) → buffer ≡ [] → since ≡ [] → fresh_of m.body m.open_aggregates ≡ true → m.scanned ≡ 0 → Holds m (drop 0 buffer) since false
 Holds-new m buffer since e k f s = rw (e, k) (Holds-working m [] [] false (Resumes-fresh m [] f s))
 
--- bytes were added to the buffer
-pub Holds-fed : {B : Type 0} (m : Machine B) (buffer buffer' since since' bytes : List ℕ) (consumed : ℕ) (failed : Bool) → consumed ≤ length buffer → failed ≡ false → Holds m (drop consumed buffer) since failed →
-    buffer' ≡ buffer ++ bytes → since' ≡ since ++ bytes → Holds m (drop consumed buffer') since' failed
-Holds-fed m buffer buffer' since since' bytes consumed failed l w h e k =
-    let d : drop consumed (buffer ++ bytes) ≡ drop consumed buffer ++ bytes = grind (arith, common_steps) in
-    rw (e, k, d) (Holds-working m (drop consumed buffer ++ bytes) (since ++ bytes) failed (Resumes-fed m (drop consumed buffer) since bytes (h.resumes w)))
-
 pub fed-fits : (buffer buffer' bytes : List ℕ) (consumed : ℕ) → consumed ≤ length buffer → buffer' ≡ buffer ++ bytes → consumed ≤ length buffer'
 fed-fits buffer buffer' bytes consumed l e = rw e (grind (arith, common_steps))
 

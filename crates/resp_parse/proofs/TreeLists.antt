@@ -19,8 +19,3 @@ opened-lists outer elements (f ∷ fs) h = rw (h.0, h.1) refl
 pub appended : (outer : List Elements) (elements after : Elements) (fs : List OpenAggregate) (v : Value) → ((kind : ElementsKind) (vs : List Value) → elements ≡ kept_as kind vs → after ≡ kept_as kind (vs ++ v ∷ [])) → HoldsElements outer elements fs → HoldsWhole outer after fs v
 appended outer elements after [] v k h = (h.0, k elements_kind.Array [] h.1)
 appended outer elements after (f ∷ fs) v k h = (h.0, k f.kind f.seen h.1)
-
--- the innermost is closed
-pub closed-lists : (outer rest : List Elements) (last elements : Elements) (f : OpenAggregate) (fs : List OpenAggregate) → outer ≡ rest ++ last ∷ [] → HoldsElements outer elements (f ∷ fs) → HoldsElements rest last fs
-closed-lists outer rest last elements f [] e h = snoc-injective (Values []) rest [] last (Values []) (sym e ∙ h.0)
-closed-lists outer rest last elements f (g ∷ gs) e h = snoc-injective (Values []) rest (Values [] ∷ elements_of gs) last (kept_as g.kind g.seen) (sym e ∙ h.0)

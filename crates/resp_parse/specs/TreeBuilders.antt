@@ -47,7 +47,7 @@ built_of_pair p = built p.0 + built p.1
 
 abbrev pub built_as : Elements → ℕ
 built_as (Values vs) = built_of vs
-built_as (Pairs ps odd) = sum_by built_of_pair ps
+built_as (Pairs ps waits) = sum_by built_of_pair ps
 
 abbrev pub values_in : List Elements → Elements → ℕ
 values_in outer elements = sum_by built_as outer + built_as elements

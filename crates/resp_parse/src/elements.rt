@@ -6,21 +6,28 @@ ghost use Rattle.resp_value.specs.Views.{pairs as pairs_of};
 ghost use Rattle.resp_parse.specs.declared.shape.ElementsKind.{ElementsKind};
 ghost use Rattle.resp_parse.specs.declared.elements.Elements.TheVariants as kept;
 ghost use Rattle.resp_parse.specs.Grammar.{attribute, last_element};
-ghost use Rattle.resp_parse.specs.KeptElements.{kept_as, padded, is_odd};
+ghost use Rattle.resp_parse.specs.KeptElements.{kept_as, padded, waits_in};
 
 use crate::value_of::attribute_of;
 use resp_value::{Items, Value};
 use std::alloc::{AllocError, Global};
 use std::mem;
 
+/// What waits for an element in pairs.
+#[derive(Clone, Copy, Debug)]
+pub(crate) enum Waits {
+    Nothing,
+    /// The last key, beside which nil stands in the place of its value.
+    Key,
+}
+
 /// The elements so far of an open aggregate, in the form in which its value has them.
 #[derive(Drop)]
 pub(crate) enum Elements {
     /// Those of an array, a set or a push.
     Values(Items<Value>),
-    /// Those of a map or an attribute. Where there is an odd number of them, the last is a key, and
-    /// nil stands in the place of its value.
-    Pairs(Items<(Value, Value)>, bool),
+    /// Those of a map or an attribute.
+    Pairs(Items<(Value, Value)>, Waits),
 }
 
 impl Elements {
@@ -32,7 +39,7 @@ impl Elements {
     {
         match self {
             Elements::Values(values) => values.push(element),
-            Elements::Pairs(pairs, odd) => add(pairs, odd, element),
+            Elements::Pairs(pairs, waits) => add(pairs, waits, element),
         }
     }
 
@@ -60,44 +67,48 @@ impl Elements {
 
     /// The pairs, but for a key that has no value; none where these are values.
     pub(crate) fn into_pairs(self, alloc: Global) -> Items<(Value, Value)>
-        ensures pairs { (vs : List Value) → self ≡ kept.Pairs (padded vs) (is_odd vs) →
+        ensures pairs { (vs : List Value) → self ≡ kept.Pairs (padded vs) (waits_in vs) →
             result ≡ pairs_of vs }
     {
         match self {
             Elements::Values(_) => Items::new(alloc),
-            Elements::Pairs(mut pairs, odd) => {
-                if odd {
+            Elements::Pairs(mut pairs, waits) => match waits {
+                Waits::Key => {
                     drop(pairs.pop());
+                    pairs
                 }
-                pairs
-            }
+                Waits::Nothing => pairs,
+            },
         }
     }
 
     /// The attribute of these: pairs, and then its data.
     pub(crate) fn into_attribute(self, alloc: Global) -> Result<Value, AllocError>
-        ensures value { (vs : List Value) → self ≡ kept.Pairs (padded vs) (is_odd vs) →
+        ensures value { (vs : List Value) → self ≡ kept.Pairs (padded vs) (waits_in vs) →
             IfOk result (λ v. v ≡ attribute vs) }
     {
         match self {
             Elements::Values(_) => attribute_of(alloc, Value::Nil, Items::new(alloc)),
-            Elements::Pairs(mut pairs, odd) => {
-                let data = take_last(&mut pairs, odd);
+            Elements::Pairs(mut pairs, waits) => {
+                let data = take_last(&mut pairs, waits);
                 attribute_of(alloc, data, fitted(alloc, pairs)?)
             }
         }
     }
 }
 
-/// Takes the last of the elements that stand in pairs, which is a key where there is an odd number of
-/// them; nil where there is none. The pairs before it stay, but for a key that has no value.
-fn take_last(pairs: &mut Items<(Value, Value)>, odd: bool) -> Value
-    ensures last { (vs : List Value) → pairs.old ≡ padded vs → odd ≡ is_odd vs →
+/// Takes the last of the elements that stand in pairs; nil where there is none. The pairs before it
+/// stay, but for a key that has no value.
+fn take_last(pairs: &mut Items<(Value, Value)>, waits: Waits) -> Value
+    ensures last { (vs : List Value) → pairs.old ≡ padded vs → waits ≡ waits_in vs →
         (result ≡ last_element vs)
         × (pairs.new ≡ pairs_of (take (length vs - 1) vs)) }
 {
     match pairs.pop() {
-        Some((key, value)) => if odd { key } else { value },
+        Some((key, value)) => match waits {
+            Waits::Key => key,
+            Waits::Nothing => value,
+        },
         None => Value::Nil,
     }
 }
@@ -112,18 +123,26 @@ fn fitted(alloc: Global, pairs: Items<(Value, Value)>) -> Result<Items<(Value, V
 }
 
 /// One element more in pairs: a key, or the value of the last key.
-fn add(pairs: &mut Items<(Value, Value)>, odd: &mut bool, element: Value) -> Result<(), AllocError>
-    ensures pairs { (vs : List Value) → pairs.old ≡ padded vs → odd.old ≡ is_odd vs →
+fn add(
+    pairs: &mut Items<(Value, Value)>,
+    waits: &mut Waits,
+    element: Value,
+) -> Result<(), AllocError>
+    ensures pairs { (vs : List Value) → pairs.old ≡ padded vs → waits.old ≡ waits_in vs →
         OnOk result ((pairs.new ≡ padded (vs ++ element ∷ []))
-        × (odd.new ≡ is_odd (vs ++ element ∷ []))) }
+        × (waits.new ≡ waits_in (vs ++ element ∷ []))) }
 {
-    if *odd {
-        *odd = false;
-        set_last_value(pairs, element);
-        return Ok(());
+    match *waits {
+        Waits::Key => {
+            *waits = Waits::Nothing;
+            set_last_value(pairs, element);
+            Ok(())
+        }
+        Waits::Nothing => {
+            *waits = Waits::Key;
+            pairs.push((element, Value::Nil))
+        }
     }
-    *odd = true;
-    pairs.push((element, Value::Nil))
 }
 
 /// Puts a value in the place of that of the last pair.

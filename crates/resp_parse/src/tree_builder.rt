@@ -9,7 +9,7 @@ ghost use Rattle.resp_parse.specs.declared.open_aggregates.OpenAggregate.{OpenAg
 
 use crate::body::Body;
 use crate::builder::Builder;
-use crate::elements::Elements;
+use crate::elements::{Elements, Waits};
 use crate::open_aggregates::OpenAggregate;
 use crate::read_error::ReadError;
 use crate::seen::SeenValue;
@@ -33,7 +33,7 @@ fn room_for(
     match kind {
         ElementsKind::Map | ElementsKind::Attribute => Ok(Elements::Pairs(
             Items::from(Vec::with_capacity(alloc, (room + 1) / 2)?),
-            false,
+            Waits::Nothing,
         )),
         _ => Ok(Elements::Values(Items::from(Vec::with_capacity(alloc, room)?))),
     }
