@@ -17,7 +17,8 @@ use Rattle.resp_parse.specs.declared.open_aggregates.OpenAggregate.{OpenAggregat
 use Rattle.resp_parse.specs.declared.body.Body.{Body}
 use Rattle.resp_parse.specs.Building.{BeginsBody, BeginsAggregate}
 use Rattle.resp_parse.specs.declared.machine.Machine.{Machine}
-use Rattle.resp_parse.specs.Grammar.{Announcement, complete, or_nil, body as a_body, elements, announced, invalid, with_valid}
+use Rattle.resp_parse.specs.Grammar.{Announcement, complete, or_nil, body as a_body, elements, announced, invalid}
+use Rattle.resp_parse.specs.Grammar.{with_valid}
 use Rattle.resp_parse.specs.Shapes.{Announces, announced_in_line, body_value, elements_value}
 use Rattle.resp_parse.specs.Number.{IsNumeral, integer_in}
 use Rattle.resp_parse.specs.PlainReading.{ReadOutcome, then, read_announced, read}
@@ -35,32 +36,45 @@ module _ (d : ℕ) (fs : List OpenAggregate) (a : Announcement) where
   announced-stops m Memory h = tt
   announced-stops m (Fault f) h = λ more. rw h refl
 
-  pub announced-whole : {B : Type 0} (m : Machine B) (v : Value) (w : Value) → a ≡ complete v → w ≡ v → m.depth ≡ d → m.open_aggregates ≡ fs → m.body ≡ None → Goes begins m (Ok (Some w))
+  pub announced-whole : {B : Type 0} (m : Machine B) (v : Value) (w : Value) → a ≡ complete v → w ≡ v → m.depth ≡ d
+      → m.open_aggregates ≡ fs → m.body ≡ None → Goes begins m (Ok (Some w))
   announced-whole m v w h s l e b = ((λ more. rw (h, s, l, e) refl), b)
 
-  pub announced-line : {B : Type 0} (m : Machine B) (r : Result Value FrameFault) (w : Value) → a ≡ with_valid r complete → Computes (Ok w) r → m.depth ≡ d → m.open_aggregates ≡ fs → m.body ≡ None → Goes begins m (Ok (Some w))
+  pub announced-line : {B : Type 0} (m : Machine B) (r : Result Value FrameFault) (w : Value) → a
+      ≡ with_valid r complete → Computes (Ok w) r → m.depth ≡ d → m.open_aggregates ≡ fs → m.body ≡ None
+      → Goes begins m (Ok (Some w))
   announced-line m r w h c l e b = announced-whole m w w (h ∙ rw c refl) refl l e b
 
-  pub announced-no_line : {B : Type 0} (m : Machine B) (r : Result Value FrameFault) (e : ReadError) → a ≡ with_valid r complete → Computes (Err e) r → Goes begins m (Err e)
+  pub announced-no_line : {B : Type 0} (m : Machine B) (r : Result Value FrameFault) (e : ReadError) → a
+      ≡ with_valid r complete → Computes (Err e) r → Goes begins m (Err e)
   announced-no_line m r Memory h c = tt
   announced-no_line m r (Fault f) h c = λ more. rw h (rw c refl)
 
-  pub announced-body : {B : Type 0} (m : Machine B) (kind : BodyKind) (n : ℕ) (body : Body) → Announces (Ok (shape.Body kind n)) a → m.depth ≡ d → m.open_aggregates ≡ fs → m.body ≡ Some body → BeginsBody kind n body → Goes begins m (Ok None)
-  announced-body m kind n body h l e b i = ((λ more. rw (h, l, e, b) (rw (i.kind_is, i.missing_is, i.none) refl)), rw b refl)
+  pub announced-body : {B : Type 0} (m : Machine B) (kind : BodyKind) (n : ℕ) (body : Body)
+      → Announces (Ok (shape.Body kind n)) a → m.depth ≡ d → m.open_aggregates ≡ fs → m.body ≡ Some body
+      → BeginsBody kind n body → Goes begins m (Ok None)
+  announced-body m kind n body h l e b i =
+      ((λ more. rw (h, l, e, b) (rw (i.kind_is, i.missing_is, i.none) refl)), rw b refl)
 
 -- a header of elements
 module _ (d : ℕ) (fs : List OpenAggregate) (kind : ElementsKind) where
   abbrev begins_elements : ℕ → List ℕ → ReadOutcome Value
-  begins_elements n more = then (read_announced (read (depth_below d fs)) (elements n (elements_value kind)) more) (place d fs)
+  begins_elements n more = then (read_announced (read (depth_below d fs)) (elements n (elements_value kind)) more)
+      (place d fs)
 
-  pub elements-empty : {B : Type 0} (m : Machine B) (n : ℕ) (v : Value) (w : Value) → n ≡ 0 → w ≡ v → m.depth ≡ d → m.open_aggregates ≡ fs → m.body ≡ None → Computes (Ok v) (elements_value kind []) → Goes (begins_elements n) m (Ok (Some w))
+  pub elements-empty : {B : Type 0} (m : Machine B) (n : ℕ) (v : Value) (w : Value) → n ≡ 0 → w ≡ v → m.depth ≡ d
+      → m.open_aggregates ≡ fs → m.body ≡ None → Computes (Ok v) (elements_value kind [])
+      → Goes (begins_elements n) m (Ok (Some w))
   elements-empty m n v w z s l e b c = ((λ more. rw (z, s, l, e) (rw c refl)), b)
 
-  pub elements-refused : {B : Type 0} (m : Machine B) (n : ℕ) (e : ReadError) → n ≡ 0 → Computes (Err e) (elements_value kind []) → Goes (begins_elements n) m (Err e)
+  pub elements-refused : {B : Type 0} (m : Machine B) (n : ℕ) (e : ReadError) → n ≡ 0
+      → Computes (Err e) (elements_value kind []) → Goes (begins_elements n) m (Err e)
   elements-refused m n Memory z c = tt
   elements-refused m n (Fault f) z c = λ more. rw z (rw c refl)
 
-  pub elements-opened : {B : Type 0} (m : Machine B) (n k : ℕ) (size : ℕ) (f : OpenAggregate) → n ≡ suc k → BeginsAggregate kind size k f → m.depth ≡ d → m.open_aggregates ≡ f ∷ fs → m.body ≡ None → Goes (begins_elements n) m (Ok None)
+  pub elements-opened : {B : Type 0} (m : Machine B) (n k : ℕ) (size : ℕ) (f : OpenAggregate) → n ≡ suc k
+      → BeginsAggregate kind size k f → m.depth ≡ d → m.open_aggregates ≡ f ∷ fs → m.body ≡ None
+      → Goes (begins_elements n) m (Ok None)
   elements-opened m n k size f z i l e b = (
     (λ more. rw (z, l, e, b) (opens d k kind f fs more i.kind_is i.after_is i.none)),
     rw (e, b) refl,
@@ -75,7 +89,9 @@ module _ (kind : TypeByte) (line : List ℕ) where
   in_line-bytes none = rw (not_true (is_utf8 line) (λ t. none (IsUtf8-from_is_utf8 line t))) refl
 
 -- a number is how long a bulk string is
-pub announced-bulk : (line : List ℕ) (n : ℕ) → IsNumeral line n → announced_in_line type_byte.BulkString line ≡ a_body n (body_value body_kind.Bulk)
+pub announced-bulk : (line : List ℕ) (n : ℕ) → IsNumeral line n → announced_in_line type_byte.BulkString line
+    ≡ a_body n (body_value body_kind.Bulk)
 announced-bulk line n i =
     let e : integer_in line ≡ Ok (pos n) = rw (integer_in, i.value) refl in
-    in_line-text type_byte.BulkString line i.text_is ∙ ap (λ r. with_valid r (or_nil (λ k. a_body k (body_value body_kind.Bulk)))) e
+    in_line-text type_byte.BulkString line i.text_is
+    ∙ ap (λ r. with_valid r (or_nil (λ k. a_body k (body_value body_kind.Bulk)))) e

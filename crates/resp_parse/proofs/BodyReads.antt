@@ -1,5 +1,6 @@
 -- Reading a body gives its bytes, or the byte that isn't its CR LF.
-use Rattle.std.proofs.Common.{◌≡◌, ◌≢◌, ℕ, zero, suc, Bool, true, false, cond, ◌==◌, List, [], ◌∷◌, ◌++◌, length, refl, ap, sym, ◌∙◌, append_assoc}
+use Rattle.std.proofs.Common.{◌≡◌, ◌≢◌, ℕ, zero, suc, Bool, true, false, cond, ◌==◌, List, [], ◌∷◌, ◌++◌, length, refl}
+use Rattle.std.proofs.Common.{ap, sym, ◌∙◌, append_assoc}
 use Rattle.std.proofs.lemmas.Bool.Decides.{Decides-eqb}
 use Rattle.resp_errors.specs.declared.kinds.FrameFault.{FrameFault}
 use Rattle.resp_errors.specs.declared.kinds.FrameFault.TheVariants.{BodyEnd}
@@ -47,7 +48,9 @@ end-got (b ∷ []) x rest e = absurd (by_test (b == 13) e)
     by_test false k = cc
 end-got (b ∷ c ∷ bs) x rest e = by_tests (b == 13) refl (c == 10) refl e
   where
-    by_tests : (m : Bool) → (b == 13) ≡ m → (n : Bool) → (c == 10) ≡ n → cond m (cond n (got [] bs) (fault BodyEnd bs)) (fault BodyEnd (c ∷ bs)) ≡ got x rest → (x ≡ []) × (b ∷ c ∷ bs ≡ crlf ++ rest)
+    by_tests : (m : Bool) → (b == 13) ≡ m → (n : Bool) → (c == 10) ≡ n
+        → cond m (cond n (got [] bs) (fault BodyEnd bs)) (fault BodyEnd (c ∷ bs)) ≡ got x rest → (x ≡ [])
+        × (b ∷ c ∷ bs ≡ crlf ++ rest)
     by_tests true p true q k =
         let eb : b ≡ 13 = (Decides-eqb b 13).0 p in
         let ec : c ≡ 10 = (Decides-eqb c 10).0 q in
@@ -56,14 +59,18 @@ end-got (b ∷ c ∷ bs) x rest e = by_tests (b == 13) refl (c == 10) refl e
     by_tests false p n q k = absurd (cc)
 
 pub body-got : (n : ℕ) (bs x rest : List ℕ) → read_body n bs ≡ got x rest → (length x ≡ n) × (bs ≡ x ++ (crlf ++ rest))
-body-got zero bs x rest e = let p = end-got bs x rest e in (ap length p.0, p.1 ∙ ap (λ s. s ++ (crlf ++ rest)) (sym p.0))
+body-got zero bs x rest e =
+    let p = end-got bs x rest e in (ap length p.0, p.1 ∙ ap (λ s. s ++ (crlf ++ rest)) (sym p.0))
 body-got (suc n) [] x rest e = absurd (cc)
 body-got (suc n) (b ∷ bs) x rest e =
     let p = then-got (read_body n bs) (λ u r. got (b ∷ u) r) x rest e in
     let q = body-got n bs p.first p.mid p.got_first in
     let ex : b ∷ p.first ≡ x = (let k = p.next in cc) in
-    let er : p.mid ≡ rest = (let k = p.next in cc) in
-    (ap length (sym ex) ∙ ap suc q.0, ap (λ s. b ∷ s) q.1 ∙ ap (λ s. s ++ (crlf ++ p.mid)) ex ∙ ap (λ s. x ++ (crlf ++ s)) er)
+    let er : p.mid ≡ rest = (let k = p.next in cc) in (
+      ap length (sym ex) ∙ ap suc q.0,
+      ap (λ s. b ∷ s) q.1 ∙ ap (λ s. s ++ (crlf ++ p.mid)) ex
+          ∙ ap (λ s. x ++ (crlf ++ s)) er,
+    )
 
 -- a prefix of the bytes is a body that has a malformed end, and the rest follows
 pub record MalformedBodyPrefix (n : ℕ) (bs : List ℕ) (f : FrameFault) (rest : List ℕ) : Type 0 where
@@ -75,11 +82,13 @@ pub record MalformedBodyPrefix (n : ℕ) (bs : List ℕ) (f : FrameFault) (rest 
 abbrev malformed_end : List ℕ → ReadOutcome (List ℕ)
 malformed_end rest = fault BodyEnd rest
 
-end-fault : (bs : List ℕ) (f : FrameFault) (rest : List ℕ) → end_of_body bs ≡ fault f rest → MalformedBodyPrefix 0 bs f rest
+end-fault : (bs : List ℕ) (f : FrameFault) (rest : List ℕ) → end_of_body bs ≡ fault f rest
+    → MalformedBodyPrefix 0 bs f rest
 end-fault [] f rest e = absurd (cc)
 end-fault (b ∷ []) f rest e = by_test (b == 13) refl e
   where
-    by_test : (m : Bool) → (b == 13) ≡ m → cond m incomplete (malformed_end []) ≡ fault f rest → MalformedBodyPrefix 0 (b ∷ []) f rest
+    by_test : (m : Bool) → (b == 13) ≡ m → cond m incomplete (malformed_end []) ≡ fault f rest
+        → MalformedBodyPrefix 0 (b ∷ []) f rest
     by_test true p k = absurd (cc)
     by_test false p k = record {
       prefix = b ∷ [];
@@ -89,7 +98,9 @@ end-fault (b ∷ []) f rest e = by_test (b == 13) refl e
     }
 end-fault (b ∷ c ∷ bs) f rest e = by_tests (b == 13) refl (c == 10) refl e
   where
-    by_tests : (m : Bool) → (b == 13) ≡ m → (n : Bool) → (c == 10) ≡ n → cond m (cond n (got [] bs) (malformed_end bs)) (malformed_end (c ∷ bs)) ≡ fault f rest → MalformedBodyPrefix 0 (b ∷ c ∷ bs) f rest
+    by_tests : (m : Bool) → (b == 13) ≡ m → (n : Bool) → (c == 10) ≡ n
+        → cond m (cond n (got [] bs) (malformed_end bs)) (malformed_end (c ∷ bs)) ≡ fault f rest
+        → MalformedBodyPrefix 0 (b ∷ c ∷ bs) f rest
     by_tests true p true q k = absurd (cc)
     by_tests true p false q k = record {
       prefix = 13 ∷ c ∷ [];
@@ -108,7 +119,8 @@ EndIsMalformed-cons : (n b : ℕ) (x : List ℕ) → EndIsMalformed n x → EndI
 EndIsMalformed-cons n b x (no_cr y c l d e) = no_cr (b ∷ y) c (ap suc l) d (ap (λ s. b ∷ s) e)
 EndIsMalformed-cons n b x (no_lf y c l d e) = no_lf (b ∷ y) c (ap suc l) d (ap (λ s. b ∷ s) e)
 
-pub body-fault : (n : ℕ) (bs : List ℕ) (f : FrameFault) (rest : List ℕ) → read_body n bs ≡ fault f rest → MalformedBodyPrefix n bs f rest
+pub body-fault : (n : ℕ) (bs : List ℕ) (f : FrameFault) (rest : List ℕ) → read_body n bs ≡ fault f rest
+    → MalformedBodyPrefix n bs f rest
 body-fault zero bs f rest e = end-fault bs f rest e
 body-fault (suc n) [] f rest e = absurd (cc)
 body-fault (suc n) (b ∷ bs) f rest e = elim (then-fault (read_body n bs) (λ u r. got (b ∷ u) r) f rest e) [
@@ -117,4 +129,10 @@ body-fault (suc n) (b ∷ bs) f rest e = elim (then-fault (read_body n bs) (λ u
 ]
   where
     more : MalformedBodyPrefix n bs f rest → MalformedBodyPrefix (suc n) (b ∷ bs) f rest
-    more h = record { prefix = b ∷ h.prefix; whole = ap (λ s. b ∷ s) h.whole; fault_is = h.fault_is; bad_end = EndIsMalformed-cons n b h.prefix h.bad_end }
+    more h = record {
+      prefix = b ∷ h.prefix;
+      whole = ap (λ s. b ∷ s) h.whole;
+      fault_is = h.fault_is;
+      bad_end =
+          EndIsMalformed-cons n b h.prefix h.bad_end;
+    }

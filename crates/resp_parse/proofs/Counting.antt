@@ -1,5 +1,6 @@
 -- What a parser has counted, from call to call.
-use Rattle.std.proofs.Common.{◌≡◌, ℕ, ◌+◌, ◌-◌, ◌≤◌, Bool, true, false, List, [], length, drop, refl, ap, ◌∙◌, arith, Option, Some, None}
+use Rattle.std.proofs.Common.{◌≡◌, ℕ, ◌+◌, ◌-◌, ◌≤◌, Bool, true, false, List, [], length, drop, refl, ap, ◌∙◌, arith}
+use Rattle.std.proofs.Common.{Option, Some, None}
 use Rattle.std.proofs.lemmas.Grind.{common_steps}
 use Rattle.std.proofs.lemmas.List.{length-append}
 use Rattle.resp_parse.specs.declared.body.Body.{Body}
@@ -20,7 +21,8 @@ record Begun (c t e : Counts) : Type 0 where
   received : e.received ≡ c.received
   calls : e.calls ≡ c.calls + 1
 
-begun : (c t e : Counts) → t ≡ record c { calls = c.calls + 1 } → e ≡ record t { iterations = e.iterations; looks = e.looks; examined = e.examined } → Begun c t e
+begun : (c t e : Counts) → t ≡ record c { calls = c.calls + 1 } → e
+    ≡ record t { iterations = e.iterations; looks = e.looks; examined = e.examined } → Begun c t e
 begun c t e i s =
     let received : t.received ≡ c.received = ap (λ (x : Counts). x.received) i in
     let calls : t.calls ≡ c.calls + 1 = ap (λ (x : Counts). x.calls) i in
@@ -36,7 +38,8 @@ begun c t e i s =
 
 -- a call was counted, and the machine went on
 module _ {B : Type 0} (m new : Machine B) (u : List ℕ) (c t e : Counts) (failed : Bool) where
-  pub Counted-taken : (n : ℕ) → n ≤ length u → new.scanned ≤ length (drop n u) → Counted m u c failed → failed ≡ false → t ≡ record c { calls = c.calls + 1 } → Spent m new t e n → Counted new (drop n u) e failed
+  pub Counted-taken : (n : ℕ) → n ≤ length u → new.scanned ≤ length (drop n u) → Counted m u c failed → failed ≡ false
+      → t ≡ record c { calls = c.calls + 1 } → Spent m new t e n → Counted new (drop n u) e failed
   Counted-taken n l s k w i p =
       let b = k.works w in
       let g = begun c t e i p.0.same in
@@ -45,10 +48,15 @@ module _ {B : Type 0} (m new : Machine B) (u : List ℕ) (c t e : Counts) (faile
         iterations = omega (arith, b.cost, p.1, g.iterations, g.examined, g.calls);
         looks = omega (arith, k.looks, p.0.once, g.looks, g.examined);
         examined = omega (arith, b.accounted, p.0.examined, g.examined, g.received, l, r, s);
-        works = λ _. record { cost = omega (arith, b.cost, p.1, g.iterations, g.examined, g.calls); accounted = omega (arith, b.accounted, p.0.examined, g.examined, g.received, l, r) };
+        works = λ _. record {
+          cost = omega (arith, b.cost, p.1, g.iterations, g.examined, g.calls);
+          accounted = omega
+              (arith, b.accounted, p.0.examined, g.examined, g.received, l, r);
+        };
       }
 
-  pub Counted-stopped : Counted m u c failed → failed ≡ false → t ≡ record c { calls = c.calls + 1 } → SpentAtStop m u t e → (v : List ℕ) → Counted new v e true
+  pub Counted-stopped : Counted m u c failed → failed ≡ false → t ≡ record c { calls = c.calls + 1 }
+      → SpentAtStop m u t e → (v : List ℕ) → Counted new v e true
   Counted-stopped k w i p v =
       let b = k.works w in
       let g = begun c t e i p.0.same in
@@ -59,18 +67,35 @@ module _ {B : Type 0} (m new : Machine B) (u : List ℕ) (c t e : Counts) (faile
         works = λ z. absurd (let y : true ≡ false = z in cc);
       }
 
-potential-fresh : {B : Type 0} (m : Machine B) → fresh_of m.body m.open_aggregates ≡ true → m.scanned ≡ 0 → potential m ≡ 0
+potential-fresh : {B : Type 0} (m : Machine B) → fresh_of m.body m.open_aggregates ≡ true → m.scanned ≡ 0 → potential m
+    ≡ 0
 potential-fresh m f s = let n = nothing_open m.body m.open_aggregates f in rw (n.no_body, n.no_frame, s) (omega arith)
 
-pub depth-fresh : {B : Type 0} (m : Machine B) → fresh_of m.body m.open_aggregates ≡ true → length m.open_aggregates ≤ m.depth
+pub depth-fresh : {B : Type 0} (m : Machine B) → fresh_of m.body m.open_aggregates ≡ true
+    → length m.open_aggregates ≤ m.depth
 depth-fresh m f = let n = nothing_open m.body m.open_aggregates f in rw n.no_frame (omega arith)
 
 -- nothing was done
-pub Counted-new : {B : Type 0} (m : Machine B) (u : List ℕ) (c : Counts) → c ≡ nothing_done → fresh_of m.body m.open_aggregates ≡ true → m.scanned ≡ 0 → u ≡ [] → Counted m u c false
-Counted-new m u c e f s n = rw (e, n) (record { iterations = omega arith; looks = omega arith; examined = omega arith; works = λ _. record { cost = omega (arith, potential-fresh m f s); accounted = omega (arith, s) } })
+pub Counted-new : {B : Type 0} (m : Machine B) (u : List ℕ) (c : Counts) → c ≡ nothing_done
+    → fresh_of m.body m.open_aggregates ≡ true → m.scanned ≡ 0 → u ≡ [] → Counted m u c false
+Counted-new m u c e f s n = rw (e, n)
+    (record {
+      iterations = omega arith;
+      looks = omega arith;
+      examined = omega arith;
+      works = λ _. record
+          { cost = omega (arith, potential-fresh m f s); accounted = omega (arith, s) };
+    })
 
-pub Counted-failing : {B : Type 0} (m : Machine B) (u : List ℕ) (c : Counts) (failed : Bool) → Counted m u c failed → Counted m u c true
-Counted-failing m u c failed k = record { iterations = k.iterations; looks = k.looks; examined = k.examined; works = λ e. absurd (let z : true ≡ false = e in cc) }
+pub Counted-failing : {B : Type 0} (m : Machine B) (u : List ℕ) (c : Counts) (failed : Bool) → Counted m u c failed
+    → Counted m u c true
+Counted-failing m u c failed k = record {
+  iterations = k.iterations;
+  looks = k.looks;
+  examined = k.examined;
+  works = λ e. absurd
+      (let z : true ≡ false = e in cc);
+}
 
 pub scanned-within : (b : Option Body) (n : ℕ) (u : List ℕ) → IsScanned b n u → n ≤ length u
 scanned-within None n u h = h.within
@@ -95,14 +120,17 @@ Bounded-from_kept most m u since failed c n l h k p values tokens o = record {
         tokens = omega (arith, r.built_within, (o w).tokens, s, d);
         size = (let z = p w in
             let j : m.scanned ≤ length z.kept = scanned-within m.body m.scanned z.kept z.resumes.scanned in
-            let x : length u ≡ length z.kept + length z.later = ap length z.unparsed_is ∙ length-append z.kept z.later in
-            let y : length since ≡ length z.before + length z.later = ap length z.since_is ∙ length-append z.before z.later in
+            let x : length u ≡ length z.kept + length z.later = ap length z.unparsed_is
+            ∙ length-append z.kept z.later in
+            let y : length since ≡ length z.before + length z.later = ap length z.since_is
+            ∙ length-append z.before z.later in
             omega (arith, z.few, j, x, y, s, d));
       };
 }
 
 -- a value was asked for: one call at most, and no byte came
-module _ (old new : State) (same : old.failed ≡ true → new ≡ old) (one : old.failed ≡ false → OneCall old.counts new.counts) where
+module _ (old new : State) (same : old.failed ≡ true → new ≡ old)
+    (one : old.failed ≡ false → OneCall old.counts new.counts) where
   pub received-same : new.counts.received ≡ old.counts.received
   received-same = by_failed old.failed refl
     where

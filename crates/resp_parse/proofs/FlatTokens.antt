@@ -1,5 +1,6 @@
 -- The tokens and the text of open aggregates.
-use Rattle.std.proofs.Common.{◌≡◌, ℕ, zero, suc, ◌+◌, ◌*◌, Bool, false, cond, List, [], ◌∷◌, ◌++◌, length, map, take, refl, ap, sym, ◌∙◌, append_assoc, zero-add, arith}
+use Rattle.std.proofs.Common.{◌≡◌, ℕ, zero, suc, ◌+◌, ◌*◌, Bool, false, cond, List, [], ◌∷◌, ◌++◌, length, map, take}
+use Rattle.std.proofs.Common.{refl, ap, sym, ◌∙◌, append_assoc, zero-add, arith}
 use Rattle.std.proofs.lemmas.List.{length-append, append-nil}
 use Rattle.resp_value.specs.declared.value.Value.{Value}
 use Rattle.resp_value.specs.Views.{pairs}
@@ -17,8 +18,10 @@ use Rattle.resp_parse.specs.FlatBuilders.{opening, tokens_in, text_in}
 elements-total : (vs : List Value) → total (joined (map tokens_of vs)) ≡ length (joined (map text_of vs))
 elements-total [] = refl
 elements-total (v ∷ vs) =
-    total-append (tokens_of v) (joined (map tokens_of vs)) ∙ ap (λ (n : ℕ). n + total (joined (map tokens_of vs))) (sizes v)
-    ∙ ap (λ (n : ℕ). length (text_of v) + n) (elements-total vs) ∙ sym (length-append (text_of v) (joined (map text_of vs)))
+    total-append (tokens_of v) (joined (map tokens_of vs))
+    ∙ ap (λ (n : ℕ). n + total (joined (map tokens_of vs))) (sizes v)
+    ∙ ap (λ (n : ℕ). length (text_of v) + n) (elements-total vs)
+    ∙ sym (length-append (text_of v) (joined (map text_of vs)))
 
 aggregate-textless : (k : ElementsKind) → has_text (token_kind k) ≡ false
 aggregate-textless Array = refl
@@ -45,15 +48,18 @@ placed-length at [] = refl
 placed-length at (t ∷ ts) = ap suc (placed-length (at + bytes_of t) ts)
 
 -- one element more
-pub joined-more : {A : Type 0} (h : Value → List A) (vs : List Value) (v : Value) → joined (map h (vs ++ (v ∷ []))) ≡ joined (map h vs) ++ h v
+pub joined-more : {A : Type 0} (h : Value → List A) (vs : List Value) (v : Value) → joined (map h (vs ++ (v ∷ [])))
+    ≡ joined (map h vs) ++ h v
 joined-more h [] v = append-nil (h v)
-joined-more h (x ∷ vs) v = ap (λ ys. h x ++ ys) (joined-more h vs v) ∙ sym (append_assoc (h x) (joined (map h vs)) (h v))
+joined-more h (x ∷ vs) v = ap (λ ys. h x ++ ys) (joined-more h vs v)
+    ∙ sym (append_assoc (h x) (joined (map h vs)) (h v))
 
 abbrev pub both : {A : Type 0} → (Value → List A) → Value × Value → List A × List A
 both h p = (h p.0, h p.1)
 
 -- an even number of elements, in pairs
-pub joined-paired : {A : Type 0} (h : Value → List A) (n : ℕ) (vs : List Value) → length vs ≡ 2 * n → joined (map h vs) ≡ joined_pairs (map (both h) (pairs vs))
+pub joined-paired : {A : Type 0} (h : Value → List A) (n : ℕ) (vs : List Value) → length vs ≡ 2 * n → joined (map h vs)
+    ≡ joined_pairs (map (both h) (pairs vs))
 joined-paired h zero [] e = refl
 joined-paired h zero (v ∷ vs) e = absurd (omega (arith, e))
 joined-paired h (suc n) [] e = absurd (omega (arith, e))

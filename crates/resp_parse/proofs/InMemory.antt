@@ -15,7 +15,8 @@ tokens-few (f ∷ fs) =
     let e = length-append (tokens_in fs) (opening f ∷ joined (map tokens_of f.seen)) in
     omega (arith, e, tokens-few fs, elements-tokens f.seen)
 
-pub flat-paid : (reply : FlatReply) (opens : List ℕ) (fs : List OpenAggregate) (x : List ℕ) → HoldsFlat reply opens fs [] x → IsPaidFor reply fs
+pub flat-paid : (reply : FlatReply) (opens : List ℕ) (fs : List OpenAggregate) (x : List ℕ)
+    → HoldsFlat reply opens fs [] x → IsPaidFor reply fs
 flat-paid reply opens fs x h =
     let e = ap length (h.tokens ∙ ap (placed 0) (append-nil (tokens_in fs))) ∙ placed-length 0 (tokens_in fs) in
     omega (arith, e, tokens-few fs)

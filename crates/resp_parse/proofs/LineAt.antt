@@ -1,5 +1,6 @@
 -- The first line of bytes, by the place of its LF.
-use Rattle.std.proofs.Common.{◌≡◌, ℕ, zero, suc, ◌+◌, ◌-◌, ◌<◌, ◌≤◌, true, false, ◌&&◌, ◌==◌, List, [], ◌∷◌, ◌++◌, length, take, drop, get_or, refl, ap, sym, subst, ◌∙◌, arith, Some}
+use Rattle.std.proofs.Common.{◌≡◌, ℕ, zero, suc, ◌+◌, ◌-◌, ◌<◌, ◌≤◌, true, false, ◌&&◌, ◌==◌, List, [], ◌∷◌, ◌++◌}
+use Rattle.std.proofs.Common.{length, take, drop, get_or, refl, ap, sym, subst, ◌∙◌, arith, Some}
 use Rattle.std.proofs.lemmas.Bool.{and_parts, and_from}
 use Rattle.std.proofs.lemmas.Bool.Decides.{Decides-eqb}
 use Rattle.std.proofs.lemmas.Grind.{common_steps}
@@ -10,7 +11,8 @@ use Rattle.resp_parse.proofs.ByteTests.{not_true, eq_true}
 
 -- no CR LF stands at the start
 not_here : (b c : ℕ) (bs : List ℕ) (m : ℕ) → NoneBefore (b ∷ c ∷ bs) m → 1 < m → ((b == 13) && (c == 10)) ≡ false
-not_here b c bs m none l = not_true _ (λ t. let p = and_parts _ _ t in none 0 l ((Decides-eqb b 13).0 p.0) ((Decides-eqb c 10).0 p.1))
+not_here b c bs m none l = not_true _
+    (λ t. let p = and_parts _ _ t in none 0 l ((Decides-eqb b 13).0 p.0) ((Decides-eqb c 10).0 p.1))
 
 pub line-none : (bs : List ℕ) → NoneBefore bs (length bs) → line bs ≡ incomplete
 line-none [] none = refl
@@ -20,7 +22,8 @@ line-none (b ∷ c ∷ bs) none =
     let later : line (c ∷ bs) ≡ incomplete = line-none (c ∷ bs) (λ k l e. none (suc k) (omega arith) e) in
     rw (here, later) refl
 
-line-found : (bs : List ℕ) (i : ℕ) → NoneBefore bs (suc i) → suc i < length bs → get_or bs i 0 ≡ 13 → get_or bs (suc i) 0 ≡ 10 → line bs ≡ got (take i bs) (drop (suc (suc i)) bs)
+line-found : (bs : List ℕ) (i : ℕ) → NoneBefore bs (suc i) → suc i < length bs → get_or bs i 0 ≡ 13
+    → get_or bs (suc i) 0 ≡ 10 → line bs ≡ got (take i bs) (drop (suc (suc i)) bs)
 line-found [] i none l cr lf = absurd (omega arith)
 line-found (b ∷ []) i none l cr lf = absurd (omega arith)
 line-found (b ∷ c ∷ bs) zero none l cr lf =
@@ -28,14 +31,17 @@ line-found (b ∷ c ∷ bs) zero none l cr lf =
     rw here refl
 line-found (b ∷ c ∷ bs) (suc i) none l cr lf =
     let here : ((b == 13) && (c == 10)) ≡ false = not_here b c bs (suc (suc i)) none (omega arith) in
-    let later : line (c ∷ bs) ≡ got (take i (c ∷ bs)) (drop (suc (suc i)) (c ∷ bs)) = line-found (c ∷ bs) i (λ k m e. none (suc k) (omega arith) e) (omega arith) cr lf in
+    let later : line (c ∷ bs) ≡ got (take i (c ∷ bs)) (drop (suc (suc i)) (c ∷ bs)) = line-found (c ∷ bs) i
+    (λ k m e. none (suc k) (omega arith) e) (omega arith) cr lf in
     rw (here, later) refl
 
 -- the LF stands at `at`
-pub line-at : (bs : List ℕ) (at : ℕ) → 1 ≤ at → NoneBefore bs at → at < length bs → get_or bs (at - 1) 0 ≡ 13 → get_or bs at 0 ≡ 10 → FindsLine bs (Some (at - 1))
+pub line-at : (bs : List ℕ) (at : ℕ) → 1 ≤ at → NoneBefore bs at → at < length bs → get_or bs (at - 1) 0 ≡ 13
+    → get_or bs at 0 ≡ 10 → FindsLine bs (Some (at - 1))
 line-at bs at one none l cr lf =
     let e : suc (at - 1) ≡ at = omega arith in
-    let found = line-found bs (at - 1) (subst (NoneBefore bs) (sym e) none) (omega arith) cr (ap (λ k. get_or bs k 0) e ∙ lf) in
+    let found = line-found bs (at - 1) (subst (NoneBefore bs) (sym e) none) (omega arith) cr
+    (ap (λ k. get_or bs k 0) e ∙ lf) in
     let z : suc (suc (at - 1)) ≡ (at - 1) + 2 = omega arith in
     (omega arith, found ∙ ap (λ k. got (take (at - 1) bs) (drop k bs)) z)
 
@@ -50,5 +56,6 @@ Scanned-longer bs more n h =
     let w : n ≤ length bs = h.within in
     record {
       within = grind (arith, common_steps);
-      none = λ k l cr lf. h.none k l (sym (get_or-append bs more k (omega arith)) ∙ cr) (sym (get_or-append bs more (suc k) (omega arith)) ∙ lf);
+      none = λ k l cr lf. h.none k l (sym (get_or-append bs more k (omega arith)) ∙ cr)
+          (sym (get_or-append bs more (suc k) (omega arith)) ∙ lf);
     }

@@ -24,7 +24,8 @@ unfolding StandsAfter
 StandsAfter-works s b h = h.0
 
 pub StandsAfter-not_failed : (s : State) (b : List ℕ) → StandsAfter s b → s.failed ≡ true → ⊥
-StandsAfter-not_failed s b h e = let w : s.failed ≡ false = StandsAfter-works s b h in let k : false ≡ true = sym w ∙ e in cc
+StandsAfter-not_failed s b h e =
+    let w : s.failed ≡ false = StandsAfter-works s b h in let k : false ≡ true = sym w ∙ e in cc
 
 pub StandsOrFailed-since : (s : State) (b : List ℕ) → StandsAfter s b ⊎ FailedAfter s b → b ≡ s.since
 StandsOrFailed-since s b (inl h) = StandsAfter-since s b h
@@ -41,14 +42,18 @@ pub IsBetweenValues-same : (s : State) → IsBetweenValues s → s.since ≡ s.u
 IsBetweenValues-same s h = sym (StandsAfter-since s s.unparsed h.stands)
 
 -- bytes were added
-pub StandsAfter-fed : (old new : State) (b bytes : List ℕ) → StandsAfter old b → new.failed ≡ old.failed → new.since ≡ old.since ++ bytes → StandsAfter new (b ++ bytes)
+pub StandsAfter-fed : (old new : State) (b bytes : List ℕ) → StandsAfter old b → new.failed ≡ old.failed → new.since
+    ≡ old.since ++ bytes → StandsAfter new (b ++ bytes)
 StandsAfter-fed old new b bytes h f e =
-    StandsAfter-from_since new (b ++ bytes) (f ∙ StandsAfter-works old b h) (ap (λ x. x ++ bytes) (StandsAfter-since old b h) ∙ sym e)
+    StandsAfter-from_since new (b ++ bytes) (f ∙ StandsAfter-works old b h)
+    (ap (λ x. x ++ bytes) (StandsAfter-since old b h) ∙ sym e)
 
-pub IsBetweenValues-fed : (old new : State) (bytes : List ℕ) → new.failed ≡ false → new.since ≡ old.since ++ bytes → new.unparsed ≡ old.unparsed ++ bytes → IsBetweenValues old → IsBetweenValues new
+pub IsBetweenValues-fed : (old new : State) (bytes : List ℕ) → new.failed ≡ false → new.since ≡ old.since ++ bytes
+    → new.unparsed ≡ old.unparsed ++ bytes → IsBetweenValues old → IsBetweenValues new
 IsBetweenValues-fed old new bytes w e k h =
     IsBetweenValues-from_same new w (e ∙ ap (λ x. x ++ bytes) (IsBetweenValues-same old h) ∙ sym k)
 
 -- the parser has failed
-pub FailedAfter-failed : (old new : State) (b : List ℕ) → StandsAfter old b → new.failed ≡ true → new.since ≡ old.since → FailedAfter new b
+pub FailedAfter-failed : (old new : State) (b : List ℕ) → StandsAfter old b → new.failed ≡ true → new.since ≡ old.since
+    → FailedAfter new b
 FailedAfter-failed old new b h w e = FailedAfter-from_since new b w (StandsAfter-since old b h ∙ sym e)

@@ -1,5 +1,6 @@
 -- What bodies and elements make.
-use Rattle.std.proofs.Common.{◌≡◌, ℕ, suc, ◌-◌, true, false, Some, None, List, [], ◌∷◌, ◌++◌, length, take, refl, ap, ◌∙◌, arith}
+use Rattle.std.proofs.Common.{◌≡◌, ℕ, suc, ◌-◌, true, false, Some, None, List, [], ◌∷◌, ◌++◌, length, take, refl, ap}
+use Rattle.std.proofs.Common.{◌∙◌, arith}
 use Rattle.std.specs.Str.{is_utf8}
 use Rattle.std.proofs.lemmas.Grind.{common_steps}
 use Rattle.resp_value.specs.declared.value.Value.{Value, BulkString, Nil, Attribute}
@@ -15,7 +16,8 @@ padded-some : (v : Value) (vs : List Value) → padded (v ∷ vs) ≡ [] → ⊥
 padded-some v [] e = cc
 padded-some v (w ∷ vs) e = cc
 
-pub push_kind-text : (v : Value) (name : List ℕ) → v ≡ BulkString name → is_utf8 name ≡ true → push_kind v ≡ Some (kind_named name)
+pub push_kind-text : (v : Value) (name : List ℕ) → v ≡ BulkString name → is_utf8 name ≡ true → push_kind v
+    ≡ Some (kind_named name)
 push_kind-text v name e u = ap push_kind e ∙ rw u refl
 
 pub push_kind-bytes : (v : Value) (name : List ℕ) → v ≡ BulkString name → is_utf8 name ≡ false → push_kind v ≡ None
@@ -27,7 +29,8 @@ last_of Key p = p.0
 last_of Nothing p = p.1
 
 -- the last of elements that stand in pairs, and the pairs before it
-pub last-taken : (vs : List Value) (rest : List (Value × Value)) (p : Value × Value) → padded vs ≡ rest ++ p ∷ [] → (last_of (waits_in vs) p ≡ last_element vs) × (rest ≡ pairs (take (length vs - 1) vs))
+pub last-taken : (vs : List Value) (rest : List (Value × Value)) (p : Value × Value) → padded vs ≡ rest ++ p ∷ []
+    → (last_of (waits_in vs) p ≡ last_element vs) × (rest ≡ pairs (take (length vs - 1) vs))
 last-taken [] rest p e = absurd (grind (arith, common_steps, ap length e))
 last-taken (key ∷ []) [] p e = (let i : p ≡ (key, Nil) = cc in ap (λ q. q.0) i, refl)
 last-taken (key ∷ []) (r ∷ rest) p e = absurd (grind (arith, common_steps, ap length e))
@@ -47,13 +50,16 @@ last_element-append [] v = refl
 last_element-append (x ∷ []) v = refl
 last_element-append (x ∷ y ∷ prefix) v = last_element-append (y ∷ prefix) v
 
-last_element-popped : (elements prefix : List Value) (v : Value) → elements ≡ prefix ++ v ∷ [] → last_element elements ≡ v
+last_element-popped : (elements prefix : List Value) (v : Value) → elements ≡ prefix ++ v ∷ [] → last_element elements
+    ≡ v
 last_element-popped elements prefix v e = ap last_element e ∙ last_element-append prefix v
 
-take-popped : (elements prefix : List Value) (v : Value) → elements ≡ prefix ++ v ∷ [] → take (length elements - 1) elements ≡ prefix
+take-popped : (elements prefix : List Value) (v : Value) → elements ≡ prefix ++ v ∷ []
+    → take (length elements - 1) elements ≡ prefix
 take-popped elements prefix v e = rw e (grind (arith, common_steps))
 
-pub attribute-popped : (elements prefix : List Value) (v : Value) → elements ≡ prefix ++ v ∷ [] → attribute elements ≡ Attribute v (pairs prefix)
+pub attribute-popped : (elements prefix : List Value) (v : Value) → elements ≡ prefix ++ v ∷ [] → attribute elements
+    ≡ Attribute v (pairs prefix)
 attribute-popped elements prefix v e =
     let l : last_element elements ≡ v = last_element-popped elements prefix v e in
     let t : take (length elements - 1) elements ≡ prefix = take-popped elements prefix v e in

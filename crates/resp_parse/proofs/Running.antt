@@ -1,5 +1,6 @@
 -- Steps, one after another.
-use Rattle.std.proofs.Common.{◌≡◌, ℕ, ◌+◌, ◌<◌, ◌≤◌, true, false, List, [], ◌∷◌, ◌++◌, length, drop, refl, ap, sym, ◌∙◌, subst, arith, Some, None, Ok, Err}
+use Rattle.std.proofs.Common.{◌≡◌, ℕ, ◌+◌, ◌<◌, ◌≤◌, true, false, List, [], ◌∷◌, ◌++◌, length, drop, refl, ap, sym, ◌∙◌}
+use Rattle.std.proofs.Common.{subst, arith, Some, None, Ok, Err}
 use Rattle.std.proofs.lemmas.Grind.{common_steps}
 use Rattle.resp_value.specs.declared.value.Value.{Value}
 use Rattle.resp_parse.specs.declared.read_error.ReadError.{ReadError}
@@ -22,11 +23,22 @@ pub record Ran {B : Type 0} (old m : Machine B) (bytes : List ℕ) (at : ℕ) : 
   pub fresh : fresh_of m.body m.open_aggregates ≡ true → at ≡ 0
   pub begun : at ≡ 0 → fresh_of m.body m.open_aggregates ≡ fresh_of old.body old.open_aggregates
 
-pub Ran-start : {B : Type 0} (m : Machine B) (bytes : List ℕ) → length m.open_aggregates ≤ m.depth → IsScanned m.body m.scanned bytes → Ran m m bytes 0
-Ran-start m bytes l s = record { within = omega arith; same = λ more. refl; limit = refl; depth = l; scanned = s; fresh = λ _. refl; begun = λ _. refl }
+pub Ran-start : {B : Type 0} (m : Machine B) (bytes : List ℕ) → length m.open_aggregates ≤ m.depth
+    → IsScanned m.body m.scanned bytes → Ran m m bytes 0
+Ran-start m bytes l s = record {
+  within = omega arith;
+  same = λ more. refl;
+  limit = refl;
+  depth = l;
+  scanned = s;
+  fresh = λ _. refl;
+  begun = λ _.
+      refl;
+}
 
 -- all bytes were taken
-pub Ran-end : {B : Type 0} (old m : Machine B) (bytes : List ℕ) (at : ℕ) → Ran old m bytes at → length bytes ≤ at → Runs old bytes m (Ok (at, None))
+pub Ran-end : {B : Type 0} (old m : Machine B) (bytes : List ℕ) (at : ℕ) → Ran old m bytes at → length bytes ≤ at
+    → Runs old bytes m (Ok (at, None))
 Ran-end old m bytes at h l = record {
   within = h.within;
   same = h.same;
@@ -43,10 +55,15 @@ module _ {B : Type 0} (old m : Machine B) (bytes : List ℕ) (at : ℕ) (h : Ran
   within : (n : ℕ) → n ≤ length (drop at bytes) → at + n ≤ length bytes
   within n l = let w : at ≤ length bytes = h.within in grind (arith, common_steps)
 
-  pub Ran-malformed : (new end : Machine B) (f : FrameFault) → end.shown ≡ at + new.shown → at < length bytes → Steps m (drop at bytes) new (Err (Fault f)) → Runs old bytes end (Err (Fault f))
-  Ran-malformed new end f e l s = (rw e (within new.shown s.0, λ more. h.same more ∙ s.1 more ∙ ap (λ x. fault f (x ++ more)) (dropped new.shown)), omega arith)
+  pub Ran-malformed : (new end : Machine B) (f : FrameFault) → end.shown ≡ at + new.shown → at < length bytes
+      → Steps m (drop at bytes) new (Err (Fault f)) → Runs old bytes end (Err (Fault f))
+  Ran-malformed new end f e l s = (
+    rw e (within new.shown s.0, λ more. h.same more ∙ s.1 more ∙ ap (λ x. fault f (x ++ more)) (dropped new.shown)),
+    omega arith,
+  )
 
-  pub Ran-waits : (new : Machine B) (n : ℕ) → Steps m (drop at bytes) new (Ok (step.Waits n)) → Runs old bytes new (Ok (at + n, None))
+  pub Ran-waits : (new : Machine B) (n : ℕ) → Steps m (drop at bytes) new (Ok (step.Waits n))
+      → Runs old bytes new (Ok (at + n, None))
   Ran-waits new n s = record {
     within = within n s.within;
     same = λ more. h.same more ∙ s.same more ∙ ap (λ x. resume new (x ++ more)) (dropped n);
@@ -57,8 +74,10 @@ module _ {B : Type 0} (old m : Machine B) (bytes : List ℕ) (at : ℕ) (h : Ran
   }
 
   -- bytes were taken, and something is open
-  Ran-takes : (new : Machine B) (n : ℕ) → 0 < n → n ≤ length (drop at bytes) → ((more : List ℕ) → resume m (drop at bytes ++ more) ≡ resume new (drop n (drop at bytes) ++ more)) →
-      new.scanned ≡ 0 → fresh_of new.body new.open_aggregates ≡ false → new.depth ≡ m.depth → length new.open_aggregates ≤ new.depth → Ran old new bytes (at + n)
+  Ran-takes : (new : Machine B) (n : ℕ) → 0 < n → n ≤ length (drop at bytes)
+      → ((more : List ℕ) → resume m (drop at bytes ++ more) ≡ resume new (drop n (drop at bytes) ++ more)) →
+      new.scanned ≡ 0 → fresh_of new.body new.open_aggregates ≡ false → new.depth ≡ m.depth
+      → length new.open_aggregates ≤ new.depth → Ran old new bytes (at + n)
   Ran-takes new n some w same z f k l = record {
     within = within n w;
     same = λ more. h.same more ∙ same more ∙ ap (λ x. resume new (x ++ more)) (dropped n);
@@ -69,31 +88,43 @@ module _ {B : Type 0} (old m : Machine B) (bytes : List ℕ) (at : ℕ) (h : Ran
     begun = λ e. absurd (omega arith);
   }
 
-  pub Ran-goes : (new : Machine B) (n : ℕ) → Steps m (drop at bytes) new (Ok (step.Goes n)) → new.depth ≡ m.depth → length new.open_aggregates ≤ new.depth → Ran old new bytes (at + n)
+  pub Ran-goes : (new : Machine B) (n : ℕ) → Steps m (drop at bytes) new (Ok (step.Goes n)) → new.depth ≡ m.depth
+      → length new.open_aggregates ≤ new.depth → Ran old new bytes (at + n)
   Ran-goes new n s k l = Ran-takes new n s.0.some s.0.within s.0.same s.0.scanned s.1 k l
 
   -- a value is whole, and was put where it belongs
   module _ (mid new : Machine B) (n : ℕ) (v : Value) (s : Steps m (drop at bytes) mid (Ok (step.Whole n v))) where
-    pub Ran-attaches : Ends (place mid.depth mid.open_aggregates v) new (Ok None) → new.scanned ≡ mid.scanned → new.depth ≡ m.depth → length new.open_aggregates ≤ new.depth → Ran old new bytes (at + n)
+    pub Ran-attaches : Ends (place mid.depth mid.open_aggregates v) new (Ok None) → new.scanned ≡ mid.scanned
+        → new.depth ≡ m.depth → length new.open_aggregates ≤ new.depth → Ran old new bytes (at + n)
     Ran-attaches e z k l =
-        Ran-takes new n s.0.some s.0.within (λ more. s.0.same more ∙ e.0 (drop n (drop at bytes) ++ more)) (z ∙ s.0.scanned) e.1 k l
+        Ran-takes new n s.0.some s.0.within (λ more. s.0.same more ∙ e.0 (drop n (drop at bytes) ++ more))
+        (z ∙ s.0.scanned) e.1 k l
 
-    pub Ran-reads : (w : Value) → Ends (place mid.depth mid.open_aggregates v) new (Ok (Some w)) → new.scanned ≡ mid.scanned → Runs old bytes new (Ok (at + n, Some w))
+    pub Ran-reads : (w : Value) → Ends (place mid.depth mid.open_aggregates v) new (Ok (Some w)) → new.scanned
+        ≡ mid.scanned → Runs old bytes new (Ok (at + n, Some w))
     Ran-reads w e z = record {
       within = within n s.0.within;
-      same = λ more. h.same more ∙ s.0.same more ∙ e.0 (drop n (drop at bytes) ++ more) ∙ ap (λ x. got w (x ++ more)) (dropped n);
+      same = λ more. h.same more ∙ s.0.same more ∙ e.0 (drop n (drop at bytes) ++ more)
+          ∙ ap (λ x. got w (x ++ more)) (dropped n);
       fresh = e.1;
       scanned = z ∙ s.0.scanned;
     }
 
-    pub Ran-refused : (end : Machine B) (e : ReadError) → end.shown ≡ at + n → at < length bytes → Ends (place mid.depth mid.open_aggregates v) new (Err e) → Runs old bytes end (Err e)
+    pub Ran-refused : (end : Machine B) (e : ReadError) → end.shown ≡ at + n → at < length bytes
+        → Ends (place mid.depth mid.open_aggregates v) new (Err e) → Runs old bytes end (Err e)
     Ran-refused end Memory i l k = (tt, omega arith)
     Ran-refused end (Fault f) i l k = (
-      rw i (within n s.0.within, λ more. h.same more ∙ s.0.same more ∙ k (drop n (drop at bytes) ++ more) ∙ ap (λ x. fault f (x ++ more)) (dropped n)),
+      rw i (
+        within n s.0.within,
+        λ more. h.same more ∙ s.0.same more ∙ k (drop n (drop at bytes) ++ more)
+            ∙ ap (λ x. fault f (x ++ more)) (dropped n),
+      ),
       omega arith,
     )
 
 -- a value isn't read of no bytes
-pub Completes-some : {B : Type 0} (old : Machine B) (bytes : List ℕ) (new : Machine B) (n : ℕ) (v : Value) → Completes old bytes new n v → 0 < length bytes
-Completes-some old [] new n v d = absurd (let e : incomplete ≡ got v (drop n [] ++ []) = sym (resume-nothing old) ∙ d.same [] in cc)
+pub Completes-some : {B : Type 0} (old : Machine B) (bytes : List ℕ) (new : Machine B) (n : ℕ) (v : Value)
+    → Completes old bytes new n v → 0 < length bytes
+Completes-some old [] new n v d = absurd
+    (let e : incomplete ≡ got v (drop n [] ++ []) = sym (resume-nothing old) ∙ d.same [] in cc)
 Completes-some old (b ∷ bytes) new n v d = omega arith

@@ -17,13 +17,17 @@ abbrev pub SameButExamined : Counts → Counts → Type 0
 SameButExamined c d = d ≡ record c { iterations = d.iterations; looks = d.looks; examined = d.examined }
 
 pub examined-iterations : (c d : Counts) → SameButIterations c d → SameButExamined c d
-examined-iterations c d h = h ∙ ap (λ (t : Counts). record c { iterations = d.iterations; looks = t.looks; examined = t.examined }) (sym h)
+examined-iterations c d h = h ∙ ap
+    (λ (t : Counts). record c { iterations = d.iterations; looks = t.looks; examined = t.examined }) (sym h)
 
 pub examined-looks : (c d : Counts) → d ≡ record c { iterations = d.iterations; looks = d.looks } → SameButExamined c d
-examined-looks c d h = h ∙ ap (λ (t : Counts). record c { iterations = d.iterations; looks = d.looks; examined = t.examined }) (sym h)
+examined-looks c d h = h ∙ ap
+    (λ (t : Counts). record c { iterations = d.iterations; looks = d.looks; examined = t.examined }) (sym h)
 
 pub examined-take : (c d : Counts) (n : ℕ) → d ≡ record c { examined = c.examined + n } → SameButExamined c d
-examined-take c d n h = h ∙ ap (λ (t : Counts). record c { iterations = t.iterations; looks = t.looks; examined = t.examined }) (sym h)
+examined-take c d n h = h ∙ ap
+    (λ (t : Counts). record c { iterations = t.iterations; looks = t.looks; examined = t.examined }) (sym h)
 
 pub examined-both : (c d e : Counts) → SameButExamined c d → SameButExamined d e → SameButExamined c e
-examined-both c d e h k = k ∙ ap (λ (t : Counts). record t { iterations = e.iterations; looks = e.looks; examined = e.examined }) h
+examined-both c d e h k = k ∙ ap
+    (λ (t : Counts). record t { iterations = e.iterations; looks = e.looks; examined = e.examined }) h

@@ -1,5 +1,6 @@
 -- A parser whose machine went on in those of the unparsed bytes that the value may have.
-use Rattle.std.proofs.Common.{◌≡◌, ◌≢◌, ℕ, ◌+◌, ◌-◌, ◌≤◌, ◌<◌, Bool, true, false, List, [], ◌∷◌, ◌++◌, length, Option, take, drop, refl, ap, sym, ◌∙◌, subst, arith, Ok, Err, Some, None}
+use Rattle.std.proofs.Common.{◌≡◌, ◌≢◌, ℕ, ◌+◌, ◌-◌, ◌≤◌, ◌<◌, Bool, true, false, List, [], ◌∷◌, ◌++◌, length, Option}
+use Rattle.std.proofs.Common.{take, drop, refl, ap, sym, ◌∙◌, subst, arith, Ok, Err, Some, None}
 use Rattle.std.proofs.lemmas.List.{append-nil, drop-append-le, length-append, length-drop, take-append-drop}
 use Rattle.resp_value.specs.declared.value.Value.{Value}
 use Rattle.resp_errors.specs.declared.kinds.FrameFault.{FrameFault}
@@ -19,17 +20,22 @@ use Rattle.resp_parse.specs.Costs.{least_bytes, Spent, SpentAtStop}
 use Rattle.resp_parse.specs.Invariant.{Resumes, Holds, Counted, CountsTaken, Placed, PassesLimit, limits_of}
 use Rattle.resp_parse.proofs.Counting.{Counted-taken, Counted-stopped, scanned-within}
 use Rattle.resp_parse.proofs.BodiesInPieces.{drop-drop}
-use Rattle.resp_parse.proofs.Holding.{Resumes-fresh, Resumes-waits, Holds-working, Holds-failed, well_formed-from_reads, malformed-from_runs, shown-from_runs, incomplete-from_waits}
+use Rattle.resp_parse.proofs.Holding.{Resumes-fresh, Resumes-waits, Holds-working, Holds-failed, well_formed-from_reads}
+use Rattle.resp_parse.proofs.Holding.{malformed-from_runs, shown-from_runs, incomplete-from_waits}
 use Rattle.resp_parse.proofs.LimitedReadings.{first-value}
 use Rattle.resp_parse.proofs.CountingTaken.{CountsTaken-waits, CountsTaken-fresh, Resumes-front, same-later, front-size}
 use Rattle.resp_parse.proofs.FaultOffsets.{Placed-passes}
 use Rattle.resp_parse.proofs.ParserStates.{IsBetweenValues-from_same, StandsAfter-from_since, FailedAfter-from_since}
 
 -- the machine was in the front of these unparsed bytes, and is now `new`
-module _ {B : Type 0} (most count : ℕ) (buffer since : List ℕ) (consumed : ℕ) (failed : Bool) (m new : Machine B) (within_buffer : consumed ≤ length buffer) (h : Holds m (drop consumed buffer) since failed) (w : failed ≡ false)
-    (spelled : CountsTaken most m (drop consumed buffer) since count) (u front later : List ℕ) (u_is : u ≡ drop consumed buffer) (front_is : front ≡ take (most - count) u) (later_is : later ≡ drop (most - count) u) (same : new.depth ≡ m.depth) where
+module _ {B : Type 0} (most count : ℕ) (buffer since : List ℕ) (consumed : ℕ) (failed : Bool) (m new : Machine B)
+    (within_buffer : consumed ≤ length buffer) (h : Holds m (drop consumed buffer) since failed) (w : failed ≡ false)
+    (spelled : CountsTaken most m (drop consumed buffer) since count) (u front later : List ℕ)
+    (u_is : u ≡ drop consumed buffer) (front_is : front ≡ take (most - count) u)
+    (later_is : later ≡ drop (most - count) u) (same : new.depth ≡ m.depth) where
   parts : u ≡ front ++ later
-  parts = sym (take-append-drop (most - count) u) ∙ ap (λ x. x ++ drop (most - count) u) (sym front_is) ∙ ap (λ x. front ++ x) (sym later_is)
+  parts = sym (take-append-drop (most - count) u) ∙ ap (λ x. x ++ drop (most - count) u) (sym front_is)
+      ∙ ap (λ x. front ++ x) (sym later_is)
 
   u-size : length u ≡ length front + length later
   u-size = ap length parts ∙ length-append front later
@@ -38,7 +44,8 @@ module _ {B : Type 0} (most count : ℕ) (buffer since : List ℕ) (consumed : �
   spelled-here = subst (λ x. CountsTaken most m x since count) (sym u_is) spelled
 
   resumes-front : Resumes m front (take most since)
-  resumes-front = subst (λ x. Resumes m x (take most since)) (sym front_is) (Resumes-front most m u since count spelled-here)
+  resumes-front = subst (λ x. Resumes m x (take most since)) (sym front_is)
+      (Resumes-front most m u since count spelled-here)
 
   later-since : later ≡ drop most since
   later-since = later_is ∙ same-later most m u since count spelled-here
@@ -53,7 +60,10 @@ module _ {B : Type 0} (most count : ℕ) (buffer since : List ℕ) (consumed : �
   dropped n = ap (drop n) u_is ∙ drop-drop consumed n buffer
 
   fits : (n : ℕ) → n ≤ length front → consumed + n ≤ length buffer
-  fits n l = let k : length u ≡ length (drop consumed buffer) = ap length u_is in let j : length (drop consumed buffer) ≡ length buffer - consumed = length-drop consumed buffer in omega (arith, l, k, j, u-size, within_buffer)
+  fits n l =
+      let k : length u ≡ length (drop consumed buffer) = ap length u_is in
+      let j : length (drop consumed buffer) ≡ length buffer - consumed = length-drop consumed buffer in
+      omega (arith, l, k, j, u-size, within_buffer)
 
   pub scanned-front : IsScanned m.body m.scanned front
   scanned-front = resumes-front.scanned
@@ -79,13 +89,20 @@ module _ {B : Type 0} (most count : ℕ) (buffer since : List ℕ) (consumed : �
     waits-fits = fits n d.within
 
     pub waits-holds : least_bytes new ≤ least_bytes m + n → Holds new (drop (consumed + n) buffer) since failed
-    waits-holds k = subst (λ x. Holds new x since failed) (dropped n) (Holds-working new (drop n u) since failed (Resumes-waits m new u since resumes n waits same k))
+    waits-holds k = subst (λ x. Holds new x since failed) (dropped n)
+        (Holds-working new (drop n u) since failed (Resumes-waits m new u since resumes n waits same k))
 
-    pub waits-counted : (c t e : Counts) → Counted m (drop consumed buffer) c failed → t ≡ record c { calls = c.calls + 1 } → Spent m new t e n → Counted new (drop (consumed + n) buffer) e failed
-    waits-counted c t e k i p = subst (λ x. Counted new x e failed) (dropped n) (Counted-taken m new u c t e failed n waits.within (scanned-within new.body new.scanned (drop n u) waits.scanned) (subst (λ x. Counted m x c failed) (sym u_is) k) w i p)
+    pub waits-counted : (c t e : Counts) → Counted m (drop consumed buffer) c failed → t
+        ≡ record c { calls = c.calls + 1 } → Spent m new t e n → Counted new (drop (consumed + n) buffer) e failed
+    waits-counted c t e k i p = subst (λ x. Counted new x e failed) (dropped n)
+        (Counted-taken m new u c t e failed n waits.within
+        (scanned-within new.body new.scanned (drop n u) waits.scanned) (subst (λ x. Counted m x c failed) (sym u_is) k)
+        w i p)
 
-    pub waits-spelled : least_bytes new ≤ least_bytes m + n → CountsTaken most new (drop (consumed + n) buffer) since (count + n)
-    waits-spelled k = subst (λ x. CountsTaken most new x since (count + n)) (dropped n) (CountsTaken-waits most m new u since count n resumes (sym since-size) few waits same k)
+    pub waits-spelled : least_bytes new ≤ least_bytes m + n
+        → CountsTaken most new (drop (consumed + n) buffer) since (count + n)
+    waits-spelled k = subst (λ x. CountsTaken most new x since (count + n)) (dropped n)
+        (CountsTaken-waits most m new u since count n resumes (sym since-size) few waits same k)
 
     pub waits-takes : {aside : ℕ} (s : State) → s.limits ≡ limits_of new most aside → s.failed ≡ failed → s.since ≡ since → (b : List ℕ) → b ≡ since → Takes b s (Ok None)
     waits-takes {aside} s l f k b e =
@@ -93,21 +110,28 @@ module _ {B : Type 0} (most count : ℕ) (buffer since : List ℕ) (consumed : �
         (rw (l ∙ ap (λ x. record { depth = x; bytes = most; pushes = aside }) same) (subst (Awaits (limits_of m most aside)) (sym e) here), StandsAfter-from_since s b (f ∙ w) (e ∙ sym k))
 
   -- a value was read
-  module _ (n : ℕ) (v : Value) (d : Completes m front new n v) (now : List ℕ) (now_is : now ≡ drop (consumed + n) buffer) where
+  module _ (n : ℕ) (v : Value) (d : Completes m front new n v) (now : List ℕ)
+      (now_is : now ≡ drop (consumed + n) buffer) where
     examined : n ≤ length u
     examined = let l : n ≤ length front = d.within in omega (arith, l, u-size)
 
     rest : drop n front ++ drop most since ≡ drop (consumed + n) buffer
-    rest = ap (λ x. drop n front ++ x) (sym later-since) ∙ sym (drop-append-le n front later d.within) ∙ ap (drop n) (sym parts) ∙ dropped n
+    rest = ap (λ x. drop n front ++ x) (sym later-since) ∙ sym (drop-append-le n front later d.within)
+        ∙ ap (drop n) (sym parts) ∙ dropped n
 
     pub value-fits : consumed + n ≤ length buffer
     value-fits = fits n d.within
 
     pub value-holds : Holds new (drop (consumed + n) buffer) now failed
-    value-holds = subst (λ x. Holds new (drop (consumed + n) buffer) x failed) (sym now_is) (Holds-working new (drop (consumed + n) buffer) (drop (consumed + n) buffer) failed (Resumes-fresh new (drop (consumed + n) buffer) d.fresh d.scanned))
+    value-holds = subst (λ x. Holds new (drop (consumed + n) buffer) x failed) (sym now_is)
+        (Holds-working new (drop (consumed + n) buffer) (drop (consumed + n) buffer) failed
+        (Resumes-fresh new (drop (consumed + n) buffer) d.fresh d.scanned))
 
-    pub value-counted : (c t e : Counts) → Counted m (drop consumed buffer) c failed → t ≡ record c { calls = c.calls + 1 } → Spent m new t e n → Counted new (drop (consumed + n) buffer) e failed
-    value-counted c t e k i p = subst (λ x. Counted new x e failed) (dropped n) (Counted-taken m new u c t e failed n examined (omega (arith, d.scanned)) (subst (λ x. Counted m x c failed) (sym u_is) k) w i p)
+    pub value-counted : (c t e : Counts) → Counted m (drop consumed buffer) c failed → t
+        ≡ record c { calls = c.calls + 1 } → Spent m new t e n → Counted new (drop (consumed + n) buffer) e failed
+    value-counted c t e k i p = subst (λ x. Counted new x e failed) (dropped n)
+        (Counted-taken m new u c t e failed n examined (omega (arith, d.scanned))
+        (subst (λ x. Counted m x c failed) (sym u_is) k) w i p)
 
     pub value-spelled : CountsTaken most new (drop (consumed + n) buffer) now 0
     value-spelled = CountsTaken-fresh most new (drop (consumed + n) buffer) now d.fresh d.scanned (sym now_is)
@@ -128,12 +152,18 @@ module _ {B : Type 0} (most count : ℕ) (buffer since : List ℕ) (consumed : �
   -- no value can be read
   module _ (e : ReadError) (d : Runs m front new (Err e)) where
     pub stops-holds : Holds new (drop consumed buffer) since true
-    stops-holds = let l : 0 < length front = d.1 in Holds-failed m new (drop consumed buffer) since failed h (subst (λ (x : List ℕ). 0 < length x) u_is (omega (arith, l, u-size)))
+    stops-holds =
+        let l : 0 < length front = d.1 in
+        Holds-failed m new (drop consumed buffer) since failed h
+        (subst (λ (x : List ℕ). 0 < length x) u_is (omega (arith, l, u-size)))
 
-    pub stops-counted : (c t e' : Counts) → Counted m (drop consumed buffer) c failed → t ≡ record c { calls = c.calls + 1 } → SpentAtStop m front t e' → Counted new (drop consumed buffer) e' true
+    pub stops-counted : (c t e' : Counts) → Counted m (drop consumed buffer) c failed → t
+        ≡ record c { calls = c.calls + 1 } → SpentAtStop m front t e' → Counted new (drop consumed buffer) e' true
     stops-counted c t e' k i p =
-        let most-looked : e'.examined + m.scanned ≤ t.examined + length u = (let z = p.0.most in omega (arith, z, u-size)) in
-        Counted-stopped m new u c t e' failed (subst (λ y. Counted m y c failed) (sym u_is) k) w i (record { same = p.0.same; once = p.0.once; most = most-looked }, p.1) (drop consumed buffer)
+        let most-looked : e'.examined + m.scanned ≤ t.examined + length u =
+        (let z = p.0.most in omega (arith, z, u-size)) in
+        Counted-stopped m new u c t e' failed (subst (λ y. Counted m y c failed) (sym u_is) k) w i
+        (record { same = p.0.same; once = p.0.once; most = most-looked }, p.1) (drop consumed buffer)
 
   pub stops-fault : {aside : ℕ} (s : State) → s.limits ≡ limits_of new most aside → s.failed ≡ true → s.since ≡ since → (f : FrameFault) → Runs m front new (Err (record_fault.Fault f)) → (b : List ℕ) → b ≡ since → Takes b s (Err (form.Parse (parsing.Fault f)))
   stops-fault {aside} s l k y f d b e =
@@ -146,7 +176,8 @@ module _ {B : Type 0} (most count : ℕ) (buffer since : List ℕ) (consumed : �
     shows = within (shown-from_runs m new front (take most since) resumes-front f count d size);
   })
 
-  pub stops-memory : (s : State) → s.failed ≡ true → s.since ≡ since → (b : List ℕ) → b ≡ since → Takes b s (Err form.OutOfMemory)
+  pub stops-memory : (s : State) → s.failed ≡ true → s.since ≡ since → (b : List ℕ) → b ≡ since
+      → Takes b s (Err form.OutOfMemory)
   stops-memory s k y b e = (CannotTake.out_of_memory refl, FailedAfter-from_since s b k (e ∙ sym y))
 
   -- the value in progress is longer than one may be
@@ -165,16 +196,25 @@ module _ {B : Type 0} (most count : ℕ) (buffer since : List ℕ) (consumed : �
     }
 
     pub long-holds : Holds new (drop consumed buffer) since true
-    long-holds = Holds-failed m new (drop consumed buffer) since failed h (subst (λ (x : List ℕ). 0 < length x) u_is (omega (arith, later-size, u-size)))
+    long-holds = Holds-failed m new (drop consumed buffer) since failed h
+        (subst (λ (x : List ℕ). 0 < length x) u_is (omega (arith, later-size, u-size)))
 
-    pub long-counted : (c t e : Counts) → Counted m (drop consumed buffer) c failed → t ≡ record c { calls = c.calls + 1 } → Spent m new t e n → Counted new (drop consumed buffer) e true
+    pub long-counted : (c t e : Counts) → Counted m (drop consumed buffer) c failed → t
+        ≡ record c { calls = c.calls + 1 } → Spent m new t e n → Counted new (drop consumed buffer) e true
     long-counted c t e k i p =
         let l : n ≤ length front = d.within in
         let s : new.scanned ≤ length (drop n front) = scanned-within new.body new.scanned (drop n front) d.scanned in
         let a : length (drop n front) ≡ length front - n = length-drop n front in
         let b : length (drop n u) ≡ length u - n = length-drop n u in
-        let now = Counted-taken m new u c t e failed n (omega (arith, l, u-size)) (omega (arith, l, s, a, b, u-size)) (subst (λ x. Counted m x c failed) (sym u_is) k) w i p in
-        record { iterations = now.iterations; looks = now.looks; examined = now.examined; works = λ z. absurd (let y : true ≡ false = z in cc) }
+        let now = Counted-taken m new u c t e failed n (omega (arith, l, u-size)) (omega (arith, l, s, a, b, u-size))
+        (subst (λ x. Counted m x c failed) (sym u_is) k) w i p in
+        record {
+          iterations = now.iterations;
+          looks = now.looks;
+          examined = now.examined;
+          works = λ z. absurd
+              (let y : true ≡ false = z in cc);
+        }
 
     pub long-placed : {aside : ℕ} (e : RedisError) (offset : Option ℕ) → PassesLimit most e offset → Placed (limits_of new most aside) offset since true
     long-placed {aside} e offset r = rw same (Placed-passes (limits_of m most aside) offset since e passes r)

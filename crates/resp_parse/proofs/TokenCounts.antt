@@ -35,14 +35,17 @@ elements-few (p ∷ ps) =
     let h = both (tokens_of p.0) _ (built p.0) (built_of (map value_in ps)) p.1 (elements-few ps) in
     omega (arith, h, sum_by-cons built p.0 (map value_in ps))
 
-pairs-few : (ps : List (Few × Few)) → length (joined_pairs (map tokens_of_pair (map pair_in ps))) ≤ 2 * sum_of_pairs (map built_pair (map pair_in ps))
+pairs-few : (ps : List (Few × Few)) → length (joined_pairs (map tokens_of_pair (map pair_in ps))) ≤ 2 * sum_of_pairs
+    (map built_pair (map pair_in ps))
 pairs-few [] = omega arith
 pairs-few (p ∷ ps) =
     let one = both _ _ _ _ p.1.1 (pairs-few ps) in
-    let two = both (tokens_of p.0.0) _ (built p.0.0) (built p.1.0 + sum_of_pairs (map built_pair (map pair_in ps))) p.0.1 one in
+    let two = both (tokens_of p.0.0) _ (built p.0.0) (built p.1.0 + sum_of_pairs (map built_pair (map pair_in ps)))
+    p.0.1 one in
     omega (arith, two)
 
-layer-few : (layer : Value-F Few) → length (tokens_form (map-Value Few Value value_in layer)) ≤ 2 * built_form (map-Value Few Value value_in layer)
+layer-few : (layer : Value-F Few) → length (tokens_form (map-Value Few Value value_in layer)) ≤ 2 * built_form
+    (map-Value Few Value value_in layer)
 layer-few Value-F.Nil = omega arith
 layer-few Value-F.Okay = omega arith
 layer-few (Value-F.Int n) = omega arith
@@ -61,7 +64,8 @@ layer-few (Value-F.Push kind ps) = omega (arith, elements-few ps, sum-map built 
 
 pub few : (v : Value) → length (tokens_of v) ≤ 2 * built v
 few = ind-Value (λ v. length (tokens_of v) ≤ 2 * built v) (λ x layer e.
-    let h : length (tokens_form x) ≤ 2 * built_form x = subst (λ (y : Value-F Value). length (tokens_form y) ≤ 2 * built_form y) e (layer-few layer) in
+    let h : length (tokens_form x) ≤ 2 * built_form x = subst
+    (λ (y : Value-F Value). length (tokens_form y) ≤ 2 * built_form y) e (layer-few layer) in
     let t = ap length (fold-roll-Value (List Token) tokens_step x) in
     let b = fold-roll-Value ℕ built_step x in
     omega (arith, h, t, b))

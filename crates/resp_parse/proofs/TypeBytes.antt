@@ -2,7 +2,9 @@
 use Rattle.std.proofs.Common.{◌≡◌, ◌≢◌, ℕ, Bool, true, false, cond, ◌==◌, Option, Some, None, refl, sym, ap, ◌∙◌}
 use Rattle.std.proofs.lemmas.Bool.Decides.{Decides-eqb}
 use Rattle.resp_parse.specs.declared.type_byte.TypeByte.{TypeByte}
-use Rattle.resp_parse.specs.declared.type_byte.TypeByte.TheVariants.{SimpleString, SimpleError, Integer, BulkString, Array, Null, Boolean, Double, BigNumber, BulkError, VerbatimString, Map, Attribute, Set, Push}
+use Rattle.resp_parse.specs.declared.type_byte.TypeByte.TheVariants.{SimpleString, SimpleError, Integer, BulkString}
+use Rattle.resp_parse.specs.declared.type_byte.TypeByte.TheVariants.{Array, Null, Boolean, Double, BigNumber, BulkError}
+use Rattle.resp_parse.specs.declared.type_byte.TypeByte.TheVariants.{VerbatimString, Map, Attribute, Set, Push}
 use Rattle.resp_parse.specs.TypeBytes.{byte_of, type_of}
 
 pub type_of-byte_of : (kind : TypeByte) → type_of (byte_of kind) ≡ Some kind
@@ -24,7 +26,8 @@ type_of-byte_of Set = refl
 type_of-byte_of Push = refl
 
 -- the first row of a table of types, and the other rows
-first_row : (c : ℕ) (row kind : TypeByte) (rows : Option TypeByte) → (rows ≡ Some kind → c ≡ byte_of kind) → cond (c == byte_of row) (Some row) rows ≡ Some kind → c ≡ byte_of kind
+first_row : (c : ℕ) (row kind : TypeByte) (rows : Option TypeByte) → (rows ≡ Some kind → c ≡ byte_of kind)
+    → cond (c == byte_of row) (Some row) rows ≡ Some kind → c ≡ byte_of kind
 first_row c row kind rows later e = by_test (c == byte_of row) refl e
   where
     by_test : (t : Bool) → (c == byte_of row) ≡ t → cond t (Some row) rows ≡ Some kind → c ≡ byte_of kind

@@ -1,6 +1,7 @@
 -- What the calls of a parser answer that stood after b: how it stands then, and, where a source was
 -- asked, how that went from s to t, and that what was filled is all that was received.
-use Rattle.std.specs.Prelude.{◌≡◌, ◌≢◌, ◌<◌, ◌≤◌, ◌+◌, ℕ, Bool, true, false, List, [], ◌++◌, length, Option, None, Some, Result, Ok, Err}
+use Rattle.std.specs.Prelude.{◌≡◌, ◌≢◌, ◌<◌, ◌≤◌, ◌+◌, ℕ, Bool, true, false, List, [], ◌++◌, length, Option, None, Some}
+use Rattle.std.specs.Prelude.{Result, Ok, Err}
 use Rattle.std.specs.Io.KnownBytes.{IsAtEnd}
 use Rattle.resp_value.specs.declared.value.Value.{Value}
 use Rattle.resp_flat.specs.declared.flat_reply.FlatReply.{FlatReply}

@@ -1,5 +1,6 @@
 -- Double lines (RESP3, "Doubles").
-use Rattle.std.specs.Prelude.{ℕ, ◌+◌, Bool, cond, ◌&&◌, ◌||◌, ◌==◌, ◌++◌, List, take, drop, position, codes, None, Some, Result, Ok, Err}
+use Rattle.std.specs.Prelude.{ℕ, ◌+◌, Bool, cond, ◌&&◌, ◌||◌, ◌==◌, ◌++◌, List, take, drop, position, codes, None, Some}
+use Rattle.std.specs.Prelude.{Result, Ok, Err}
 use Rattle.std.specs.Str.{trim, bytes_eq, str_to_ascii_lowercase}
 use Rattle.std.specs.Str.Parse.{without_leading_sign}
 use Rattle.resp_value.specs.declared.value.Value.{Value, Double}

@@ -12,7 +12,8 @@ lacks_of None = 0
 lacks_of (Some b) = b.missing
 
 -- the bytes were taken into the open body, in one iteration at most, and none where there are none
-pub record FilledOpenBody {B : Type 0} (old : Machine B) (bytes : List ℕ) (new : Machine B) (c d : Counts) : Type 0 where
+pub record FilledOpenBody {B : Type 0} (old : Machine B) (bytes : List ℕ) (new : Machine B) (c d : Counts) : Type
+    0 where
   pub same : (more : List ℕ) → resume old (bytes ++ more) ≡ resume new more
   pub depth : new.depth ≡ old.depth
   pub open_aggregates : new.open_aggregates ≡ old.open_aggregates

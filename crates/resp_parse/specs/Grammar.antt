@@ -1,13 +1,16 @@
 -- The grammar of replies (RESP, "RESP protocol description"): a type byte, a line, and what the
 -- line announces.
-use Rattle.std.specs.Prelude.{◌≡◌, ◌≢◌, ℕ, zero, suc, ◌+◌, ◌-◌, ◌*◌, ◌<◌, Bool, true, false, cond, ◌==◌, List, [], ◌∷◌, ◌++◌, length, take, codes, ℤ, pos, negsuc, Option, None, Some, Result, Ok, Err}
+use Rattle.std.specs.Prelude.{◌≡◌, ◌≢◌, ℕ, zero, suc, ◌+◌, ◌-◌, ◌*◌, ◌<◌, Bool, true, false, cond, ◌==◌, List, [], ◌∷◌}
+use Rattle.std.specs.Prelude.{◌++◌, length, take, codes, ℤ, pos, negsuc, Option, None, Some, Result, Ok, Err}
 use Rattle.std.specs.List.{position_or_len, before_first, after_first}
 use Rattle.std.specs.Str.{IsUtf8, is_utf8, bytes_eq}
 use Rattle.resp_containers.specs.Lossy.{lossy}
-use Rattle.resp_value.specs.declared.value.Value.{Value, Nil, Okay, Int, SimpleString, BulkString, Array, Map, Attribute, ServerError, Boolean, BigNumber, Set, VerbatimString, Push}
+use Rattle.resp_value.specs.declared.value.Value.{Value, Nil, Okay, Int, SimpleString, BulkString, Array, Map}
+use Rattle.resp_value.specs.declared.value.Value.{Attribute, ServerError, Boolean, BigNumber, Set, VerbatimString, Push}
 use Rattle.resp_value.specs.declared.names.PushKind.{PushKind}
 use Rattle.resp_errors.specs.declared.kinds.FrameFault.{FrameFault}
-use Rattle.resp_errors.specs.declared.kinds.FrameFault.TheVariants.{TooDeep, UnknownType, LineNotUtf8, BodyEnd, NotBoolean, NoVerbatimFormat, BadPushKind}
+use Rattle.resp_errors.specs.declared.kinds.FrameFault.TheVariants.{TooDeep, UnknownType, LineNotUtf8, BodyEnd}
+use Rattle.resp_errors.specs.declared.kinds.FrameFault.TheVariants.{NotBoolean, NoVerbatimFormat, BadPushKind}
 use Rattle.resp_value.specs.Names.{kind_named, format_named}
 use Rattle.resp_errors.specs.ServerErrors.{server_error}
 use Rattle.resp_value.specs.Views.{pairs}

@@ -1,5 +1,6 @@
 -- What a parser keeps of itself.
-use Rattle.std.specs.Prelude.{◌≡◌, ◌↔◌, ◌<◌, ◌≤◌, ◌+◌, ℕ, Bool, true, false, List, [], ◌++◌, length, drop, Option, None, Some, IfSome}
+use Rattle.std.specs.Prelude.{◌≡◌, ◌↔◌, ◌<◌, ◌≤◌, ◌+◌, ℕ, Bool, true, false, List, [], ◌++◌, length, drop, Option, None}
+use Rattle.std.specs.Prelude.{Some, IfSome}
 use Rattle.resp_parse.specs.declared.machine.Machine.{Machine}
 use Rattle.resp_parse.specs.declared.decoder.Decoder.TheInside.{Inside}
 use Rattle.resp_errors.specs.declared.kinds.FrameFault.TheVariants.{TooLong}

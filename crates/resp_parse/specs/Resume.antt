@@ -1,6 +1,7 @@
 -- What reading gives from where a machine stands, if these bytes come next; and how a machine gets
 -- from one place to another.
-use Rattle.std.specs.Prelude.{◌≡◌, ℕ, suc, ◌+◌, ◌-◌, ◌<◌, ◌≤◌, Bool, true, false, List, [], ◌∷◌, ◌++◌, length, take, drop, min, Option, None, Some, IfSome, Result, Ok, Err}
+use Rattle.std.specs.Prelude.{◌≡◌, ℕ, suc, ◌+◌, ◌-◌, ◌<◌, ◌≤◌, Bool, true, false, List, [], ◌∷◌, ◌++◌, length, take}
+use Rattle.std.specs.Prelude.{drop, min, Option, None, Some, IfSome, Result, Ok, Err}
 use Rattle.resp_value.specs.declared.value.Value.{Value}
 use Rattle.resp_errors.specs.declared.kinds.FrameFault.TheVariants.{BodyEnd}
 use Rattle.resp_parse.specs.declared.read_error.ReadError.{ReadError}
@@ -17,7 +18,8 @@ use Rattle.resp_parse.specs.Building.{Stands, whole, progress_of}
 use Rattle.resp_parse.specs.Lines.{NoneBefore, Scanned}
 use Rattle.resp_parse.specs.Number.{IsNumeral}
 use Rattle.resp_parse.specs.Shapes.{body_value, elements_value}
-use Rattle.resp_parse.specs.PlainReading.{ReadOutcome, got, fault, incomplete, then, line, end_of_body, read_body, read_elements, made, read}
+use Rattle.resp_parse.specs.PlainReading.{ReadOutcome, got, fault, incomplete, then, line, end_of_body, read_body}
+use Rattle.resp_parse.specs.PlainReading.{read_elements, made, read}
 
 -- how many of d levels are left inside these aggregates
 abbrev pub depth_left : ℕ → List OpenAggregate → ℕ
@@ -157,7 +159,8 @@ Steps old bytes new (Ok (step.Whole n w)) =
 Steps old bytes new (Err e) = FaultsWithin (resume old) bytes new.shown e
 
 -- a value was read, and n bytes taken
-pub record Completes {B : Type 0} (old : Machine B) (bytes : List ℕ) (new : Machine B) (n : ℕ) (v : Value) : Type 0 where
+pub record Completes {B : Type 0} (old : Machine B) (bytes : List ℕ) (new : Machine B) (n : ℕ) (v : Value) : Type
+    0 where
   pub within : n ≤ length bytes
   pub same : (more : List ℕ) → resume old (bytes ++ more) ≡ got v (drop n bytes ++ more)
   pub fresh : fresh_of new.body new.open_aggregates ≡ true
@@ -171,7 +174,8 @@ Runs old bytes new (Err e) =
     FaultsWithin (resume old) bytes new.shown e × (0 < length bytes)
 
 -- the same in a place for what shows a value, which is as it was where no value is read
-abbrev pub ReadsInto : {B : Type 0} {T : Type 0} → (T → Value → Type 0) → Machine B → List ℕ → Machine B → T → T → Result (ℕ × Bool) ReadError → Type 0
+abbrev pub ReadsInto : {B : Type 0} {T : Type 0} → (T → Value → Type 0) → Machine B → List ℕ → Machine B → T → T
+    → Result (ℕ × Bool) ReadError → Type 0
 ReadsInto shows old bytes new before after (Ok (n, true)) = (v : Value) × (shows after v × Completes old bytes new n v)
 ReadsInto shows old bytes new before after (Ok (n, false)) = Waits old bytes new n × (after ≡ before)
 ReadsInto shows old bytes new before after (Err e) =

@@ -14,10 +14,12 @@ use Rattle.resp_parse.specs.declared.shape.LineKind.TheVariants as line_kind
 use Rattle.resp_parse.specs.declared.shape.ElementsKind.{ElementsKind}
 use Rattle.resp_parse.specs.declared.shape.ElementsKind.TheVariants as elements_kind
 use Rattle.resp_parse.specs.declared.shape.Shape.{Shape}
-use Rattle.resp_parse.specs.declared.shape.Shape.TheVariants.{Nil as Nothing, Int as Integer, Simple, Line, Body, Elements}
+use Rattle.resp_parse.specs.declared.shape.Shape.TheVariants.{Nil as Nothing, Int as Integer, Simple, Line, Body}
+use Rattle.resp_parse.specs.declared.shape.Shape.TheVariants.{Elements}
 use Rattle.resp_parse.specs.declared.read_error.ReadError.{ReadError}
 use Rattle.resp_parse.specs.declared.read_error.ReadError.TheVariants.{Memory, Fault}
-use Rattle.resp_parse.specs.Grammar.{Announcement, complete, body, elements, invalid, with_valid, boolean_in, empty_push, simple, bulk_error, verbatim, attribute, push, announced}
+use Rattle.resp_parse.specs.Grammar.{Announcement, complete, body, elements, invalid, with_valid, boolean_in}
+use Rattle.resp_parse.specs.Grammar.{empty_push, simple, bulk_error, verbatim, attribute, push, announced}
 use Rattle.resp_parse.specs.Double.{double_in}
 use Rattle.resp_errors.specs.ServerErrors.{server_error}
 use Rattle.resp_value.specs.Views.{pairs}

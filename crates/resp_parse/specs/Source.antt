@@ -1,5 +1,6 @@
 -- What is known of a source of bytes, and what filling a buffer from it does.
-use Rattle.std.specs.Prelude.{◌≡◌, ℕ, ◌+◌, ◌-◌, ◌≤◌, ◌^◌, min, List, [], ◌++◌, length, take, Result, Option, IfOk, MatchResult}
+use Rattle.std.specs.Prelude.{◌≡◌, ℕ, ◌+◌, ◌-◌, ◌≤◌, ◌^◌, min, List, [], ◌++◌, length, take, Result, Option, IfOk}
+use Rattle.std.specs.Prelude.{MatchResult}
 use Rattle.std.specs.Io.KnownBytes.{Consumes, ReadConsumes}
 use Rattle.resp_errors.specs.declared.kinds.IoKind.{IoKind}
 

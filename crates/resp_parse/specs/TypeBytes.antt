@@ -1,7 +1,9 @@
 -- The first byte of a value says its type (RESP, "RESP protocol description").
 use Rattle.std.specs.Prelude.{ℕ, if◌then◌else◌, ◌==◌, Option, None, Some}
 use Rattle.resp_parse.specs.declared.type_byte.TypeByte.{TypeByte}
-use Rattle.resp_parse.specs.declared.type_byte.TypeByte.TheVariants.{SimpleString, SimpleError, Integer, BulkString, Array, Null, Boolean, Double, BigNumber, BulkError, VerbatimString, Map, Attribute, Set, Push}
+use Rattle.resp_parse.specs.declared.type_byte.TypeByte.TheVariants.{SimpleString, SimpleError, Integer, BulkString}
+use Rattle.resp_parse.specs.declared.type_byte.TypeByte.TheVariants.{Array, Null, Boolean, Double, BigNumber, BulkError}
+use Rattle.resp_parse.specs.declared.type_byte.TypeByte.TheVariants.{VerbatimString, Map, Attribute, Set, Push}
 
 -- the byte of a type
 abbrev pub byte_of : TypeByte → ℕ

@@ -13,13 +13,20 @@ on_ok (Err e) f h = tt
 pub returns-in-Key : goal.returns-in-Key
 returns-in-Key c = record {
   pairs = λ vs e o.
-      let t : waits_in vs ≡ Key = sym o ∙ c.in-Key.is in
-      (c.set_last_value.ensures (pairs vs) (last_key vs) Nil (e ∙ odd-pairs vs t) ∙ key-more vs c.args.element t, sym (odd-more vs c.args.element ∙ ap after_one t));
+      let t : waits_in vs ≡ Key = sym o ∙ c.in-Key.is in (
+        c.set_last_value.ensures (pairs vs) (last_key vs) Nil (e ∙ odd-pairs vs t)
+            ∙ key-more vs c.args.element t,
+        sym (odd-more vs c.args.element ∙ ap after_one t),
+      );
 }
 
 pub returns-in-Nothing : goal.returns-in-Nothing
 returns-in-Nothing c = record {
   pairs = λ vs e o.
       let f : waits_in vs ≡ Nothing = sym o ∙ c.in-Nothing.is in
-      on_ok c.push.result (λ p. (p ∙ ap (λ ps. ps ++ (c.args.element, Nil) ∷ []) e ∙ even-more vs c.args.element f, sym (odd-more vs c.args.element ∙ ap after_one f))) c.push.ensures.ok;
+      on_ok c.push.result (λ p. (
+        p ∙ ap (λ ps. ps ++ (c.args.element, Nil) ∷ []) e ∙ even-more vs c.args.element f,
+        sym
+            (odd-more vs c.args.element ∙ ap after_one f),
+      )) c.push.ensures.ok;
 }

@@ -16,7 +16,9 @@ returns c = λ ps key before e.
           (let at : n ≡ length ps = grind (arith, common_steps, items) in
           let last : w.in-Some.last.now ≡ (key, before) = grind (arith, common_steps, items) in
           let q : Value × Value = (w.in-Some.last.now.0, w.replace-in-Some.new.dest) in
-          c.into.ensures ∙ ap (λ v. v.items) w.all-is ∙ ap (λ xs. slice_set xs n q) items ∙ other-last ps (key, before) q n at
-          ∙ ap (λ d. ps ++ (w.in-Some.last.now.0, d) ∷ []) w.replace-in-Some.ensures.after ∙ ap (λ p. ps ++ (p.0, c.args.value) ∷ []) last)
+          c.into.ensures ∙ ap (λ v. v.items) w.all-is ∙ ap (λ xs. slice_set xs n q) items
+          ∙ other-last ps (key, before) q n at
+          ∙ ap (λ d. ps ++ (w.in-Some.last.now.0, d) ∷ []) w.replace-in-Some.ensures.after
+          ∙ ap (λ p. ps ++ (p.0, c.args.value) ∷ []) last)
       | in-None w ↦ absurd (grind (arith, common_steps, items, w.in-None.ensures.item))
     ]

@@ -15,8 +15,12 @@ returns-then-bytes-at-eq10-clause-line c =
     let i = c.loop-at.invariant in
     let e : (at + 1) - 1 ≡ at = omega arith in
     let cr : get_or bytes ((at + 1) - 1) 0 ≡ 13 = rw e c.if-byte-eq13.true in
-    let found = line-at bytes (at + 1) (omega arith) (none_in-digits bytes at i.digits) c.if-at-bytes.true cr c.if-bytes-at-eq10.true in
-    (subst (λ n. FindsLine bytes (Some n)) e found, numeral-of bytes at i.some i.within i.digits c.loop-at.value i.value i.small)
+    let found = line-at bytes (at + 1) (omega arith) (none_in-digits bytes at i.digits) c.if-at-bytes.true cr
+    c.if-bytes-at-eq10.true in (
+      subst (λ n. FindsLine bytes (Some n)) e found,
+      numeral-of bytes at i.some i.within i.digits c.loop-at.value i.value
+          i.small,
+    )
 
 pub loop-at-preserved : goal.loop-at-preserved
 loop-at-preserved c =
@@ -24,7 +28,8 @@ loop-at-preserved c =
     let at = c.loop-at.at in
     let i = c.loop-at.invariant in
     let byte = get_or bytes at 0 in
-    let d : is_ascii_digit byte ≡ true = sym c.is_ascii_digit-in-loop-at.ensures.value ∙ c.if-not-is_ascii_digit-2.false in
+    let d : is_ascii_digit byte ≡ true = sym c.is_ascii_digit-in-loop-at.ensures.value
+    ∙ c.if-not-is_ascii_digit-2.false in
     let v : digit_value byte ≡ byte - 48 = digit-value byte d in
     let more = digits_value_more 10 bytes at c.loop-at-test.true in
     record {

@@ -5,4 +5,7 @@ use Rattle.resp_parse.proofs.number.read_number.Goals as goal
 
 pub returns : goal.returns
 unfolding number
-returns c = record { value = c.ok.ensures.value ∙ plain_number-from_parse c.trim.result.now _ c.parse.ensures.value.0 ∙ ap plain_number c.trim.ensures.trim }
+returns c = record {
+  value = c.ok.ensures.value ∙ plain_number-from_parse c.trim.result.now _ c.parse.ensures.value.0 ∙
+      ap plain_number c.trim.ensures.trim;
+}

@@ -5,4 +5,5 @@ pub returns-in_default-clause-announced : goal.returns-in_default-clause-announc
 returns-in_default-clause-announced c = in_line-bytes c.args.kind c.args.line.now c.in_default.ensures.cases.0
 
 pub returns-clause-announced : goal.returns-clause-announced
-returns-clause-announced c = rw (in_line-text c.args.kind c.args.line.now c.in-Ok.ensures.cases.1) (rw c.in-Ok.ensures.cases.0 at c.shape_of_text.ensures.announced)
+returns-clause-announced c = rw (in_line-text c.args.kind c.args.line.now c.in-Ok.ensures.cases.1)
+    (rw c.in-Ok.ensures.cases.0 at c.shape_of_text.ensures.announced)

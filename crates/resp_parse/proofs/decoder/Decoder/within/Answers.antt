@@ -15,12 +15,17 @@ invariant_of-result g c = record {
   holds = Holds-new c.new-2.result c.new.result.items c.new-3.result c.new.ensures.items c.new-3.ensures c.new-2.ensures.fresh c.new-2.ensures.scanned;
   placed = Placed-none (limits_of c.new-2.result c.args.limits.bytes c.args.limits.pushes) None _ false refl;
   builds = λ _. c.new-2.ensures.builds;
-  counted = Counted-new c.new-2.result c.new.result.items c.new-4.result c.new-4.ensures c.new-2.ensures.fresh c.new-2.ensures.scanned c.new.ensures.items;
-  taken = λ _. CountsTaken-fresh c.args.limits.bytes c.new-2.result (drop 0 c.new.result.items) c.new-3.result c.new-2.ensures.fresh c.new-2.ensures.scanned (c.new.ensures.items ∙ sym c.new-3.ensures);
+  counted = Counted-new c.new-2.result c.new.result.items c.new-4.result c.new-4.ensures c.new-2.ensures.fresh
+      c.new-2.ensures.scanned c.new.ensures.items;
+  taken = λ _. CountsTaken-fresh c.args.limits.bytes c.new-2.result (drop 0 c.new.result.items) c.new-3.result
+      c.new-2.ensures.fresh c.new-2.ensures.scanned (c.new.ensures.items ∙ sym c.new-3.ensures);
 }
 
 pub returns-clause-rest : goal.returns-clause-rest
 returns-clause-rest g c = IsBetweenValues-from_same _ refl (c.new-3.ensures ∙ sym c.new.ensures.items)
 
 pub returns-clause-bounds : goal.returns-clause-bounds
-returns-clause-bounds g c = let k = invariant_of-result g c in Bounded-from_kept c.args.limits.bytes c.new-2.result c.new.result.items c.new-3.result false c.new-4.result 0 k.depth k.holds k.counted k.taken _ _ (λ w. g.met.B.Builder.paid_for _ _ _ (k.builds w))
+returns-clause-bounds g c =
+    let k = invariant_of-result g c in
+    Bounded-from_kept c.args.limits.bytes c.new-2.result c.new.result.items c.new-3.result false c.new-4.result 0
+    k.depth k.holds k.counted k.taken _ _ (λ w. g.met.B.Builder.paid_for _ _ _ (k.builds w))

@@ -10,4 +10,5 @@ pub returns-clause-stands : goal.returns-clause-stands
 returns-clause-stands c = λ fs h.
     let new : FlatReply = record { tokens = c.push.new.self; text = c.args.self.now.reply.text } in
     subst (λ (v : Value). HoldsFlat new c.args.self.now.opens.items fs (tokens_of v) (text_of v)) (sym c.bulk.ensures)
-    (flat-bulk c.args.self.now.reply new c.args.self.now.opens.items fs c.args.body.now.seen c.args.self.now.start c.saturating_sub.result h.0.0 h.1 (search rules) (search rules) (search rules))
+    (flat-bulk c.args.self.now.reply new c.args.self.now.opens.items fs c.args.body.now.seen c.args.self.now.start
+    c.saturating_sub.result h.0.0 h.1 (search rules) (search rules) (search rules))

@@ -9,5 +9,7 @@ use Rattle.resp_parse.proofs.flat_builder.FlatBuilderBuilder.bulk.Goals as goal
 pub returns-clause-stands : goal.returns-clause-stands
 returns-clause-stands c = λ fs h.
     let new : FlatReply = record { tokens = c.push.new.self; text = c.extend_from_slice.new.self } in
-    subst (λ (v : Value). HoldsFlat new c.args.self.now.opens.items fs (tokens_of v) (text_of v)) (sym c.bulk_of.ensures)
-    (flat-bytes c.args.self.now.reply new c.args.self.now.opens.items fs c.args.bytes.now h.0 (search rules) (search rules))
+    subst (λ (v : Value). HoldsFlat new c.args.self.now.opens.items fs (tokens_of v) (text_of v))
+    (sym c.bulk_of.ensures)
+    (flat-bytes c.args.self.now.reply new c.args.self.now.opens.items fs c.args.bytes.now h.0 (search rules)
+    (search rules))

@@ -11,5 +11,7 @@ pub returns-clause-stands : goal.returns-clause-stands
 returns-clause-stands c = λ fs h.
     let new : FlatReply = record { tokens = c.push.new.self; text = c.extend_from_slice.new.self } in
     let other : simple c.args.text.now ≡ SimpleString c.args.text.now = search rules in
-    subst (λ (v : Value). HoldsFlat new c.args.self.now.opens.items fs (tokens_of v) (text_of v)) (sym (c.simple.ensures ∙ other))
-    (flat-simple c.args.self.now.reply new c.args.self.now.opens.items fs c.args.text.now h.0 (search rules) (search rules))
+    subst (λ (v : Value). HoldsFlat new c.args.self.now.opens.items fs (tokens_of v) (text_of v))
+    (sym (c.simple.ensures ∙ other))
+    (flat-simple c.args.self.now.reply new c.args.self.now.opens.items fs c.args.text.now h.0 (search rules)
+    (search rules))

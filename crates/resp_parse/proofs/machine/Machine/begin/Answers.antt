@@ -12,7 +12,9 @@ use Rattle.resp_parse.proofs.machine.Machine.begin.Goals as goal
 pub returns-in_ok-begin_line-in-Line-clause-built_within : goal.returns-in_ok-begin_line-in-Line-clause-built_within
 returns-in_ok-begin_line-in-Line-clause-built_within g c =
     let v : Value = c.in_ok-begin_line-in-Line.field-0 in
-    let h : Announces (Ok (shape.Line c.in-Line.kind c.in-Line.text)) (announced_in_line c.args.kind c.args.line.now) = rw c.in-Line.is at c.in_ok-shape_of.ensures.announced in
+    let h : Announces (Ok (shape.Line c.in-Line.kind c.in-Line.text)) (announced_in_line c.args.kind c.args.line.now) =
+    rw c.in-Line.is at c.in_ok-shape_of.ensures.announced in
     let e : line_value c.in-Line.kind c.in-Line.text.now ≡ Ok v = c.in_ok-begin_line-in-Line.ensures.value in
-    let b : built v ≡ 1 = subst Small (h ∙ ap (λ (r : Result Value FrameFault). with_valid r complete) e) (in_line-small c.args.kind c.args.line.now) in
+    let b : built v ≡ 1 = subst Small (h ∙ ap (λ (r : Result Value FrameFault). with_valid r complete) e)
+    (in_line-small c.args.kind c.args.line.now) in
     omega (arith, b, ap least_bytes c.begin_line.ensures.same)

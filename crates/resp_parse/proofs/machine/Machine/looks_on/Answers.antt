@@ -12,6 +12,8 @@ returns-clause-waits g c = λ _.
     let whole : c.args.bytes.now ≡ first ∷ after = c.in-Some.ensures.cases.0 in
     let n : c.args.self.now.scanned ≡ length after = sym c.if-after-self.false in
     let before : IsLooked c.args.bytes.now c.args.self.now.scanned = rw none at c.requires.scanned in
-    let looked : IsLooked (first ∷ after) (length after) = subst (λ k. IsLooked (first ∷ after) k) n (subst (λ s. IsLooked s c.args.self.now.scanned) whole before) in
+    let looked : IsLooked (first ∷ after) (length after) = subst (λ k. IsLooked (first ∷ after) k) n
+    (subst (λ s. IsLooked s c.args.self.now.scanned) whole before) in
     rw whole
-    (line-waits c.args.self.now first after none l c.in-Some-from_byte.field-0 (sym c.in-Some-from_byte.ensures.kind) (looked-on first after looked (rw whole at c.if-bytes-after-eq10.false)) _ refl)
+    (line-waits c.args.self.now first after none l c.in-Some-from_byte.field-0 (sym c.in-Some-from_byte.ensures.kind)
+    (looked-on first after looked (rw whole at c.if-bytes-after-eq10.false)) _ refl)

@@ -4,7 +4,8 @@ use Rattle.resp_parse.specs.declared.machine.Step.TheVariants as step
 use Rattle.resp_parse.specs.Costs.{StepBuiltWithin}
 use Rattle.resp_parse.specs.Resume.{Steps}
 use Rattle.resp_parse.proofs.Running.{Ran-start, Ran-end, Ran-waits, Ran-goes, Ran-attaches, Ran-reads}
-use Rattle.resp_parse.proofs.AmortisedCost.{CostSoFar-start, CostSoFar-end, CostSoFar-waits, CostSoFar-goes, CostSoFar-attaches, CostSoFar-reads, CostSoFar-built_within}
+use Rattle.resp_parse.proofs.AmortisedCost.{CostSoFar-start, CostSoFar-end, CostSoFar-waits, CostSoFar-goes}
+use Rattle.resp_parse.proofs.AmortisedCost.{CostSoFar-attaches, CostSoFar-reads, CostSoFar-built_within}
 use Rattle.resp_parse.proofs.machine.Machine.run.Goals as goal
 
 pub loop-at-init : goal.loop-at-init
@@ -15,62 +16,100 @@ loop-at-init g c = record {
 }
 
 pub returns-clause-runs : goal.returns-clause-runs
-returns-clause-runs g c = Ran-end c.args.self.now c.loop-at.self c.args.bytes.now c.loop-at.at c.loop-at.invariant.ran (omega arith)
+returns-clause-runs g c = Ran-end c.args.self.now c.loop-at.self c.args.bytes.now c.loop-at.at c.loop-at.invariant.ran
+    (omega arith)
 
 pub returns-clause-cost : goal.returns-clause-cost
-returns-clause-cost g c = CostSoFar-end c.args.self.now c.loop-at.self c.args.counts.now c.loop-at.counts c.loop-at.at c.loop-at.invariant.cost_so_far c.args.bytes.now
+returns-clause-cost g c = CostSoFar-end c.args.self.now c.loop-at.self c.args.counts.now c.loop-at.counts c.loop-at.at
+    c.loop-at.invariant.cost_so_far c.args.bytes.now
 
 pub returns-clause-built_within : goal.returns-clause-built_within
 returns-clause-built_within g c = c.loop-at.invariant.cost_so_far.built_within
 
 pub returns-in-Ok-Waits-clause-built_within : goal.returns-in-Ok-Waits-clause-built_within
 returns-in-Ok-Waits-clause-built_within g c =
-    let w : StepBuiltWithin c.loop-at.self c.step.new.self (Ok (step.Waits c.in-Ok-Waits.taken)) = rw c.in-Ok-Waits.field-0-is at c.in-Ok-Waits.ensures.built_within in
+    let w : StepBuiltWithin c.loop-at.self c.step.new.self (Ok (step.Waits c.in-Ok-Waits.taken)) = rw
+    c.in-Ok-Waits.field-0-is at c.in-Ok-Waits.ensures.built_within in
     omega (arith, w, c.loop-at.invariant.cost_so_far.built_within)
 
 pub returns-in-Ok-Waits-clause-cost : goal.returns-in-Ok-Waits-clause-cost
 returns-in-Ok-Waits-clause-cost g c =
-    CostSoFar-waits c.args.self.now c.loop-at.self c.args.counts.now c.loop-at.counts c.loop-at.at c.loop-at.invariant.cost_so_far c.step.new.self c.step.new.counts c.args.bytes.now c.args.bytes.now c.in-Ok-Waits.taken (rw c.in-Ok-Waits.field-0-is at c.in-Ok-Waits.ensures.cost)
+    CostSoFar-waits c.args.self.now c.loop-at.self c.args.counts.now c.loop-at.counts c.loop-at.at
+    c.loop-at.invariant.cost_so_far c.step.new.self c.step.new.counts c.args.bytes.now c.args.bytes.now
+    c.in-Ok-Waits.taken (rw c.in-Ok-Waits.field-0-is at c.in-Ok-Waits.ensures.cost)
 
 pub returns-in-Ok-Some-clause-built_within : goal.returns-in-Ok-Some-clause-built_within
 returns-in-Ok-Some-clause-built_within g c =
-    CostSoFar-built_within c.args.self.now c.loop-at.self c.args.counts.now c.loop-at.counts c.loop-at.at c.loop-at.invariant.cost_so_far c.step.new.self c.attach.new.self c.step.new.counts c.attach.new.counts c.args.bytes.now c.in-Ok-Whole.taken c.in-Ok-Whole.whole
-    (rw c.in-Ok-Whole.field-0-is at c.in-Ok-Whole.ensures.cost) (rw c.in-Ok-Whole.field-0-is at c.in-Ok-Whole.ensures.built_within) c.in-Ok-Some.ensures.iterations c.in-Ok-Some.whole (rw c.in-Ok-Some.field-0-is at c.in-Ok-Some.ensures.built_within)
+    CostSoFar-built_within c.args.self.now c.loop-at.self c.args.counts.now c.loop-at.counts c.loop-at.at
+    c.loop-at.invariant.cost_so_far c.step.new.self c.attach.new.self c.step.new.counts c.attach.new.counts
+    c.args.bytes.now c.in-Ok-Whole.taken c.in-Ok-Whole.whole
+    (rw c.in-Ok-Whole.field-0-is at c.in-Ok-Whole.ensures.cost)
+    (rw c.in-Ok-Whole.field-0-is at c.in-Ok-Whole.ensures.built_within) c.in-Ok-Some.ensures.iterations
+    c.in-Ok-Some.whole (rw c.in-Ok-Some.field-0-is at c.in-Ok-Some.ensures.built_within)
 
 pub returns-in-Ok-Some-clause-cost : goal.returns-in-Ok-Some-clause-cost
 returns-in-Ok-Some-clause-cost g c =
-    CostSoFar-reads c.args.self.now c.loop-at.self c.args.counts.now c.loop-at.counts c.loop-at.at c.loop-at.invariant.cost_so_far c.step.new.self c.attach.new.self c.step.new.counts c.attach.new.counts c.args.bytes.now c.in-Ok-Whole.taken c.in-Ok-Whole.whole
-    (rw c.in-Ok-Whole.field-0-is at c.in-Ok-Whole.ensures.cost) (rw c.in-Ok-Whole.field-0-is at c.in-Ok-Whole.ensures.built_within) c.in-Ok-Some.ensures.iterations c.in-Ok-Some.whole c.args.bytes.now c.in-Ok-Some.ensures.places c.in-Ok-Some.ensures.scanned
+    CostSoFar-reads c.args.self.now c.loop-at.self c.args.counts.now c.loop-at.counts c.loop-at.at
+    c.loop-at.invariant.cost_so_far c.step.new.self c.attach.new.self c.step.new.counts c.attach.new.counts
+    c.args.bytes.now c.in-Ok-Whole.taken c.in-Ok-Whole.whole
+    (rw c.in-Ok-Whole.field-0-is at c.in-Ok-Whole.ensures.cost)
+    (rw c.in-Ok-Whole.field-0-is at c.in-Ok-Whole.ensures.built_within) c.in-Ok-Some.ensures.iterations
+    c.in-Ok-Some.whole c.args.bytes.now c.in-Ok-Some.ensures.places c.in-Ok-Some.ensures.scanned
 
 pub loop-at-preserved-in-Ok-Goes : goal.loop-at-preserved-in-Ok-Goes
 loop-at-preserved-in-Ok-Goes g c =
-    let f : take (length c.args.bytes.now - c.loop-at.at) (drop c.loop-at.at c.args.bytes.now) ≡ drop c.loop-at.at c.args.bytes.now = grind (arith, common_steps) in
-    let s : Steps c.loop-at.self (drop c.loop-at.at c.args.bytes.now) c.step.new.self (Ok (step.Goes c.in-Ok-Goes.taken)) = rw f at (rw c.in-Ok-Goes.field-0-is at c.in-Ok-Goes.ensures.steps) in
+    let f : take (length c.args.bytes.now - c.loop-at.at) (drop c.loop-at.at c.args.bytes.now)
+    ≡ drop c.loop-at.at c.args.bytes.now = grind (arith, common_steps) in
+    let s : Steps c.loop-at.self (drop c.loop-at.at c.args.bytes.now) c.step.new.self
+    (Ok (step.Goes c.in-Ok-Goes.taken)) = rw f at (rw c.in-Ok-Goes.field-0-is at c.in-Ok-Goes.ensures.steps) in
     record {
-      ran = Ran-goes c.args.self.now c.loop-at.self c.args.bytes.now c.loop-at.at c.loop-at.invariant.ran c.step.new.self c.in-Ok-Goes.taken s c.in-Ok-Goes.ensures.limit c.in-Ok-Goes.ensures.depth;
+      ran = Ran-goes c.args.self.now c.loop-at.self c.args.bytes.now c.loop-at.at c.loop-at.invariant.ran
+          c.step.new.self c.in-Ok-Goes.taken s c.in-Ok-Goes.ensures.limit c.in-Ok-Goes.ensures.depth;
       builds = rw c.in-Ok-Goes.field-0-is at c.in-Ok-Goes.ensures.builds;
-      cost_so_far = CostSoFar-goes c.args.self.now c.loop-at.self c.args.counts.now c.loop-at.counts c.loop-at.at c.loop-at.invariant.cost_so_far c.step.new.self c.step.new.counts c.args.bytes.now c.in-Ok-Goes.taken (rw c.in-Ok-Goes.field-0-is at c.in-Ok-Goes.ensures.cost) (rw c.in-Ok-Goes.field-0-is at c.in-Ok-Goes.ensures.built_within);
+      cost_so_far = CostSoFar-goes c.args.self.now c.loop-at.self c.args.counts.now c.loop-at.counts c.loop-at.at
+          c.loop-at.invariant.cost_so_far c.step.new.self c.step.new.counts c.args.bytes.now c.in-Ok-Goes.taken
+          (rw c.in-Ok-Goes.field-0-is at c.in-Ok-Goes.ensures.cost)
+          (rw c.in-Ok-Goes.field-0-is at c.in-Ok-Goes.ensures.built_within);
     }
 
 pub returns-in-Ok-Waits-clause-runs : goal.returns-in-Ok-Waits-clause-runs
 returns-in-Ok-Waits-clause-runs g c =
-    let f : take (length c.args.bytes.now - c.loop-at.at) (drop c.loop-at.at c.args.bytes.now) ≡ drop c.loop-at.at c.args.bytes.now = grind (arith, common_steps) in
-    let s : Steps c.loop-at.self (drop c.loop-at.at c.args.bytes.now) c.step.new.self (Ok (step.Waits c.in-Ok-Waits.taken)) = rw f at (rw c.in-Ok-Waits.field-0-is at c.in-Ok-Waits.ensures.steps) in
-    Ran-waits c.args.self.now c.loop-at.self c.args.bytes.now c.loop-at.at c.loop-at.invariant.ran c.step.new.self c.in-Ok-Waits.taken s
+    let f : take (length c.args.bytes.now - c.loop-at.at) (drop c.loop-at.at c.args.bytes.now)
+    ≡ drop c.loop-at.at c.args.bytes.now = grind (arith, common_steps) in
+    let s : Steps c.loop-at.self (drop c.loop-at.at c.args.bytes.now) c.step.new.self
+    (Ok (step.Waits c.in-Ok-Waits.taken)) = rw f at (rw c.in-Ok-Waits.field-0-is at c.in-Ok-Waits.ensures.steps) in
+    Ran-waits c.args.self.now c.loop-at.self c.args.bytes.now c.loop-at.at c.loop-at.invariant.ran c.step.new.self
+    c.in-Ok-Waits.taken s
 
 pub returns-in-Ok-Some-clause-runs : goal.returns-in-Ok-Some-clause-runs
 returns-in-Ok-Some-clause-runs g c =
-    let f : take (length c.args.bytes.now - c.loop-at.at) (drop c.loop-at.at c.args.bytes.now) ≡ drop c.loop-at.at c.args.bytes.now = grind (arith, common_steps) in
-    let s : Steps c.loop-at.self (drop c.loop-at.at c.args.bytes.now) c.step.new.self (Ok (step.Whole c.in-Ok-Whole.taken c.in-Ok-Whole.whole)) = rw f at (rw c.in-Ok-Whole.field-0-is at c.in-Ok-Whole.ensures.steps) in
-    Ran-reads c.args.self.now c.loop-at.self c.args.bytes.now c.loop-at.at c.loop-at.invariant.ran c.step.new.self c.attach.new.self c.in-Ok-Whole.taken c.in-Ok-Whole.whole s c.in-Ok-Some.whole (rw c.in-Ok-Some.field-0-is at c.in-Ok-Some.ensures.ends) c.in-Ok-Some.ensures.scanned
+    let f : take (length c.args.bytes.now - c.loop-at.at) (drop c.loop-at.at c.args.bytes.now)
+    ≡ drop c.loop-at.at c.args.bytes.now = grind (arith, common_steps) in
+    let s : Steps c.loop-at.self (drop c.loop-at.at c.args.bytes.now) c.step.new.self
+    (Ok (step.Whole c.in-Ok-Whole.taken c.in-Ok-Whole.whole)) = rw f at
+    (rw c.in-Ok-Whole.field-0-is at c.in-Ok-Whole.ensures.steps) in
+    Ran-reads c.args.self.now c.loop-at.self c.args.bytes.now c.loop-at.at c.loop-at.invariant.ran c.step.new.self
+    c.attach.new.self c.in-Ok-Whole.taken c.in-Ok-Whole.whole s c.in-Ok-Some.whole
+    (rw c.in-Ok-Some.field-0-is at c.in-Ok-Some.ensures.ends) c.in-Ok-Some.ensures.scanned
 
 pub loop-at-preserved : goal.loop-at-preserved
 loop-at-preserved g c =
-    let f : take (length c.args.bytes.now - c.loop-at.at) (drop c.loop-at.at c.args.bytes.now) ≡ drop c.loop-at.at c.args.bytes.now = grind (arith, common_steps) in
-    let s : Steps c.loop-at.self (drop c.loop-at.at c.args.bytes.now) c.step.new.self (Ok (step.Whole c.in-Ok-Whole.taken c.in-Ok-Whole.whole)) = rw f at (rw c.in-Ok-Whole.field-0-is at c.in-Ok-Whole.ensures.steps) in
+    let f : take (length c.args.bytes.now - c.loop-at.at) (drop c.loop-at.at c.args.bytes.now)
+    ≡ drop c.loop-at.at c.args.bytes.now = grind (arith, common_steps) in
+    let s : Steps c.loop-at.self (drop c.loop-at.at c.args.bytes.now) c.step.new.self
+    (Ok (step.Whole c.in-Ok-Whole.taken c.in-Ok-Whole.whole)) = rw f at
+    (rw c.in-Ok-Whole.field-0-is at c.in-Ok-Whole.ensures.steps) in
     let attached = c.in-Ok-None.ensures in
     record {
-      ran = Ran-attaches c.args.self.now c.loop-at.self c.args.bytes.now c.loop-at.at c.loop-at.invariant.ran c.step.new.self c.attach.new.self c.in-Ok-Whole.taken c.in-Ok-Whole.whole s (rw c.in-Ok-None.field-0-is at attached.ends) attached.scanned (attached.limit ∙ c.in-Ok-Whole.ensures.limit) attached.depth;
+      ran = Ran-attaches c.args.self.now c.loop-at.self c.args.bytes.now c.loop-at.at c.loop-at.invariant.ran
+          c.step.new.self c.attach.new.self c.in-Ok-Whole.taken c.in-Ok-Whole.whole s
+          (rw c.in-Ok-None.field-0-is at attached.ends) attached.scanned (attached.limit ∙ c.in-Ok-Whole.ensures.limit)
+          attached.depth;
       builds = rw c.in-Ok-None.field-0-is at attached.builds;
-      cost_so_far = CostSoFar-attaches c.args.self.now c.loop-at.self c.args.counts.now c.loop-at.counts c.loop-at.at c.loop-at.invariant.cost_so_far c.step.new.self c.attach.new.self c.step.new.counts c.attach.new.counts c.args.bytes.now c.in-Ok-Whole.taken c.in-Ok-Whole.whole (rw c.in-Ok-Whole.field-0-is at c.in-Ok-Whole.ensures.cost) (rw c.in-Ok-Whole.field-0-is at c.in-Ok-Whole.ensures.built_within) attached.iterations attached.places (rw c.in-Ok-None.field-0-is at attached.built_within) attached.scanned;
+      cost_so_far = CostSoFar-attaches c.args.self.now c.loop-at.self c.args.counts.now c.loop-at.counts c.loop-at.at
+          c.loop-at.invariant.cost_so_far c.step.new.self c.attach.new.self c.step.new.counts c.attach.new.counts
+          c.args.bytes.now c.in-Ok-Whole.taken c.in-Ok-Whole.whole
+          (rw c.in-Ok-Whole.field-0-is at c.in-Ok-Whole.ensures.cost)
+          (rw c.in-Ok-Whole.field-0-is at c.in-Ok-Whole.ensures.built_within) attached.iterations attached.places
+          (rw c.in-Ok-None.field-0-is at attached.built_within) attached.scanned;
     }

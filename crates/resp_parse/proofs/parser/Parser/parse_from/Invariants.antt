@@ -10,5 +10,6 @@ invariant-loop g l =
     record {
       limits : l.self.limits ≡ l.fn.self.limits;
       calls : l.self.counts.calls + l.fn.self.counts.received ≤ l.fn.self.counts.calls + l.self.counts.received;
-      filled : (b : List ℕ) → StandsAfter l.fn.self b → FilledAsNeeded b l.fn.self l.self (source l.fn.source) (source l.source);
+      filled : (b : List ℕ) → StandsAfter l.fn.self b
+          → FilledAsNeeded b l.fn.self l.self (source l.fn.source) (source l.source);
     }

@@ -44,7 +44,8 @@ of_spec 𝓤 𝓛 𝓜 𝓡 wired X Y LX LY g d _ =
     let c = clauses X Y g d 𝓛 𝓜.mem 𝓡.returns in
     let arg = RefOf (0 ∷ []) tt (plain (λ _. R)) (λ _. tt) in
     let hs : Stays En.signature.params En.kept = (stay_dropped arg yes, tt) in
-    proved 𝓛 En hs c 𝓜 𝓡 (Goes-dropped 𝓛 3 arg yes (λ κs x f. refl), tt) (#self inst) fn (code.unfolded 𝓤 H 𝓜 𝓡 wired (X, (Y, tt)) d)
+    proved 𝓛 En hs c 𝓜 𝓡 (Goes-dropped 𝓛 3 arg yes (λ κs x f. refl), tt) (#self inst) fn
+    (code.unfolded 𝓤 H 𝓜 𝓡 wired (X, (Y, tt)) d)
     (λ κs. (shr_vals, tt)) (λ κs. (shr_Tells (named 0) κs.0 R, tt)) (λ κs qs bounds a gh are.
     let p : Val = vptr a.0.ref_ptr.0 a.0.ref_ptr.1 in
     let vs : List Value = g.values a.0.now in
@@ -52,9 +53,28 @@ of_spec 𝓤 𝓛 𝓜 𝓡 wired X Y LX LY g d _ =
     let F : Fml = the_row.own_val r (token ∷ []) in
     let y : (walk_of 𝓛 En hs c).Ghost = ((κs, qs, bounds, a, (p ∷ [], tt)), gh) in
     let Post : Val → SProp 𝓤 = (walk_of 𝓛 En hs c).post y in
-    qed 𝓛 ((raw (alive 𝓛 En.signature κs qs) ⊛ ‵ (owns (types_at En.signature.params κs) a y.0.4)) ∷ raw ((c κs a).requires gh) ∷ []) ∵ split ! $ keep ! (0 ∷ []) $
+    qed 𝓛 ((raw (alive 𝓛 En.signature κs qs) ⊛ ‵ (owns (types_at En.signature.params κs) a y.0.4)) ∷ raw
+    ((c κs a).requires gh) ∷ []) ∵ split ! $ keep ! (0 ∷ []) $
     enter ! 𝓣.C 𝓣.Λ fn (p ∷ []) Post $ alloc_all ! (λ l. pass_all ! refl ((tt, tt), tt) $
-    sets ! (agg ! (no_more !)) refl (tt, tt) $ sets ! (agg ! (and_then ! (get ! refl) (no_more !))) refl (tt, (tt, tt)) $
+    sets ! (agg ! (no_more !)) refl (tt, tt) $ sets ! (agg ! (and_then ! (get ! refl) (no_more !))) refl (tt, (tt, tt))
+    $
     use0 𝓛 (raw (fact 𝓤 (vs ≡ vs))) (fact_i 𝓤 (vs ≡ vs) (emp 𝓤) refl) $
-    use0 𝓛 (‵ F) (makes_shadow 𝓛 F ((λ vss. (tt, ((λ uss. (tt, tt)), tt))), tt) (((vstruct vnil ∷ [], tt), (refl, ((tt, (refl, tt)), tt))), tt)) $ nothing ! $ nothing ! $ fjoin ! $
-    returns ! (look_at ! 0 refl) $ free_all ! refl $ keep ! (3 ∷ 0 ∷ 1 ∷ 2 ∷ []) $ suffices ! _ (ends_at 𝓛 En hs c y token r (tt, tt) (tt, tt)) $ move ! (1 ∷ 2 ∷ []) $ join ! $ move ! (1 ∷ 0 ∷ []) $ join ! $ done !))
+    use0 𝓛 (‵ F) (makes_shadow 𝓛 F ((λ vss. (tt, ((λ uss. (tt, tt)), tt))), tt) (
+      (
+        (vstruct vnil ∷ [], tt),
+        (
+          refl,
+          (
+            (
+              tt,
+              (refl, tt),
+            ),
+            tt,
+          ),
+        ),
+      ),
+      tt,
+    )) $ nothing ! $ nothing ! $ fjoin ! $
+    returns ! (look_at ! 0 refl) $ free_all ! refl $ keep ! (3 ∷ 0 ∷ 1 ∷ 2 ∷ []) $ suffices ! _
+    (ends_at 𝓛 En hs c y token r (tt, tt) (tt, tt)) $ move ! (1 ∷ 2 ∷ []) $ join ! $ move ! (1 ∷ 0 ∷ []) $ join ! $
+    done !))
