@@ -102,8 +102,24 @@ scanned-within None n u h = h.within
 scanned-within (Some b) n u h = omega (arith, h)
 
 -- what is kept bounds what was done
-pub Bounded-from_kept : {B : Type 0} {offset : Option ℕ} {aside size : ℕ} (most : ℕ) (m : Machine B) (u since : List ℕ) (failed : Bool) (c : Counts) (n : ℕ) → length m.open_aggregates ≤ m.depth → Holds m u since failed → Counted m u c failed → (failed ≡ false → CountsTaken most m u since n) → (values tokens : ℕ) → (failed ≡ false → PaidFor values tokens m.open_aggregates) →
-    Bounded (record { limits = limits_of m most aside; unparsed = u; looked = m.scanned; since = since; value_len = size; failed = failed; fault_offset = offset; open_aggregates = length m.open_aggregates; values = values; tokens = tokens; counts = c })
+pub Bounded-from_kept : {B : Type 0} {offset : Option ℕ} {aside size : ℕ} (most : ℕ) (m : Machine B) (u since : List ℕ)
+    (failed : Bool) (c : Counts) (n : ℕ) → length m.open_aggregates ≤ m.depth → Holds m u since failed
+    → Counted m u c failed → (failed ≡ false → CountsTaken most m u since n) → (values tokens : ℕ)
+    → (failed ≡ false → PaidFor values tokens m.open_aggregates) →
+    Bounded (record {
+      limits = limits_of m most aside;
+      unparsed = u;
+      looked = m.scanned;
+      since = since;
+      value_len =
+          size;
+      failed = failed;
+      fault_offset = offset;
+      open_aggregates = length m.open_aggregates;
+      values = values;
+      tokens = tokens;
+      counts = c;
+    })
 Bounded-from_kept most m u since failed c n l h k p values tokens o = record {
   iterations = omega (arith, k.iterations);
   looks = k.looks;

@@ -52,8 +52,19 @@ module _ (b : List ℕ) (old p : State) (s t : Source) (k : FilledAsNeeded b old
   Received-no_more : (new : State) → new.counts.received ≡ p.counts.received → Received k.more.filled old new
   Received-no_more new e = e ∙ k.more.received
 
-  pub Parsed-taken : (new : State) (v : Value) → new.limits ≡ old.limits → new.counts.received ≡ p.counts.received → Takes (b ++ k.more.filled) new (Ok (Some v)) → Parsed b v old new s t
-  Parsed-taken new v d e w = record { filled = k.more.filled; source_gave = k.more.source_gave; received = Received-no_more new e; needed = rw d k.needed; value = w.value; rest = w.rest; size = w.size; failures = k.more.failures }
+  pub Parsed-taken : (new : State) (v : Value) → new.limits ≡ old.limits → new.counts.received ≡ p.counts.received
+      → Takes (b ++ k.more.filled) new (Ok (Some v)) → Parsed b v old new s t
+  Parsed-taken new v d e w = record {
+    filled = k.more.filled;
+    source_gave = k.more.source_gave;
+    received = Received-no_more new e;
+    needed = rw d
+        k.needed;
+    value = w.value;
+    rest = w.rest;
+    size = w.size;
+    failures = k.more.failures;
+  }
 
   Failed-taken : (new : State) → new.limits ≡ old.limits → new.counts.received ≡ p.counts.received
       → FailedAfter new (b ++ k.more.filled) → Failed b k.more.filled old new s t

@@ -104,10 +104,15 @@ module _ {B : Type 0} (most count : ℕ) (buffer since : List ℕ) (consumed : �
     waits-spelled k = subst (λ x. CountsTaken most new x since (count + n)) (dropped n)
         (CountsTaken-waits most m new u since count n resumes (sym since-size) few waits same k)
 
-    pub waits-takes : {aside : ℕ} (s : State) → s.limits ≡ limits_of new most aside → s.failed ≡ failed → s.since ≡ since → (b : List ℕ) → b ≡ since → Takes b s (Ok None)
+    pub waits-takes : {aside : ℕ} (s : State) → s.limits ≡ limits_of new most aside → s.failed ≡ failed → s.since
+        ≡ since → (b : List ℕ) → b ≡ since → Takes b s (Ok None)
     waits-takes {aside} s l f k b e =
-        let here : Awaits (limits_of m most aside) since = record { few = few; incomplete = incomplete-from_waits m new u since resumes n waits } in
-        (rw (l ∙ ap (λ x. record { depth = x; bytes = most; pushes = aside }) same) (subst (Awaits (limits_of m most aside)) (sym e) here), StandsAfter-from_since s b (f ∙ w) (e ∙ sym k))
+        let here : Awaits (limits_of m most aside) since = record
+        { few = few; incomplete = incomplete-from_waits m new u since resumes n waits } in (
+          rw (l ∙ ap (λ x. record { depth = x; bytes = most; pushes = aside }) same)
+              (subst (Awaits (limits_of m most aside)) (sym e) here),
+          StandsAfter-from_since s b (f ∙ w) (e ∙ sym k),
+        )
 
   -- a value was read
   module _ (n : ℕ) (v : Value) (d : Completes m front new n v) (now : List ℕ)
@@ -136,12 +141,16 @@ module _ {B : Type 0} (most count : ℕ) (buffer since : List ℕ) (consumed : �
     pub value-spelled : CountsTaken most new (drop (consumed + n) buffer) now 0
     value-spelled = CountsTaken-fresh most new (drop (consumed + n) buffer) now d.fresh d.scanned (sym now_is)
 
-    pub value-takes : {aside : ℕ} (s : State) → s.limits ≡ limits_of new most aside → s.failed ≡ failed → s.since ≡ now → s.unparsed ≡ drop (consumed + n) buffer → s.value_len ≡ count + n → (b : List ℕ) → b ≡ since → Takes b s (Ok (Some v))
+    pub value-takes : {aside : ℕ} (s : State) → s.limits ≡ limits_of new most aside → s.failed ≡ failed → s.since ≡ now
+        → s.unparsed ≡ drop (consumed + n) buffer → s.value_len ≡ count + n → (b : List ℕ) → b ≡ since
+        → Takes b s (Ok (Some v))
     value-takes {aside} s l f k x z b e =
         let l' = limits_of m most aside in
-        let here : HasValue l' since v (drop n front ++ drop most since) = first-value l' since (drop n front) v (well_formed-from_reads m new front (take most since) resumes-front n v d) in record {
+        let here : HasValue l' since v (drop n front ++ drop most since) = first-value l' since (drop n front) v
+        (well_formed-from_reads m new front (take most since) resumes-front n v d) in record {
           value = rw (l ∙ ap (λ x. record { depth = x; bytes = most; pushes = aside }) same)
-              (subst (λ r. HasValue l' b v r) (rest ∙ sym x) (subst (λ y. HasValue l' y v (drop n front ++ drop most since)) (sym e) here));
+              (subst (λ r. HasValue l' b v r) (rest ∙ sym x)
+              (subst (λ y. HasValue l' y v (drop n front ++ drop most since)) (sym e) here));
           rest = IsBetweenValues-from_same s (f ∙ w) (k ∙ now_is ∙ sym x);
           size =
               let all : length b ≡ count + length u = ap length e ∙ since-size in
@@ -165,12 +174,20 @@ module _ {B : Type 0} (most count : ℕ) (buffer since : List ℕ) (consumed : �
         Counted-stopped m new u c t e' failed (subst (λ y. Counted m y c failed) (sym u_is) k) w i
         (record { same = p.0.same; once = p.0.once; most = most-looked }, p.1) (drop consumed buffer)
 
-  pub stops-fault : {aside : ℕ} (s : State) → s.limits ≡ limits_of new most aside → s.failed ≡ true → s.since ≡ since → (f : FrameFault) → Runs m front new (Err (record_fault.Fault f)) → (b : List ℕ) → b ≡ since → Takes b s (Err (form.Parse (parsing.Fault f)))
+  pub stops-fault : {aside : ℕ} (s : State) → s.limits ≡ limits_of new most aside → s.failed ≡ true → s.since ≡ since
+      → (f : FrameFault) → Runs m front new (Err (record_fault.Fault f)) → (b : List ℕ) → b ≡ since
+      → Takes b s (Err (form.Parse (parsing.Fault f)))
   stops-fault {aside} s l k y f d b e =
-      let here : HasFault (limits_of m most aside) since f = within (malformed-from_runs m new front (take most since) resumes-front f d) in
-      (CannotTake.malformed f refl (rw (l ∙ ap (λ x. record { depth = x; bytes = most; pushes = aside }) same) (subst (λ x. HasFault (limits_of m most aside) x f) (sym e) here)), FailedAfter-from_since s b k (e ∙ sym y))
+      let here : HasFault (limits_of m most aside) since f = within
+      (malformed-from_runs m new front (take most since) resumes-front f d) in (
+        CannotTake.malformed f refl
+            (rw (l ∙ ap (λ x. record { depth = x; bytes = most; pushes = aside }) same)
+            (subst (λ x. HasFault (limits_of m most aside) x f) (sym e) here)),
+        FailedAfter-from_since s b k (e ∙ sym y),
+      )
 
-  pub stops-placed : {aside : ℕ} (f : FrameFault) → Runs m front new (Err (record_fault.Fault f)) → Placed (limits_of new most aside) (Some (count + new.shown)) since true
+  pub stops-placed : {aside : ℕ} (f : FrameFault) → Runs m front new (Err (record_fault.Fault f))
+      → Placed (limits_of new most aside) (Some (count + new.shown)) since true
   stops-placed {aside} f d = rw same (record {
     works = λ z. absurd (let y : true ≡ false = z in cc);
     shows = within (shown-from_runs m new front (take most since) resumes-front f count d size);
@@ -191,7 +208,8 @@ module _ {B : Type 0} (most count : ℕ) (buffer since : List ℕ) (consumed : �
 
     passes : {aside : ℕ} → PassesSize (limits_of m most aside) since
     passes {aside} = record {
-      more = (let l : length later ≡ length since - most = ap length later-since ∙ length-drop most since in omega (arith, l, later-size));
+      more = (let l : length later ≡ length since - most = ap length later-since
+          ∙ length-drop most since in omega (arith, l, later-size));
       incomplete = incomplete-from_waits m new front (take most since) resumes-front n d;
     }
 
@@ -216,11 +234,19 @@ module _ {B : Type 0} (most count : ℕ) (buffer since : List ℕ) (consumed : �
               (let y : true ≡ false = z in cc);
         }
 
-    pub long-placed : {aside : ℕ} (e : RedisError) (offset : Option ℕ) → PassesLimit most e offset → Placed (limits_of new most aside) offset since true
+    pub long-placed : {aside : ℕ} (e : RedisError) (offset : Option ℕ) → PassesLimit most e offset
+        → Placed (limits_of new most aside) offset since true
     long-placed {aside} e offset r = rw same (Placed-passes (limits_of m most aside) offset since e passes r)
 
-    pub long-takes : {aside : ℕ} (s : State) (e : RedisError) (offset : Option ℕ) → s.limits ≡ limits_of new most aside → s.failed ≡ true → s.since ≡ since → PassesLimit most e offset → (b : List ℕ) → b ≡ since → Takes b s (Err e)
+    pub long-takes : {aside : ℕ} (s : State) (e : RedisError) (offset : Option ℕ) → s.limits ≡ limits_of new most aside
+        → s.failed ≡ true → s.since ≡ since → PassesLimit most e offset → (b : List ℕ) → b ≡ since → Takes b s (Err e)
     long-takes {aside} s e offset l k y (PassesLimit.fault i j) b z =
-        let here : HasFault (limits_of m most aside) since TooLong = too_long refl passes in
-        (CannotTake.malformed TooLong i (rw (l ∙ ap (λ x. record { depth = x; bytes = most; pushes = aside }) same) (subst (λ x. HasFault (limits_of m most aside) x TooLong) (sym z) here)), FailedAfter-from_since s b k (z ∙ sym y))
-    long-takes {aside} s e offset l k y (PassesLimit.out_of_memory i j) b z = (CannotTake.out_of_memory i, FailedAfter-from_since s b k (z ∙ sym y))
+        let here : HasFault (limits_of m most aside) since TooLong = too_long refl passes in (
+          CannotTake.malformed TooLong i
+              (rw (l ∙ ap (λ x. record { depth = x; bytes = most; pushes = aside }) same)
+              (subst (λ x. HasFault (limits_of m most aside) x TooLong) (sym z) here)),
+          FailedAfter-from_since s b k
+              (z ∙ sym y),
+        )
+    long-takes {aside} s e offset l k y (PassesLimit.out_of_memory i j) b z =
+        (CannotTake.out_of_memory i, FailedAfter-from_since s b k (z ∙ sym y))

@@ -110,7 +110,9 @@ invariant_of-self-in-Ok g c =
     record {
       builds = λ _. c.fill_front-direct.ensures.builds (kept.builds w);
       consumed = fed-fits buffer buffer' rest p.consumed kept.consumed items;
-      placed = Placed-working (limits_of p.machine p.size_limit p.push_limit) (limits_of c.fill_front-direct.new.self p.size_limit p.push_limit) p.fault_offset p.since c.append.new.self p.failed w kept.placed;
+      placed = Placed-working (limits_of p.machine p.size_limit p.push_limit)
+          (limits_of c.fill_front-direct.new.self p.size_limit p.push_limit) p.fault_offset p.since c.append.new.self
+          p.failed w kept.placed;
       limits = rw fills.depth kept.limits;
       depth = rw (fills.depth, fills.open_aggregates) kept.depth;
       holds = fed-holds 0 p.machine c.fill_front-direct.new.self p.counts c.fill_front-direct.new.counts

@@ -86,7 +86,9 @@ invariant_of-self-2 g c =
     record {
       builds = λ _. c.in_ok-fill.ensures.builds (c.self-2.invariant.builds w);
       consumed = fed-fits buffer c.extend_from_slice.new.self.items rest consumed c.self-2.invariant.consumed items;
-      placed = Placed-working (limits_of c.self-2.inside.machine c.self-2.inside.size_limit c.self-2.inside.push_limit) (limits_of c.fill.new.self c.self-2.inside.size_limit c.self-2.inside.push_limit) c.self-2.inside.fault_offset c.self-2.inside.since c.append.new.self c.self-2.inside.failed w c.self-2.invariant.placed;
+      placed = Placed-working (limits_of c.self-2.inside.machine c.self-2.inside.size_limit c.self-2.inside.push_limit)
+          (limits_of c.fill.new.self c.self-2.inside.size_limit c.self-2.inside.push_limit) c.self-2.inside.fault_offset
+          c.self-2.inside.since c.append.new.self c.self-2.inside.failed w c.self-2.invariant.placed;
       limits = rw c.in_ok-fill.ensures.fills.depth c.self-2.invariant.limits;
       depth = rw (c.in_ok-fill.ensures.fills.depth, c.in_ok-fill.ensures.fills.open_aggregates)
           c.self-2.invariant.depth;

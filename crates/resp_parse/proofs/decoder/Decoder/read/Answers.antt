@@ -88,7 +88,10 @@ invariant_of-self g c =
           c.split_at.result.0.now c.split_at.result.1.now f front later c.in-Ok-default-true.ensures.limit
           c.in-Ok-default-true.taken v d c.restart.new.self (c.restart.ensures ∙ x);
       builds = λ _. c.in-Ok-default-true.ensures.builds;
-      placed = Placed-working (limits_of c.self.inside.machine c.self.inside.size_limit c.self.inside.push_limit) (limits_of c.read.new.self c.self.inside.size_limit c.self.inside.push_limit) c.self.inside.fault_offset c.self.inside.since c.restart.new.self c.self.inside.failed (ap (λ (s : State). s.failed) c.self.view_is ∙ c.requires.works) c.self.invariant.placed;
+      placed = Placed-working (limits_of c.self.inside.machine c.self.inside.size_limit c.self.inside.push_limit)
+          (limits_of c.read.new.self c.self.inside.size_limit c.self.inside.push_limit) c.self.inside.fault_offset
+          c.self.inside.since c.restart.new.self c.self.inside.failed
+          (ap (λ (s : State). s.failed) c.self.view_is ∙ c.requires.works) c.self.invariant.placed;
     }
 
 pub returns-in-Ok-default-true-clause-takes : goal.returns-in-Ok-default-true-clause-takes
@@ -109,8 +112,21 @@ returns-in-Ok-default-true-clause-takes g c = λ b h.
     let v = got.0 in
     let d = got.1.1 in
     let at : ℕ = c.self.inside.consumed + c.in-Ok-default-true.taken in
-    let x : take (length c.deref-in-Ok-default-true.result.now - at) (drop at c.deref-in-Ok-default-true.result.now) ≡ drop at c.self.inside.buffer.items = grind (arith, common_steps, c.deref-in-Ok-default-true.ensures.value) in
-    (v, (got.1.0, value-takes c.self.inside.size_limit c.self.inside.taken c.self.inside.buffer.items c.self.inside.since c.self.inside.consumed c.self.inside.failed c.self.inside.machine c.read.new.self c.self.invariant.consumed c.self.invariant.holds (ap (λ (s : State). s.failed) c.self.view_is ∙ c.requires.works) (c.self.invariant.taken (ap (λ (s : State). s.failed) c.self.view_is ∙ c.requires.works)) u c.split_at.result.0.now c.split_at.result.1.now f front later c.in-Ok-default-true.ensures.limit c.in-Ok-default-true.taken v d c.restart.new.self (c.restart.ensures ∙ x) _ refl refl refl refl refl b (StandsAfter-since c.args.self.now b h ∙ sym (ap (λ (s : State). s.since) c.self.view_is))))
+    let x : take (length c.deref-in-Ok-default-true.result.now - at) (drop at c.deref-in-Ok-default-true.result.now)
+    ≡ drop at c.self.inside.buffer.items = grind (arith, common_steps, c.deref-in-Ok-default-true.ensures.value) in (
+      v,
+      (
+        got.1.0,
+        value-takes c.self.inside.size_limit c.self.inside.taken c.self.inside.buffer.items
+            c.self.inside.since c.self.inside.consumed c.self.inside.failed c.self.inside.machine c.read.new.self
+            c.self.invariant.consumed c.self.invariant.holds
+            (ap (λ (s : State). s.failed) c.self.view_is ∙ c.requires.works)
+            (c.self.invariant.taken (ap (λ (s : State). s.failed) c.self.view_is ∙ c.requires.works)) u
+            c.split_at.result.0.now c.split_at.result.1.now f front later c.in-Ok-default-true.ensures.limit
+            c.in-Ok-default-true.taken v d c.restart.new.self (c.restart.ensures ∙ x) _ refl refl refl refl refl b
+            (StandsAfter-since c.args.self.now b h ∙ sym (ap (λ (s : State). s.since) c.self.view_is)),
+      ),
+    )
 
 pub returns-in-Ok-default-true-clause-bounds : goal.returns-in-Ok-default-true-clause-bounds
 returns-in-Ok-default-true-clause-bounds g c =
@@ -256,7 +272,10 @@ invariant_of-self-in-Ok-default-false g c =
           c.split_at.result.0.now c.split_at.result.1.now f front later c.in-Ok-default-false.ensures.limit
           c.in-Ok-default-false.taken none d c.in-Ok-default-false.ensures.built_within;
       builds = λ _. c.in-Ok-default-false.ensures.builds;
-      placed = Placed-working (limits_of c.self.inside.machine c.self.inside.size_limit c.self.inside.push_limit) (limits_of c.read.new.self c.self.inside.size_limit c.self.inside.push_limit) c.self.inside.fault_offset c.self.inside.since c.self.inside.since c.self.inside.failed (ap (λ (s : State). s.failed) c.self.view_is ∙ c.requires.works) c.self.invariant.placed;
+      placed = Placed-working (limits_of c.self.inside.machine c.self.inside.size_limit c.self.inside.push_limit)
+          (limits_of c.read.new.self c.self.inside.size_limit c.self.inside.push_limit) c.self.inside.fault_offset
+          c.self.inside.since c.self.inside.since c.self.inside.failed
+          (ap (λ (s : State). s.failed) c.self.view_is ∙ c.requires.works) c.self.invariant.placed;
     }
 
 pub returns-else-passes-clause-takes : goal.returns-else-passes-clause-takes
@@ -411,7 +430,11 @@ invariant_of-self-in-Err-Memory g c =
           c.call.ensures c.in-Err-Memory.ensures.cost;
       taken = λ w. absurd (let z : true ≡ false = w in cc);
       builds = λ w. absurd (let z : true ≡ false = w in cc);
-      placed = Placed-failing (limits_of c.self.inside.machine c.self.inside.size_limit c.self.inside.push_limit) (limits_of c.read.new.self c.self.inside.size_limit c.self.inside.push_limit) c.self.inside.fault_offset c.self.inside.since c.self.inside.failed (ap (λ (k : ℕ). record { depth = k; bytes = c.self.inside.size_limit; pushes = c.self.inside.push_limit }) c.in-Err-Memory.ensures.limit) c.self.invariant.placed;
+      placed = Placed-failing (limits_of c.self.inside.machine c.self.inside.size_limit c.self.inside.push_limit)
+          (limits_of c.read.new.self c.self.inside.size_limit c.self.inside.push_limit) c.self.inside.fault_offset
+          c.self.inside.since c.self.inside.failed
+          (ap (λ (k : ℕ). record { depth = k; bytes = c.self.inside.size_limit; pushes = c.self.inside.push_limit })
+          c.in-Err-Memory.ensures.limit) c.self.invariant.placed;
     }
 
 pub returns-in-Err-Memory-clause-takes : goal.returns-in-Err-Memory-clause-takes

@@ -12,7 +12,8 @@ invariant_of-result g c = record {
   consumed = omega arith;
   limits = rw c.new-2.ensures.limit c.requires.limits;
   depth = depth-fresh c.new-2.result c.new-2.ensures.fresh;
-  holds = Holds-new c.new-2.result c.new.result.items c.new-3.result c.new.ensures.items c.new-3.ensures c.new-2.ensures.fresh c.new-2.ensures.scanned;
+  holds = Holds-new c.new-2.result c.new.result.items c.new-3.result c.new.ensures.items c.new-3.ensures
+      c.new-2.ensures.fresh c.new-2.ensures.scanned;
   placed = Placed-none (limits_of c.new-2.result c.args.limits.bytes c.args.limits.pushes) None _ false refl;
   builds = λ _. c.new-2.ensures.builds;
   counted = Counted-new c.new-2.result c.new.result.items c.new-4.result c.new-4.ensures c.new-2.ensures.fresh
