@@ -1,10 +1,12 @@
 -- What sending appended bytes does.
-use Rattle.std.proofs.Common.{◌≡◌, inr, ℕ, List, [], Option, None, Some, Result, Ok, Err}
+use Rattle.std.proofs.Common.{◌≡◌, inl, inr, refl, ℕ, List, [], Option, None, Some, Result, Ok, Err}
 use Rattle.std.specs.Fmt.{◌++?◌}
 use Rattle.std.specs.Result.{IsErr, IsErrAnd}
+use Rattle.std.proofs.lemmas.Result.{err_from_is_err_and}
 use Rattle.resp_errors.specs.declared.kinds.IoKind.{IoKind}
 use Rattle.resp_errors.specs.declared.redis_error.RedisError.{RedisError}
 use Rattle.resp_errors.specs.declared.redis_error.RedisError.TheVariants as form
+use Rattle.resp_encode.specs.Encodings.{RefusesValue}
 use Rattle.resp_link.specs.Sink.{Sink, SendsAll}
 use Rattle.resp_server.specs.Sending.{SendsValue, SentBytes}
 
@@ -28,3 +30,10 @@ failed bytes b old new kind (Err error) e all is = inr (record {
   failed = all;
   error = is.1;
 })
+
+-- nothing was sent for what has no bytes
+pub not_sent : (bytes : Option (List ℕ)) (old : Sink) (error : RedisError) (answer : Result (Unit {0}) RedisError)
+    → IsErrAnd answer (λ e. e ≡ error) → RefusesValue bytes error → SendsValue bytes old old answer
+not_sent bytes old error answer is refuses =
+    let p = err_from_is_err_and answer is in
+    rw (p.1, p.2) (inl (refl, refuses))

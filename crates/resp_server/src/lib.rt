@@ -8,4 +8,4 @@ mod sending;
 
 pub use args::{OwnedArgs, RequestArgs};
 pub use request::Request;
-pub use sending::send_value;
+pub use sending::{send_reply, send_value};
