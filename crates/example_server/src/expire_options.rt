@@ -4,6 +4,7 @@ use crate::command::Reach;
 use crate::integers::integer_of;
 use crate::names::CommandName;
 use crate::refusal::Refusal;
+use crate::set_options::EARLIEST;
 use std::vec;
 
 /// The options of these words, after a number of seconds; a word may stand twice.
@@ -74,7 +75,7 @@ fn check_seconds(number: &[u8]) -> Result<(), Refusal> {
     let Some(seconds) = integer_of(number) else {
         return Err(Refusal::NotInteger);
     };
-    if seconds > i64::MAX / 1000 || seconds < i64::MIN / 1000 {
+    if seconds > (i64::MAX - EARLIEST) / 1000 || seconds < i64::MIN / 1000 {
         return Err(Refusal::ExpireTime(CommandName::Expire));
     }
     Ok(())

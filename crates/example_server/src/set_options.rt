@@ -16,6 +16,9 @@ pub fn set_options(words: vec::IntoIter<Vec<u8>>) -> Result<SetOptions, Refusal>
     reading.options()
 }
 
+/// No clock shows less, in milliseconds since 1970: it stands for the time at which a command comes.
+pub const EARLIEST: i64 = 1_700_000_000_000;
+
 /// When the key expires.
 #[derive(Clone, Copy, PartialEq, Eq)]
 enum Lifetime {
@@ -125,16 +128,16 @@ fn condition_named(word: &[u8]) -> Result<Condition, Refusal> {
     }
 }
 
-/// A time is a positive number of milliseconds of 64 bits.
+/// A time is a positive number, and the milliseconds at which it passes are of 64 bits.
 fn check_time(lifetime: Lifetime, number: &[u8]) -> Result<(), Refusal> {
     let Some(time) = integer_of(number) else {
         return Err(Refusal::NotInteger);
     };
-    let in_seconds = lifetime == Lifetime::Seconds || lifetime == Lifetime::TimeInSeconds;
-    let most = if in_seconds {
-        i64::MAX / 1000
-    } else {
-        i64::MAX
+    let most = match lifetime {
+        Lifetime::Seconds => (i64::MAX - EARLIEST) / 1000,
+        Lifetime::Milliseconds => i64::MAX - EARLIEST,
+        Lifetime::TimeInSeconds => i64::MAX / 1000,
+        _ => i64::MAX,
     };
     if time <= 0 || time > most {
         return Err(Refusal::ExpireTime(CommandName::Set));

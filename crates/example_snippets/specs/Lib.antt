@@ -1,2 +1,3 @@
+pub mod Proxied
 pub mod Redirected
 pub mod Relayed

@@ -5,10 +5,14 @@
 //! A link sets pushes aside, so that none is taken for a reply. `hand_on_pushes` sends them on to a
 //! client of RESP3, where a push may stand before and after each reply; RESP2 has no pushes.
 
+mod commands;
 mod forwarding;
+mod passing;
 mod pushes;
 mod reply;
 
+pub use commands::{ClientState, Handling, handling_of};
 pub use forwarding::{forward, relay};
+pub use passing::pass_on;
 pub use pushes::hand_on_pushes;
 pub use reply::Reply;
