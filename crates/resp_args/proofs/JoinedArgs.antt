@@ -1,5 +1,6 @@
 -- Arguments that are made of parts.
-use Rattle.std.proofs.Common.{◌≡◌, ℕ, ◌<◌, List, [], ◌∷◌, ◌++◌, length, length-append, ap, ◌∙◌, append_assoc, append-nil, refl, sym, arith, inl, Result, Ok, Err, OnOk, OnErr}
+use Rattle.std.proofs.Common.{◌≡◌, ℕ, ◌<◌, List, [], ◌∷◌, ◌++◌, length, length-append, ap, ◌∙◌, append_assoc}
+use Rattle.std.proofs.Common.{append-nil, refl, sym, arith, inl, Result, Ok, Err, OnOk, OnErr}
 use Rattle.resp_errors.specs.declared.redis_error.RedisError.{RedisError}
 use Rattle.resp_errors.specs.Memory.{OnlyMemory}
 use Rattle.resp_args.specs.Args.{Args, extended, IsOnly, Writes}
@@ -26,12 +27,15 @@ pub opened : (old new : Args) → new ≡ old ++ [] ∷ [] → 0 < length new
 opened old new is = omega (arith, ap length is, length-append old ([] ∷ []))
 
 -- a refused part that left all as it was
-pub none_done : (bytes : List ℕ) (old new : Args) (r : Result (Unit {0}) RedisError) → OnErr r (new ≡ old) → OnErr r (ExtendedInPart bytes old new)
+pub none_done : (bytes : List ℕ) (old new : Args) (r : Result (Unit {0}) RedisError) → OnErr r (new ≡ old)
+    → OnErr r (ExtendedInPart bytes old new)
 none_done bytes old new (Ok x) err = tt
-none_done bytes old new (Err e) err = record { done = []; left = bytes; in_order = refl; written = err ∙ sym (extended_by_none old) }
+none_done bytes old new (Err e) err = record
+    { done = []; left = bytes; in_order = refl; written = err ∙ sym (extended_by_none old) }
 
 -- the first of two parts is refused
-pub first_in_part : (a b : List ℕ) (old new : Args) (r : Result (Unit {0}) RedisError) → ExtendedInPart a old new → OnErr r (ExtendedInPart (a ++ b) old new)
+pub first_in_part : (a b : List ℕ) (old new : Args) (r : Result (Unit {0}) RedisError) → ExtendedInPart a old new
+    → OnErr r (ExtendedInPart (a ++ b) old new)
 first_in_part a b old new (Ok x) part = tt
 first_in_part a b old new (Err e) part = record {
   done = part.done;
@@ -41,7 +45,8 @@ first_in_part a b old new (Err e) part = record {
 }
 
 -- the second of two parts is refused, where it is
-pub second_in_part : (a b : List ℕ) (old mid new : Args) (r : Result (Unit {0}) RedisError) → mid ≡ extended old a → OnErr r (ExtendedInPart b mid new) → OnErr r (ExtendedInPart (a ++ b) old new)
+pub second_in_part : (a b : List ℕ) (old mid new : Args) (r : Result (Unit {0}) RedisError) → mid ≡ extended old a
+    → OnErr r (ExtendedInPart b mid new) → OnErr r (ExtendedInPart (a ++ b) old new)
 second_in_part a b old mid new (Ok x) first part = tt
 second_in_part a b old mid new (Err e) first part = record {
   done = a ++ part.done;
@@ -51,13 +56,19 @@ second_in_part a b old mid new (Err e) first part = record {
 }
 
 -- two parts are written
-pub both_parts : (a b : List ℕ) (old mid new : Args) (r : Result (Unit {0}) RedisError) → mid ≡ extended old a → OnOk r (new ≡ extended mid b) → OnOk r (new ≡ extended old (a ++ b))
+pub both_parts : (a b : List ℕ) (old mid new : Args) (r : Result (Unit {0}) RedisError) → mid ≡ extended old a
+    → OnOk r (new ≡ extended mid b) → OnOk r (new ≡ extended old (a ++ b))
 both_parts a b old mid new (Ok x) first second = second ∙ (ap (λ args. extended args b) first ∙ extended_twice old a b)
 both_parts a b old mid new (Err e) first second = tt
 
 -- an argument that was opened is written, as far as memory goes
-pub writes_joined : (bytes : List ℕ) (old mid new : Args) (r : Result (Unit {0}) RedisError) → mid ≡ old ++ [] ∷ [] → OnOk r (new ≡ extended mid bytes) → OnErr r (ExtendedInPart bytes mid new) → OnlyMemory r → Writes (IsOnly bytes) ⊥ old new r
+pub writes_joined : (bytes : List ℕ) (old mid new : Args) (r : Result (Unit {0}) RedisError) → mid ≡ old ++ [] ∷ []
+    → OnOk r (new ≡ extended mid bytes) → OnErr r (ExtendedInPart bytes mid new) → OnlyMemory r
+    → Writes (IsOnly bytes) ⊥ old new r
 writes_joined bytes old mid new (Ok x) empty ok err memory =
     ((bytes ∷ [], ok ∙ (ap (λ args. extended args bytes) empty ∙ extended_last old [] bytes), refl), λ refused. refused)
-writes_joined bytes old mid new (Err e) empty ok err memory =
-    ((err.done ∷ [], err.written ∙ (ap (λ args. extended args err.done) empty ∙ extended_last old [] err.done)), inl memory)
+writes_joined bytes old mid new (Err e) empty ok err memory = (
+  (err.done ∷ [], err.written ∙ (ap (λ args. extended args err.done) empty ∙ extended_last old [] err.done)),
+  inl
+      memory,
+)

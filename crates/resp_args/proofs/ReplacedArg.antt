@@ -5,5 +5,6 @@ use Rattle.std.specs.Prelude.{slice_set}
 use Rattle.std.proofs.lemmas.List.{map-set}
 use Rattle.resp_args.specs.Args.{args_of}
 
-pub replaced : (vectors : List (Vec ℕ Global)) (index : ℕ) (vector : Vec ℕ Global) → args_of (slice_set vectors index vector) ≡ slice_set (args_of vectors) index vector.items
+pub replaced : (vectors : List (Vec ℕ Global)) (index : ℕ) (vector : Vec ℕ Global)
+    → args_of (slice_set vectors index vector) ≡ slice_set (args_of vectors) index vector.items
 replaced vectors index vector = map-set (λ v. v.items) vectors index vector

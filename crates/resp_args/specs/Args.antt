@@ -1,6 +1,7 @@
 -- Arguments of a command (RESP, "Sending commands to a Redis server"): a client sends a command as
 -- an array of bulk strings, so every argument is a list of bytes.
-use Rattle.std.specs.Prelude.{◌<◌, ◌≡◌, ℕ, Bool, true, false, List, [], ◌∷◌, ◌++◌, map, Result, Ok, Err, IfErr, Vec, nat_le, ◌⊎◌, Option, None, Some, ◌+◌, if◌then◌else◌, codes, length, IfSome, OnOk, ⊤}
+use Rattle.std.specs.Prelude.{◌<◌, ◌≡◌, ℕ, Bool, true, false, List, [], ◌∷◌, ◌++◌, map, Result, Ok, Err, IfErr, Vec}
+use Rattle.std.specs.Prelude.{nat_le, ◌⊎◌, Option, None, Some, ◌+◌, if◌then◌else◌, codes, length, IfSome, OnOk, ⊤}
 use Rattle.std.specs.Borrow.{Bor}
 use Rattle.std.specs.Iterator.{Yields}
 use Rattle.std.specs.Global.{Global}

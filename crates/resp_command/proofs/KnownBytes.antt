@@ -1,5 +1,6 @@
 -- What an exchange does where the source tells its bytes: those that are left follow what was taken.
-use Rattle.std.proofs.Common.{◌≡◌, ℕ, ◌-◌, List, [], ◌∷◌, ◌++◌, refl, sym, ap, ◌∙◌, subst, append_assoc, append-nil, Option, None}
+use Rattle.std.proofs.Common.{◌≡◌, ℕ, ◌-◌, List, [], ◌∷◌, ◌++◌, refl, sym, ap, ◌∙◌, subst, append_assoc, append-nil}
+use Rattle.std.proofs.Common.{Option, None}
 use Rattle.std.proofs.Common.{Some, Result, inl, inr}
 use Rattle.std.specs.Io.KnownBytes.{Consumes, IsAtEnd}
 use Rattle.resp_errors.specs.declared.kinds.FrameFault.{FrameFault}
@@ -7,9 +8,11 @@ use Rattle.resp_errors.specs.declared.redis_error.RedisError.{RedisError}
 use Rattle.resp_value.specs.declared.value.Value.{Value}
 use Rattle.resp_parse.specs.declared.limits.Limits.{Limits}
 use Rattle.resp_parse.proofs.LimitedReadings.{HasFault-longer}
-use Rattle.resp_command.specs.Taken.{Frame, bytes_of, Aside, PrefixReads, MeetsFault, in_bytes, too_many_pushes, Taken, took}
+use Rattle.resp_command.specs.Taken.{Frame, bytes_of, Aside, PrefixReads, MeetsFault, in_bytes, too_many_pushes, Taken}
+use Rattle.resp_command.specs.Taken.{took}
 use Rattle.resp_command.specs.Taken.{met_fault, ended_early}
-use Rattle.resp_command.specs.Connection.{Connection, push_room, Bytes, ExchangeOf, Exchange, KnownExchange, replied, malformed}
+use Rattle.resp_command.specs.Connection.{Connection, push_room, Bytes, ExchangeOf, Exchange, KnownExchange, replied}
+use Rattle.resp_command.specs.Connection.{malformed}
 use Rattle.resp_command.specs.Connection.{early_end, sink_failed, source_failed, out_of_memory, BrokenMidway}
 
 pub prefix-longer : (l : Limits) (b rest x : List ℕ) (fs : List Frame) → PrefixReads l b fs rest

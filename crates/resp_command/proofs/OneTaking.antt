@@ -1,5 +1,6 @@
 -- From any bytes n replies take one thing: there is one, and there is no other.
-use Rattle.std.proofs.Common.{◌≡◌, ℕ, zero, suc, ◌+◌, ◌-◌, ◌<◌, ◌≤◌, Option, None, Some, List, [], ◌∷◌, ◌++◌, length, refl}
+use Rattle.std.proofs.Common.{◌≡◌, ℕ, zero, suc, ◌+◌, ◌-◌, ◌<◌, ◌≤◌, Option, None, Some, List, [], ◌∷◌, ◌++◌, length}
+use Rattle.std.proofs.Common.{refl}
 use Rattle.std.proofs.Common.{sym, ap, ◌∙◌, subst, append_assoc, append-nil, length-append, arith, ◌⊎◌, inl, inr}
 use Rattle.std.proofs.lemmas.List.{append_cancel_right}
 use Rattle.resp_value.specs.declared.value.Value.{Value}
@@ -12,7 +13,8 @@ use Rattle.resp_parse.specs.Limited.{WellFormedWithin, HasValue, HasFault, Await
 use Rattle.resp_parse.proofs.LimitedReadings.{one_reading, found}
 use Rattle.resp_command.specs.Taken.{as_push, Frame, bytes_of, Aside, aside_of, push_bytes, replies_in, pushes_in}
 use Rattle.resp_command.specs.Taken.{AreFrames, PrefixReads, PushPasses, MeetsFault, in_bytes, too_many_pushes, Taking}
-use Rattle.resp_command.specs.Taken.{took, met_fault, ended_early, TakesAll, TakesFewer, Taken, TakesOneThing, no_pushes}
+use Rattle.resp_command.specs.Taken.{took, met_fault, ended_early, TakesAll, TakesFewer, Taken, TakesOneThing}
+use Rattle.resp_command.specs.Taken.{no_pushes}
 use Rattle.resp_command.proofs.PackedReadsBack.{well_formed_some}
 use Rattle.resp_command.proofs.Values.{reads_nothing, reads_one, reads_both, value_first, frame_of, count-append}
 use Rattle.resp_command.proofs.Values.{push_bytes-append, ends_at_nothing}
@@ -37,7 +39,8 @@ one_frame : (l : Limits) (b : List ℕ) (v w : Frame) (r s : List ℕ) → b ≡
 one_frame l b v w r s e f g h =
     let one = (one_reading l b).values v.value w.value r s (record { prefix = v.bytes; whole = e; well_formed = g })
     (record { prefix = w.bytes; whole = f; well_formed = h }) in
-    let bytes : v.bytes ≡ w.bytes = append_cancel_right v.bytes w.bytes s (rw (← one.1) (sym e ∙ f ∙ ap (λ z. w.bytes ++ z)
+    let bytes : v.bytes ≡ w.bytes = append_cancel_right v.bytes w.bytes s
+    (rw (← one.1) (sym e ∙ f ∙ ap (λ z. w.bytes ++ z)
     (sym one.1))) in
     (rw (bytes, one.0) refl, one.1)
 
@@ -51,7 +54,10 @@ compare l b (v ∷ vs) (w ∷ ws) r s h k =
     let right = k.whole ∙ append_assoc w.bytes (bytes_of ws) s in
     let one = one_frame l b v w (bytes_of vs ++ r) (bytes_of ws ++ s) left right h.frames_are.0 k.frames_are.0 in
     subst (λ z. Compared l (v ∷ vs) (z ∷ ws) r s) one.0
-    (one_more l vs ws r s v (compare l (bytes_of vs ++ r) vs ws r s (record { whole = refl; frames_are = h.frames_are.1 })
+    (one_more l vs ws r s v (compare l (bytes_of vs ++ r) vs ws r s (record {
+      whole = refl;
+      frames_are = h.frames_are.1;
+    })
     (record { whole = one.1; frames_are = k.frames_are.1 })))
 
 -- no frame for which there is room stands where something else follows
@@ -255,7 +261,8 @@ one_or_other f = either (as_push f.value) refl
 within_room : (n room : ℕ) → (n ≤ room) ⊎ (room < n)
 within_room zero room = inl (omega arith)
 within_room (suc n) zero = inr (omega arith)
-within_room (suc n) (suc room) = elim (within_room n room) [ inl h ↦ inl (omega (arith, h)) | inr h ↦ inr (omega (arith, h)) ]
+within_room (suc n) (suc room) = elim (within_room n room)
+    [ inl h ↦ inl (omega (arith, h)) | inr h ↦ inr (omega (arith, h)) ]
 
 some_taking : (l : Limits) (size room n : ℕ) (b : List ℕ) → length b < size → (t : Taking) × Taken l room n b t
 unfolding Taken
@@ -290,8 +297,13 @@ some_taking l (suc size) room (suc n) b few = next (some_taking l size) (found l
         let smaller = shorter l b rest v g in
         elim (one_or_other (frame_of g)) [
           | push is ↦ elim (within_room (push_bytes (frame_of g ∷ [])) room) [
-            | inl fits ↦ (let t = deeper (room - push_bytes (frame_of g ∷ [])) (suc n) rest (omega (arith, smaller, few)) in
-                value_before l room (suc n) (suc n) b rest v g (let none = ap length is in omega (arith, none)) (omega arith)
+            | inl fits ↦ (let t = deeper (room - push_bytes (frame_of g ∷ [])) (suc n) rest (omega (
+              arith,
+              smaller,
+              few,
+            )) in
+                value_before l room (suc n) (suc n) b rest v g (let none = ap length is in omega (arith, none))
+                (omega arith)
                 fits t.0 t.1)
             | inr passes ↦ (
               met_fault TooManyPushes no_pushes,
@@ -302,7 +314,11 @@ some_taking l (suc size) room (suc n) b few = next (some_taking l size) (found l
               })),
             )
           ]
-          | reply one none ↦ (let t = deeper (room - push_bytes (frame_of g ∷ [])) n rest (omega (arith, smaller, few)) in
+          | reply one none ↦ (let t = deeper (room - push_bytes (frame_of g ∷ [])) n rest (omega (
+            arith,
+            smaller,
+            few,
+          )) in
               value_before l room (suc n) n b rest v g (omega (arith, one)) (omega arith) (omega (arith, none)) t.0 t.1)
         ]
     next deeper (limited.fault f h) = (met_fault f no_pushes, nothing_but _ (in_bytes h))

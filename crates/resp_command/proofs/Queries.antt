@@ -10,7 +10,8 @@ use Rattle.resp_errors.specs.declared.parsing_error.ParsingError.TheVariants.{Fa
 use Rattle.resp_command.specs.Call.{Call, CommandCall, Refuses, broken_link, no_command, AnswersReply, Answers, needed}
 use Rattle.resp_command.specs.Command.{Command}
 use Rattle.resp_command.specs.CommandQuery.{CommandQuery}
-use Rattle.resp_command.specs.Connection.{push_room, Connection, Bytes, ExchangeOf, Exchange, replied, malformed, early_end}
+use Rattle.resp_command.specs.Connection.{push_room, Connection, Bytes, ExchangeOf, Exchange, replied, malformed}
+use Rattle.resp_command.specs.Connection.{early_end}
 use Rattle.resp_command.specs.Connection.{sink_failed, source_failed, out_of_memory}
 use Rattle.resp_command.specs.Packed.{packed}
 use Rattle.resp_command.proofs.PackedReadsBack.{packed_reads_only}

@@ -1,5 +1,6 @@
 -- Frames that are read one after another, and the replies and pushes among them.
-use Rattle.std.proofs.Common.{◌≡◌, ℕ, ◌+◌, ◌≤◌, None, Some, is_none, is_some, List, [], ◌∷◌, ◌++◌, length, filter, filter_map, refl, sym}
+use Rattle.std.proofs.Common.{◌≡◌, ℕ, ◌+◌, ◌≤◌, None, Some, is_none, is_some, List, [], ◌∷◌, ◌++◌, length, filter}
+use Rattle.std.proofs.Common.{filter_map, refl, sym}
 use Rattle.std.proofs.Common.{ap, ◌∙◌, append_assoc, append-nil, length-append, arith, rules}
 use Rattle.std.proofs.lemmas.List.{map-append}
 use Rattle.std.proofs.lemmas.List.Elements.{filter-append, filter_map-append}

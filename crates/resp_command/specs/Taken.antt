@@ -1,5 +1,6 @@
 -- What n replies take from bytes (RESP3, "Pushes": a push may come before, between and after them).
-use Rattle.std.specs.Prelude.{◌≡◌, ◌≢◌, ℕ, ◌<◌, ◌≤◌, ◌-◌, List, [], ◌∷◌, ◌++◌, length, map, filter, filter_map, Option, None}
+use Rattle.std.specs.Prelude.{◌≡◌, ◌≢◌, ℕ, ◌<◌, ◌≤◌, ◌-◌, List, [], ◌∷◌, ◌++◌, length, map, filter, filter_map, Option}
+use Rattle.std.specs.Prelude.{None}
 use Rattle.std.specs.Prelude.{Some, is_none, is_some}
 use Rattle.resp_value.specs.declared.value.Value.{Value, out-Value}
 use Rattle.resp_value.specs.declared.value.Value.TheOpen.{Value-F}

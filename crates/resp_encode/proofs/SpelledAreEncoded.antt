@@ -395,7 +395,8 @@ module _ (spell : Value → Option (List ℕ)) where
           → IsShort (Push (kind_named name) payload) → Encoded (Push (kind_named name) payload)
       named-has first name payload fs text small has s =
           let kind = kind_named name in
-          let p = and_parts (nat_lt (length (name_of_push_kind kind)) (2 ^ 63)) (list_all (λ b. b) (map is_short payload))
+          let p = and_parts (nat_lt (length (name_of_push_kind kind)) (2 ^ 63))
+          (list_all (λ b. b) (map is_short payload))
           (short-layer (Value-F.Push kind payload) (Push kind payload) (rolls-Push kind payload) s) in
           let each = has (fs, each-short payload p.1) in
           push-encoded kind payload (push-has kind payload (read-kind name (text each.0)) small
@@ -403,7 +404,8 @@ module _ (spell : Value → Option (List ℕ)) where
           each.1)
 
       of-kind : (first : Value) (payload : List Value) (kind : PushKind) → push_kind first ≡ Some kind
-          → suc (length payload) < 2 ^ 63 → (Each IsShort (first ∷ payload) → Each (λ w. Has (spell w)) (first ∷ payload))
+          → suc (length payload) < 2 ^ 63 →
+          (Each IsShort (first ∷ payload) → Each (λ w. Has (spell w)) (first ∷ payload))
           → IsShort (Push kind payload) → Encoded (Push kind payload)
       of-kind (SimpleString name) payload kind e small has s =
           let z : kind_named name ≡ kind = cc in
@@ -427,7 +429,8 @@ module _ (spell : Value → Option (List ℕ)) where
       of-push (first ∷ payload) v small e has s = by (push_kind first) refl e
         where
           by : (k : Option PushKind) → push_kind first ≡ k
-              → (elim k as (λ _. Result Value FrameFault) [ Some kind ↦ Ok (Push kind payload) | None ↦ Err BadPushKind ])
+              → (elim k as (λ _. Result Value FrameFault)
+              [ Some kind ↦ Ok (Push kind payload) | None ↦ Err BadPushKind ])
               ≡ Ok v → Encoded v
           by (Some kind) h i = let z : Push kind payload ≡ v = cc in
               subst Encoded z (of-kind first payload kind h small has (subst IsShort (sym z) s))

@@ -1,5 +1,6 @@
 -- The code and the detail of an error that was read join to its text.
-use Rattle.std.proofs.Common.{◌≡◌, ℕ, ◌<◌, ◌==◌, Bool, true, false, not, cond, List, ◌∷◌, ◌++◌, length, refl, sym, ap, ◌∙◌, Option, None, Some, append-nil, bytes_eq, IfSome, eqb-true, arith}
+use Rattle.std.proofs.Common.{◌≡◌, ℕ, ◌<◌, ◌==◌, Bool, true, false, not, cond, List, ◌∷◌, ◌++◌, length, refl, sym, ap}
+use Rattle.std.proofs.Common.{◌∙◌, Option, None, Some, append-nil, bytes_eq, IfSome, eqb-true, arith}
 use Rattle.std.specs.List.{position_or_len, before_first, after_first}
 use Rattle.std.proofs.lemmas.List.Sums.{split_at_first, passes_at_first, prefix_len-le-length}
 use Rattle.std.proofs.lemmas.Bool.Decides.{nat_tests}
@@ -7,7 +8,8 @@ use Rattle.std.proofs.lemmas.Slice.Eq.{bytes_eq-Decides}
 use Rattle.resp_errors.specs.declared.kinds.ServerErrorKind.{ServerErrorKind}
 use Rattle.resp_errors.specs.declared.kinds.ServerErrorKind.TheVariants as kind
 use Rattle.resp_errors.specs.declared.server_error.ServerError.TheVariants.{Known, Extension}
-use Rattle.resp_errors.specs.ServerErrors.{code_of_kind, kind_of_code, error_with, is_space, server_error, after_code, text_of}
+use Rattle.resp_errors.specs.ServerErrors.{code_of_kind, kind_of_code, error_with, is_space, server_error, after_code}
+use Rattle.resp_errors.specs.ServerErrors.{text_of}
 
 -- the kind, if there is one, has this code
 abbrev HasCode : List ℕ → Option ServerErrorKind → Type 0
@@ -33,7 +35,8 @@ known code =
 text_with : (code : List ℕ) (detail : Option (List ℕ)) → text_of (error_with code detail) ≡ code ++ after_code detail
 text_with code detail = by (kind_of_code code) (known code)
   where
-    by : (k : Option ServerErrorKind) → HasCode code k → text_of (elim k [ Some kind ↦ Known kind detail | None ↦ Extension code detail ]) ≡ code ++ after_code detail
+    by : (k : Option ServerErrorKind) → HasCode code k
+        → text_of (elim k [ Some kind ↦ Known kind detail | None ↦ Extension code detail ]) ≡ code ++ after_code detail
     by (Some k) h = ap (λ code. code ++ after_code detail) h
     by None h = refl
 
@@ -48,7 +51,8 @@ unfolding server_error
 joined text = by (position_or_len is_space text == length text) refl
   where
     by : (b : Bool) → (position_or_len is_space text == length text) ≡ b
-        → text_of (cond b (error_with text None) (error_with (before_first is_space text) (Some (after_first is_space text)))) ≡ text
+        → text_of (cond b (error_with text None) (error_with (before_first is_space text) (Some (after_first is_space
+        text)))) ≡ text
     by true e = text_with text None ∙ append-nil text
     by false e =
         let inside = below text e in

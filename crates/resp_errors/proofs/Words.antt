@@ -1,5 +1,7 @@
 -- The words of a text, taken off one by one.
-use Rattle.std.proofs.Common.{◌≡◌, ℕ, ◌<◌, ◌≤◌, nat_lt, Bool, true, false, cond, List, [], ◌∷◌, ◌++◌, length, get_or, refl, sym, ap, subst, ◌∙◌, Option, None, Some, Result, Ok, Err, unwrap_or, ◌^◌, MatchOption, Bor, ⊎_elim, append-nil, arith}
+use Rattle.std.proofs.Common.{◌≡◌, ℕ, ◌<◌, ◌≤◌, nat_lt, Bool, true, false, cond, List, [], ◌∷◌, ◌++◌, length, get_or}
+use Rattle.std.proofs.Common.{refl, sym, ap, subst, ◌∙◌, Option, None, Some, Result, Ok, Err, unwrap_or, ◌^◌}
+use Rattle.std.proofs.Common.{MatchOption, Bor, ⊎_elim, append-nil, arith}
 use Rattle.std.proofs.lemmas.Bool.{cases_lt}
 use Rattle.std.proofs.lemmas.Bool.Decides.{nat_tests}
 use Rattle.std.proofs.lemmas.List.{get_or_default}
@@ -10,7 +12,8 @@ use Rattle.std.proofs.lemmas.Str.{NoCharPasses-byte}
 use Rattle.std.specs.Char.{is_ascii_whitespace}
 use Rattle.std.specs.List.{All, AllByRecursion, filter, slice_split}
 use Rattle.std.specs.Str.{NoCharPasses}
-use Rattle.std.specs.Str.Iter.{IsAsciiSeparator, CutsAsciiWord, split_ascii_whitespace_text, split_ascii_whitespace_steps}
+use Rattle.std.specs.Str.Iter.{IsAsciiSeparator, CutsAsciiWord, split_ascii_whitespace_text}
+use Rattle.std.specs.Str.Iter.{split_ascii_whitespace_steps}
 use Rattle.std.specs.declared.str.SplitAsciiWhitespace.{SplitAscii}
 use Rattle.std.specs.Result.{result_ok}
 use Rattle.std.specs.Str.Parse.{ParsesUnsigned}

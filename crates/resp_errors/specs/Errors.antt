@@ -1,13 +1,22 @@
 -- What an error says, by its form.
 use Rattle.std.specs.Prelude.{ℕ, List, [], ◌∷◌, codes, Option, None, Some, Result, Ok, Err, slice_get, option_and_then}
 use Rattle.resp_errors.specs.declared.kinds.ServerErrorKind.{ServerErrorKind}
-use Rattle.resp_errors.specs.declared.kinds.ServerErrorKind.TheVariants.{ResponseError, ExecAbort, BusyLoading, NoScript, Moved, Ask, TryAgain, ClusterDown, CrossSlot, MasterDown, ReadOnly, NotBusy, NoSub, NoPerm}
+use Rattle.resp_errors.specs.declared.kinds.ServerErrorKind.TheVariants.{ResponseError, ExecAbort, BusyLoading}
+use Rattle.resp_errors.specs.declared.kinds.ServerErrorKind.TheVariants.{NoScript, Moved, Ask, TryAgain, ClusterDown}
+use Rattle.resp_errors.specs.declared.kinds.ServerErrorKind.TheVariants.{CrossSlot, MasterDown, ReadOnly, NotBusy}
+use Rattle.resp_errors.specs.declared.kinds.ServerErrorKind.TheVariants.{NoSub, NoPerm}
 use Rattle.resp_errors.specs.declared.kinds.ErrorKind.{ErrorKind}
 use Rattle.resp_errors.specs.declared.kinds.ErrorKind.TheVariants as kind
 use Rattle.resp_errors.specs.declared.kinds.FrameFault.{FrameFault}
-use Rattle.resp_errors.specs.declared.kinds.FrameFault.TheVariants.{TooDeep, UnknownType, LineNotUtf8, NotInteger, NegativeLength, BodyEnd, NotBoolean, NotDouble, NoVerbatimFormat, BadPushKind, TooLong, TooManyPushes}
+use Rattle.resp_errors.specs.declared.kinds.FrameFault.TheVariants.{TooDeep, UnknownType, LineNotUtf8, NotInteger}
+use Rattle.resp_errors.specs.declared.kinds.FrameFault.TheVariants.{NegativeLength, BodyEnd, NotBoolean, NotDouble}
+use Rattle.resp_errors.specs.declared.kinds.FrameFault.TheVariants.{NoVerbatimFormat, BadPushKind, TooLong}
+use Rattle.resp_errors.specs.declared.kinds.FrameFault.TheVariants.{TooManyPushes}
 use Rattle.resp_errors.specs.declared.kinds.IoKind.{IoKind}
-use Rattle.resp_errors.specs.declared.kinds.IoKind.TheVariants.{NotFound, PermissionDenied, ConnectionRefused, ConnectionReset, ConnectionAborted, NotConnected, BrokenPipe, WouldBlock, TimedOut, Interrupted, Unsupported, UnexpectedEof, WriteZero, Other}
+use Rattle.resp_errors.specs.declared.kinds.IoKind.TheVariants.{NotFound, PermissionDenied, ConnectionRefused}
+use Rattle.resp_errors.specs.declared.kinds.IoKind.TheVariants.{ConnectionReset, ConnectionAborted, NotConnected}
+use Rattle.resp_errors.specs.declared.kinds.IoKind.TheVariants.{BrokenPipe, WouldBlock, TimedOut, Interrupted}
+use Rattle.resp_errors.specs.declared.kinds.IoKind.TheVariants.{Unsupported, UnexpectedEof, WriteZero, Other}
 use Rattle.std.specs.declared.io.ErrorKind as device
 use Rattle.std.specs.declared.io.ErrorKind.TheVariants as device_kind
 use Rattle.resp_errors.specs.declared.server_error.ServerError.{ServerError}

@@ -1,13 +1,19 @@
 -- What an error means for its connection, and how a call that met it may be tried again.
 use Rattle.std.specs.Prelude.{Bool, true, false, cond}
 use Rattle.resp_errors.specs.declared.kinds.ServerErrorKind.{ServerErrorKind}
-use Rattle.resp_errors.specs.declared.kinds.ServerErrorKind.TheVariants.{ResponseError, ExecAbort, BusyLoading, NoScript, Moved, Ask, TryAgain, ClusterDown, CrossSlot, MasterDown, ReadOnly, NotBusy, NoSub, NoPerm}
+use Rattle.resp_errors.specs.declared.kinds.ServerErrorKind.TheVariants.{ResponseError, ExecAbort, BusyLoading}
+use Rattle.resp_errors.specs.declared.kinds.ServerErrorKind.TheVariants.{NoScript, Moved, Ask, TryAgain, ClusterDown}
+use Rattle.resp_errors.specs.declared.kinds.ServerErrorKind.TheVariants.{CrossSlot, MasterDown, ReadOnly, NotBusy}
+use Rattle.resp_errors.specs.declared.kinds.ServerErrorKind.TheVariants.{NoSub, NoPerm}
 use Rattle.resp_errors.specs.declared.kinds.ErrorKind.{ErrorKind}
 use Rattle.resp_errors.specs.declared.kinds.ErrorKind.TheVariants as kind
 use Rattle.resp_errors.specs.declared.kinds.IoKind.{IoKind}
 use Rattle.resp_errors.specs.declared.kinds.IoKind.TheVariants as io
 use Rattle.resp_errors.specs.declared.kinds.RetryMethod.{RetryMethod}
-use Rattle.resp_errors.specs.declared.kinds.RetryMethod.TheVariants.{Reconnect, NoRetry, RetryImmediately, WaitAndRetry, AskRedirect, MovedRedirect, ReconnectFromInitialConnections, RefreshSlotsAndRetry}
+use Rattle.resp_errors.specs.declared.kinds.RetryMethod.TheVariants.{Reconnect, NoRetry, RetryImmediately, WaitAndRetry}
+use Rattle.resp_errors.specs.declared.kinds.RetryMethod.TheVariants.{AskRedirect, MovedRedirect}
+use Rattle.resp_errors.specs.declared.kinds.RetryMethod.TheVariants.{ReconnectFromInitialConnections}
+use Rattle.resp_errors.specs.declared.kinds.RetryMethod.TheVariants.{RefreshSlotsAndRetry}
 use Rattle.resp_errors.specs.declared.redis_error.RedisError.{RedisError}
 use Rattle.resp_errors.specs.declared.redis_error.RedisError.TheVariants as form
 use Rattle.resp_errors.specs.Errors.{kind_of}

@@ -4,7 +4,10 @@ use Rattle.std.specs.Fmt.{◌++?◌, debug_str}
 use Rattle.std.specs.Str.{bytes_eq}
 use Rattle.std.specs.List.{position_or_len, before_first, after_first}
 use Rattle.resp_errors.specs.declared.kinds.ServerErrorKind.{ServerErrorKind}
-use Rattle.resp_errors.specs.declared.kinds.ServerErrorKind.TheVariants.{ResponseError, ExecAbort, BusyLoading, NoScript, Moved, Ask, TryAgain, ClusterDown, CrossSlot, MasterDown, ReadOnly, NotBusy, NoSub, NoPerm}
+use Rattle.resp_errors.specs.declared.kinds.ServerErrorKind.TheVariants.{ResponseError, ExecAbort, BusyLoading}
+use Rattle.resp_errors.specs.declared.kinds.ServerErrorKind.TheVariants.{NoScript, Moved, Ask, TryAgain, ClusterDown}
+use Rattle.resp_errors.specs.declared.kinds.ServerErrorKind.TheVariants.{CrossSlot, MasterDown, ReadOnly, NotBusy}
+use Rattle.resp_errors.specs.declared.kinds.ServerErrorKind.TheVariants.{NoSub, NoPerm}
 use Rattle.resp_errors.specs.declared.server_error.ServerError.{ServerError}
 use Rattle.resp_errors.specs.declared.server_error.ServerError.TheVariants.{Known, Extension}
 

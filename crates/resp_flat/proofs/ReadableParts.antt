@@ -37,9 +37,11 @@ own-text text u = record {
 }
 
 pub own-name : (name : List ℕ) → IsUtf8 name → HasOwnName (kind_named name)
-own-name name u = record { utf8 = subst IsUtf8 (sym (name-kind_named name)) u; own = ap kind_named (name-kind_named name) }
+own-name name u = record
+    { utf8 = subst IsUtf8 (sym (name-kind_named name)) u; own = ap kind_named (name-kind_named name) }
 
-pub own-format : (u : List ℕ) → IsUtf8 u → (position_or_len is_colon u == length u) ≡ false → HasOwnFormat (format_named (before_first is_colon u)) (after_first is_colon u)
+pub own-format : (u : List ℕ) → IsUtf8 u → (position_or_len is_colon u == length u) ≡ false
+    → HasOwnFormat (format_named (before_first is_colon u)) (after_first is_colon u)
 own-format u utf8 is =
     let name = before_first is_colon u in
     let whole = text-joined u is in record {

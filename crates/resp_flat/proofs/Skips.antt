@@ -1,5 +1,6 @@
 -- The tokens after a value are those after its own.
-use Rattle.std.proofs.Common.{◌≡◌, ℕ, zero, suc, ◌+◌, ◌*◌, ◌<◌, ◌≤◌, ◌-◌, nat_le, min, Bool, true, false, List, [], ◌∷◌, ◌++◌, length, map, refl, sym, ap, subst, ◌∙◌, append_assoc, add-zero, arith}
+use Rattle.std.proofs.Common.{◌≡◌, ℕ, zero, suc, ◌+◌, ◌*◌, ◌<◌, ◌≤◌, ◌-◌, nat_le, min, Bool, true, false, List, [], ◌∷◌}
+use Rattle.std.proofs.Common.{◌++◌, length, map, refl, sym, ap, subst, ◌∙◌, append_assoc, add-zero, arith}
 use Rattle.std.proofs.lemmas.Bool.Decides.{nat_tests}
 use Rattle.std.proofs.lemmas.List.{length-map}
 use Rattle.resp_value.specs.declared.value.Value.{Value, map-Value, ind-Value, fold-roll-Value}
@@ -26,14 +27,17 @@ pub capped : (n most : ℕ) (ts : Tokens) → length ts ≤ most → after_value
 capped n most ts short = by (nat_le n most) refl
   where
     by : (b : Bool) → nat_le n most ≡ b → after_values (min n most) ts ≡ after_values n ts
-    by true e = let below : n ≤ most = grind (arith, nat_tests, e) in let same : min n most ≡ n = omega arith in ap (λ (k : ℕ). after_values k ts) same
+    by true e =
+        let below : n ≤ most = grind (arith, nat_tests, e) in
+        let same : min n most ≡ n = omega arith in ap (λ (k : ℕ). after_values k ts) same
     by false e =
         let above : most < n = grind (arith, nat_tests, e) in
         let same : min n most ≡ most = omega arith in
         ap (λ (k : ℕ). after_values k ts) same ∙ none-left most ts short ∙ sym (none-left n ts (omega arith))
 
 -- one token further, where each count stops at the largest number
-pub token_on : (values m most : ℕ) (rest others : Tokens) (t : Token) → rest ≡ t ∷ others → 0 < values → length others ≤ most → m ≡ min (part_count t.kind t.size) most
+pub token_on : (values m most : ℕ) (rest others : Tokens) (t : Token) → rest ≡ t ∷ others → 0 < values
+    → length others ≤ most → m ≡ min (part_count t.kind t.size) most
     → after_values values rest ≡ after_values (min ((values - 1) + m) most) others
 token_on values m most rest others t is some short parts =
     let n = part_count t.kind t.size in
@@ -60,10 +64,13 @@ abbrev pair_in : Skipped × Skipped → Value × Value
 pair_in p = (p.0.0, p.1.0)
 
 -- two that follow each other
-pub apart : (at : ℕ) (ts us rest : Tokens) → placed at (ts ++ us) ++ rest ≡ placed at ts ++ (placed (at + total ts) us ++ rest)
-apart at ts us rest = ap (λ (ms : Tokens). ms ++ rest) (placed-append at ts us) ∙ append_assoc (placed at ts) (placed (at + total ts) us) rest
+pub apart : (at : ℕ) (ts us rest : Tokens) → placed at (ts ++ us) ++ rest ≡ placed at ts
+    ++ (placed (at + total ts) us ++ rest)
+apart at ts us rest = ap (λ (ms : Tokens). ms ++ rest) (placed-append at ts us)
+    ∙ append_assoc (placed at ts) (placed (at + total ts) us) rest
 
-skips-values : (ps : List Skipped) (m at : ℕ) (rest : Tokens) → after_values (m + length ps) (placed at (joined (map tokens_of (map value_in ps))) ++ rest) ≡ after_values m rest
+skips-values : (ps : List Skipped) (m at : ℕ) (rest : Tokens)
+    → after_values (m + length ps) (placed at (joined (map tokens_of (map value_in ps))) ++ rest) ≡ after_values m rest
 skips-values [] m at rest = ap (λ (k : ℕ). after_values k rest) (add-zero m)
 skips-values (p ∷ ps) m at rest =
     let others = joined (map tokens_of (map value_in ps)) in
@@ -72,7 +79,9 @@ skips-values (p ∷ ps) m at rest =
     ∙ ap (λ (ts : Tokens). after_values (suc (m + length ps)) ts) (apart at (tokens_of p.0) others rest)
     ∙ p.1 (m + length ps) at _ ∙ skips-values ps m _ rest
 
-skips-pairs : (ps : List (Skipped × Skipped)) (m at : ℕ) (rest : Tokens) → after_values (m + 2 * length ps) (placed at (joined_pairs (map tokens_of_pair (map pair_in ps))) ++ rest) ≡ after_values m rest
+skips-pairs : (ps : List (Skipped × Skipped)) (m at : ℕ) (rest : Tokens)
+    → after_values (m + 2 * length ps) (placed at (joined_pairs (map tokens_of_pair (map pair_in ps))) ++ rest)
+    ≡ after_values m rest
 skips-pairs [] m at rest = ap (λ (k : ℕ). after_values k rest) (add-zero m)
 skips-pairs (p ∷ ps) m at rest =
     let others = joined_pairs (map tokens_of_pair (map pair_in ps)) in
@@ -105,15 +114,20 @@ layer-skips (Value-F.Double text) m at rest = one-token m rest
 layer-skips (Value-F.BigNumber bytes) m at rest = one-token m rest
 layer-skips (Value-F.VerbatimString format text) m at rest = one-token m rest
 layer-skips (Value-F.Array ps) m at rest =
-    ap (λ (k : ℕ). after_values (m + k) (placed (at + 0) (joined (map tokens_of (map value_in ps))) ++ rest)) (counted value_in tokens_of ps) ∙ skips-values ps m (at + 0) rest
+    ap (λ (k : ℕ). after_values (m + k) (placed (at + 0) (joined (map tokens_of (map value_in ps))) ++ rest))
+    (counted value_in tokens_of ps) ∙ skips-values ps m (at + 0) rest
 layer-skips (Value-F.Set ps) m at rest =
-    ap (λ (k : ℕ). after_values (m + k) (placed (at + 0) (joined (map tokens_of (map value_in ps))) ++ rest)) (counted value_in tokens_of ps) ∙ skips-values ps m (at + 0) rest
+    ap (λ (k : ℕ). after_values (m + k) (placed (at + 0) (joined (map tokens_of (map value_in ps))) ++ rest))
+    (counted value_in tokens_of ps) ∙ skips-values ps m (at + 0) rest
 layer-skips (Value-F.Map ps) m at rest =
-    ap (λ (k : ℕ). after_values (m + 2 * k) (placed (at + 0) (joined_pairs (map tokens_of_pair (map pair_in ps))) ++ rest)) (counted pair_in tokens_of_pair ps) ∙ skips-pairs ps m (at + 0) rest
+    ap (λ (k : ℕ). after_values (m + 2 * k)
+    (placed (at + 0) (joined_pairs (map tokens_of_pair (map pair_in ps))) ++ rest))
+    (counted pair_in tokens_of_pair ps) ∙ skips-pairs ps m (at + 0) rest
 layer-skips (Value-F.Attribute p ps) m at rest =
     let pairs = joined_pairs (map tokens_of_pair (map pair_in ps)) in
     let more : m + (2 * length ps + 1) ≡ suc m + 2 * length ps = omega arith in
-    ap (λ (k : ℕ). after_values (m + (2 * k + 1)) (placed (at + 0) (pairs ++ tokens_of p.0) ++ rest)) (counted pair_in tokens_of_pair ps)
+    ap (λ (k : ℕ). after_values (m + (2 * k + 1)) (placed (at + 0) (pairs ++ tokens_of p.0) ++ rest))
+    (counted pair_in tokens_of_pair ps)
     ∙ ap (λ (k : ℕ). after_values k (placed (at + 0) (pairs ++ tokens_of p.0) ++ rest)) more
     ∙ ap (λ (ts : Tokens). after_values (suc m + 2 * length ps) ts) (apart (at + 0) pairs (tokens_of p.0) rest)
     ∙ skips-pairs ps (suc m) (at + 0) _ ∙ p.1 m _ rest
@@ -121,11 +135,15 @@ layer-skips (Value-F.Push k ps) m at rest =
     let name = length (name_of_push_kind k) in
     let more : (m + suc (length ps)) ≡ suc (m + length ps) = omega arith in
     let others = placed (at + 0 + name) (joined (map tokens_of (map value_in ps))) ++ rest in
-    ap (λ (k : ℕ). after_values (m + suc k) (placed (at + 0) (joined ((sized kind.BulkString name ∷ []) ∷ map tokens_of (map value_in ps))) ++ rest)) (counted value_in tokens_of ps)
-    ∙ ap (λ (k : ℕ). after_values k (placed (at + 0) (joined ((sized kind.BulkString name ∷ []) ∷ map tokens_of (map value_in ps))) ++ rest)) more
+    ap (λ (k : ℕ). after_values (m + suc k)
+    (placed (at + 0) (joined ((sized kind.BulkString name ∷ []) ∷ map tokens_of (map value_in ps))) ++ rest))
+    (counted value_in tokens_of ps)
+    ∙ ap (λ (k : ℕ). after_values k
+    (placed (at + 0) (joined ((sized kind.BulkString name ∷ []) ∷ map tokens_of (map value_in ps))) ++ rest)) more
     ∙ one-token (m + length ps) others ∙ skips-values ps m (at + 0 + name) rest
 
 pub skips : (v : Value) → Skips (tokens_of v)
 skips = ind-Value (λ v. Skips (tokens_of v)) (λ x layer e m at rest.
     ap (λ (ts : Tokens). after_values (suc m) (placed at ts ++ rest)) (fold-roll-Value Tokens tokens_step x)
-    ∙ subst (λ (y : Value-F Value). after_values (suc m) (placed at (tokens_form y) ++ rest) ≡ after_values m rest) e (layer-skips layer m at rest))
+    ∙ subst (λ (y : Value-F Value). after_values (suc m) (placed at (tokens_form y) ++ rest) ≡ after_values m rest) e
+    (layer-skips layer m at rest))

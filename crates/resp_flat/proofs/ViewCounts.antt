@@ -19,7 +19,8 @@ pairs_counted (x ∷ []) = omega arith
 pairs_counted (x ∷ y ∷ xs) = let later = pairs_counted xs in omega arith
 
 -- as many on the one side as on the other
-pub one_for_each : {A B : Type 0} (R : A → B → Type 0) (xs : List A) (ys : List B) → AllZip R xs ys → length xs ≡ length ys
+pub one_for_each : {A B : Type 0} (R : A → B → Type 0) (xs : List A) (ys : List B) → AllZip R xs ys → length xs
+    ≡ length ys
 one_for_each R [] [] h = refl
 one_for_each R [] (y ∷ ys) h = absurd h
 one_for_each R (x ∷ xs) [] h = absurd h

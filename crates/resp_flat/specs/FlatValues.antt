@@ -1,5 +1,6 @@
 -- A value inside a flat reply: which value it shows, and what its parts show.
-use Rattle.std.specs.Prelude.{◌≡◌, ℕ, zero, suc, ◌+◌, ◌*◌, nat_le, ℤ, pos, Bool, true, false, cond, List, [], ◌∷◌, ◌++◌, length, take, drop, Option, None, Some}
+use Rattle.std.specs.Prelude.{◌≡◌, ℕ, zero, suc, ◌+◌, ◌*◌, nat_le, ℤ, pos, Bool, true, false, cond, List, [], ◌∷◌, ◌++◌}
+use Rattle.std.specs.Prelude.{length, take, drop, Option, None, Some}
 use Rattle.std.specs.Ordering.{int_eq}
 use Rattle.resp_value.specs.declared.value.Value.{Value, BulkString, out-Value}
 use Rattle.resp_value.specs.declared.value.Value.TheOpen.{Value-F}

@@ -1,10 +1,13 @@
 -- What is read of tokens and a text, value by value.
-use Rattle.std.specs.Prelude.{◌≡◌, ℕ, zero, suc, ◌+◌, ◌-◌, ℤ, pos, Bool, true, false, cond, not, ◌&&◌, ◌||◌, ◌==◌, nat_le, List, [], ◌∷◌, length, take, drop, Option, None, Some, Result, Ok, Err}
+use Rattle.std.specs.Prelude.{◌≡◌, ℕ, zero, suc, ◌+◌, ◌-◌, ℤ, pos, Bool, true, false, cond, not, ◌&&◌, ◌||◌, ◌==◌}
+use Rattle.std.specs.Prelude.{nat_le, List, [], ◌∷◌, length, take, drop, Option, None, Some, Result, Ok, Err}
 use Rattle.std.specs.Borrow.{Bor}
 use Rattle.std.specs.Ordering.{int_eq}
 use Rattle.std.specs.List.{position_or_len, before_first, after_first}
 use Rattle.std.specs.Str.{is_utf8}
-use Rattle.resp_value.specs.declared.value.Value.{Value, Nil, Okay, Int, SimpleString, BulkString, Array, Map, Attribute, ServerError, Boolean, Double, BigNumber, Set, VerbatimString, Push}
+use Rattle.resp_value.specs.declared.value.Value.{Value, Nil, Okay, Int, SimpleString, BulkString, Array, Map}
+use Rattle.resp_value.specs.declared.value.Value.{Attribute, ServerError, Boolean, Double, BigNumber, Set}
+use Rattle.resp_value.specs.declared.value.Value.{VerbatimString, Push}
 use Rattle.resp_value.specs.declared.names.PushKind.{PushKind}
 use Rattle.resp_value.specs.Names.{kind_named, format_named}
 use Rattle.resp_errors.specs.ServerErrors.{server_error}

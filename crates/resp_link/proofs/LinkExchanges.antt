@@ -1,5 +1,6 @@
 -- A request, and then its replies.
-use Rattle.std.proofs.Common.{◌≡◌, ℕ, ◌+◌, ◌-◌, ◌<◌, ◌≤◌, arith, List, [], ◌∷◌, ◌++◌, length, true, false, Bool, append-nil, sym, ap, ◌∙◌}
+use Rattle.std.proofs.Common.{◌≡◌, ℕ, ◌+◌, ◌-◌, ◌<◌, ◌≤◌, arith, List, [], ◌∷◌, ◌++◌, length, true, false, Bool}
+use Rattle.std.proofs.Common.{append-nil, sym, ap, ◌∙◌}
 use Rattle.std.proofs.Common.{refl, subst, Option, None, Some, Result, Ok, Err, inr}
 use Rattle.std.specs.Io.KnownBytes.{Consumes}
 use Rattle.resp_value.specs.declared.value.Value.{Value}

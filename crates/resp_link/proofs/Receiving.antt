@@ -1,5 +1,6 @@
 -- Reading on: what was received before, and then what is received next.
-use Rattle.std.proofs.Common.{◌≡◌, ◌≢◌, ℕ, ◌+◌, ◌-◌, ◌<◌, ◌≤◌, Option, List, [], ◌∷◌, ◌++◌, length, drop, refl, sym, ap, ◌∙◌}
+use Rattle.std.proofs.Common.{◌≡◌, ◌≢◌, ℕ, ◌+◌, ◌-◌, ◌<◌, ◌≤◌, Option, List, [], ◌∷◌, ◌++◌, length, drop, refl, sym, ap}
+use Rattle.std.proofs.Common.{◌∙◌}
 use Rattle.std.proofs.Common.{subst, append_assoc, append-nil, length-append, arith, Ok, Err, None, Some}
 use Rattle.std.specs.Io.KnownBytes.{Consumes}
 use Rattle.std.proofs.lemmas.Grind.{common_steps}
@@ -16,13 +17,15 @@ use Rattle.resp_parse.specs.Limited.{HasValue, Awaits}
 use Rattle.resp_parse.proofs.ParserStates.{StandsAfter-from_since, StandsAfter-works, StandsAfter-since}
 use Rattle.resp_parse.proofs.ParserStates.{FailedAfter-since, IsBetweenValues-same}
 use Rattle.resp_command.specs.Taken.{as_push, Frame, Aside, aside_of, replies_in, pushes_in, push_bytes, PrefixReads}
-use Rattle.resp_command.specs.Taken.{FollowsPush, MeetsFault, in_bytes, too_many_pushes, Taken, ended_early, IsShort, ArrivedAsNeeded}
+use Rattle.resp_command.specs.Taken.{FollowsPush, MeetsFault, in_bytes, too_many_pushes, Taken, ended_early, IsShort}
+use Rattle.resp_command.specs.Taken.{ArrivedAsNeeded}
 use Rattle.resp_command.proofs.KnownBytes.{prefix-longer}
 use Rattle.resp_command.proofs.Values.{reads_nothing, reads_one, reads_both, replies_in-append, pushes_in-append}
 use Rattle.resp_command.proofs.Values.{frame_of, push_bytes-append, count-append, ends_at_nothing, ends_after_pushes}
 use Rattle.resp_command.proofs.Values.{ends_after_both}
 use Rattle.resp_link.specs.Receiving as receiving
-use Rattle.resp_link.specs.Receiving.{Inflow, inflow_of, room, read_size, Reads, StopsReceiving, Receives, CannotReceive}
+use Rattle.resp_link.specs.Receiving.{Inflow, inflow_of, room, read_size, Reads, StopsReceiving, Receives}
+use Rattle.resp_link.specs.Receiving.{CannotReceive}
 use Rattle.resp_link.specs.Receiving.{CannotSetAside}
 
 -- ---- bytes that came because too few were there
@@ -145,7 +148,8 @@ reads-both k m n a b c vs ws rest fewer within h j =
       came = j.came ∙ ap (λ z. z ++ j.arrived) h.came ∙ append_assoc a.came h.arrived j.arrived;
       to_come = consumed-both a.to_come b.to_come c.to_come h.arrived j.arrived h.to_come j.to_come;
       needed = needed-both a.limits (room a) (room b) k m n a.received b.received h.arrived j.arrived vs h.prefix fewer
-          within left h.needed (subst (λ l. ArrivedAsNeeded l (room b) read_size m b.received j.arrived) h.limits j.needed);
+          within left h.needed (subst (λ l. ArrivedAsNeeded l (room b) read_size m b.received j.arrived) h.limits
+          j.needed);
       prefix = subst (λ z. PrefixReads a.limits z (vs ++ ws) rest) (append_assoc a.received h.arrived j.arrived)
           (reads_both a.limits ((a.received ++ h.arrived) ++ j.arrived) (b.received ++ j.arrived) rest vs ws
           (prefix-longer a.limits (a.received ++ h.arrived) b.received j.arrived vs h.prefix)

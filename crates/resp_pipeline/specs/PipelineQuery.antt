@@ -21,7 +21,8 @@ no_pipelining = General kind.Client (codes "This connection does not support pip
 pub record PipelineQuery {X : Type 0} (old new : Connection) (p : Plan)
     (of_value : Value → X → Type 0) (result : Result X RedisError) : Type 0 where
   pub reads_only : LawOfPipelines p
-  pub takes_one : (arrived : List ℕ) → TakesOneThing old.limits (push_room old) (replies_needed p) (old.received ++ arrived)
+  pub takes_one : (arrived : List ℕ) → TakesOneThing old.limits (push_room old) (replies_needed p)
+      (old.received ++ arrived)
   pub same : SameKind old new
   pub unsupported : old.pipelines ≡ false → Refuses old new no_pipelining result
   -- memory may run out while the request is built

@@ -8,7 +8,8 @@ use denote.Hole.Carrier.{Values}
 use denote.Enum.Declared.{Choice, values_one}
 use denote.Enum.Compared.{Each, by}
 use Rattle.resp_containers.specs.Equality.{IsStructural}
-use Rattle.resp_containers.specs.lemmas.Equality.{SoundAt, same_choice, both, one_field, two_fields, same_bytes, same_integers, same_items, same_truths}
+use Rattle.resp_containers.specs.lemmas.Equality.{SoundAt, same_choice, both, one_field, two_fields, same_bytes}
+use Rattle.resp_containers.specs.lemmas.Equality.{same_integers, same_items, same_truths}
 use Rattle.resp_errors.specs.declared.server_error.ServerError.{ServerError}
 use Rattle.resp_value.specs.declared.names.PushKind.{PushKind}
 use Rattle.resp_value.specs.declared.names.VerbatimFormat.{VerbatimFormat}
@@ -100,7 +101,8 @@ module _ (eq : Value → Value → Bool) where
 
     module _ (same_errors : IsStructural error_eq) (same_formats : IsStructural format_eq)
         (same_kinds : IsStructural kind_eq) where
-      same_layer : (layer : Value-F Proved) → SoundAt value.the_parts tests (parts_of (map-Value Proved Value value_of layer))
+      same_layer : (layer : Value-F Proved) → SoundAt value.the_parts tests
+          (parts_of (map-Value Proved Value value_of layer))
       same_layer Value-F.Nil = tt
       same_layer Value-F.Okay = tt
       same_layer (Value-F.Int n) = one_field same_integers (n, tt)
@@ -121,12 +123,14 @@ module _ (eq : Value → Value → Bool) where
           let parts = both (kind_eq kind v.0) (pointwise eq (map value_of ps) v.1.0) h in
           λ i. (same_kinds kind v.0 parts.0 i, (same_elements ps v.1.0 parts.1 i, tt))
 
-      module _ (unfolds : (a b : Value) → eq a b ≡ by false false value.the_parts tests (value.as_values a) (value.as_values b)) where
+      module _ (unfolds : (a b : Value) → eq a b
+          ≡ by false false value.the_parts tests (value.as_values a) (value.as_values b)) where
         same_value : (x : Value-F Value) (layer : Value-F Proved) → map-Value Proved Value value_of layer ≡ x
             → (b : Value) → eq (roll-Value x) b ≡ true → roll-Value x ≡ b
         same_value x layer e b h =
             let a = roll-Value x in
-            let at = subst (λ l. SoundAt value.the_parts tests (parts_of l)) (e ∙ sym (out-roll-Value x)) (same_layer layer) in
+            let at = subst (λ l. SoundAt value.the_parts tests (parts_of l)) (e ∙ sym (out-roll-Value x))
+            (same_layer layer) in
             values_one value.enum a b
             (same_choice value.the_parts tests (value.as_values a) (value.as_values b) at (sym (unfolds a b) ∙ h))
 

@@ -13,12 +13,15 @@ use Rattle.resp_containers.specs.lemmas.Equality.{same_lists, same_numbers, same
 use Rattle.resp_errors.proofs.laws.law_of_equal_errors.Goals as goal
 
 sound : (a b : RedisError) → errors.ghosts.eq a b ≡ true → without_words a ≡ without_words b
-sound (form.General k t d) (form.General k' t' d') h = ap (λ kind. form.General kind [] None) (kinds.structural-law k k' h)
+sound (form.General k t d) (form.General k' t' d') h = ap (λ kind. form.General kind [] None)
+    (kinds.structural-law k k' h)
 sound (form.Io k) (form.Io k') h = ap form.Io (io_kinds.structural-law k k' h)
 sound (form.Parse e) (form.Parse e') h = ap form.Parse (parsing.structural-law e e' h)
 sound (form.Server e) (form.Server e') h = ap form.Server (server.structural-law e e' h)
-sound (form.Pipeline es) (form.Pipeline es') h = ap form.Pipeline (same_lists (same_pairs same_numbers server.structural-law) es es' h)
-sound (form.Aborted es) (form.Aborted es') h = ap form.Aborted (same_lists (same_pairs same_numbers server.structural-law) es es' h)
+sound (form.Pipeline es) (form.Pipeline es') h = ap form.Pipeline
+    (same_lists (same_pairs same_numbers server.structural-law) es es' h)
+sound (form.Aborted es) (form.Aborted es') h = ap form.Aborted
+    (same_lists (same_pairs same_numbers server.structural-law) es es' h)
 sound form.OutOfMemory form.OutOfMemory h = refl
 sound _ _ h = cc
 

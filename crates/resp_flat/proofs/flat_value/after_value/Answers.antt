@@ -7,4 +7,5 @@ pub returns : goal.returns
 returns c =
     let others = c.args.others.now in
     let short : length others ≤ 2 ^ 64 - 1 = omega arith in
-    c.after_values.ensures ∙ ap (λ (n : ℕ). after_values n others) c.part_count.ensures ∙ capped _ (2 ^ 64 - 1) others short
+    c.after_values.ensures ∙ ap (λ (n : ℕ). after_values n others) c.part_count.ensures
+    ∙ capped _ (2 ^ 64 - 1) others short

@@ -11,7 +11,8 @@ loop-values-preserved c =
     let fewer : length others ≤ length c.args.tokens.now = omega (arith, c.loop-values.invariant.fewer) in
     let short : length others ≤ 2 ^ 64 - 1 = omega arith in
     let some = c.loop-values-test.true in record {
-      same = c.loop-values.invariant.same ∙ token_on c.loop-values.values c.part_count.result (2 ^ 64 - 1) c.loop-values.rest.now others c.in-Some.token.now next some short c.part_count.ensures
+      same = c.loop-values.invariant.same ∙ token_on c.loop-values.values c.part_count.result (2 ^ 64 - 1)
+          c.loop-values.rest.now others c.in-Some.token.now next some short c.part_count.ensures
           ∙ ap (λ (n : ℕ). after_values n others) (sym c.saturating_add-values.ensures);
       fewer = fewer;
     }

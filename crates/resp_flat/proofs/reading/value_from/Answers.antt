@@ -7,9 +7,11 @@ returns-then-at-text c = beyond_text c.args.text.now 1000 c.args.token.now c.arg
 
 pub returns-then-not-may_stand : goal.returns-then-not-may_stand
 returns-then-not-may_stand c =
-    malformed_token c.args.text.now 1000 999 c.args.token.now c.args.others.now refl (sym c.may_stand.ensures ∙ c.if-not-may_stand.true)
+    malformed_token c.args.text.now 1000 999 c.args.token.now c.args.others.now refl
+    (sym c.may_stand.ensures ∙ c.if-not-may_stand.true)
 
 pub returns : goal.returns
 returns c =
     let inside : c.args.token.now.start ≤ length c.args.text.now = omega arith in
-    from_token c.args.text.now 1000 999 c.args.token.now c.args.others.now c.after_token.result _ refl inside (sym c.may_stand.ensures ∙ c.if-not-may_stand.false) c.after_token.ensures
+    from_token c.args.text.now 1000 999 c.args.token.now c.args.others.now c.after_token.result _ refl inside
+    (sym c.may_stand.ensures ∙ c.if-not-may_stand.false) c.after_token.ensures

@@ -8,6 +8,7 @@ returns-else-one_each g c =
     let groups : is_one_each c.args.width c.args.replies.items ≡ false = search rules in
     record {
       converts = OfList-groups c.args.width g.T.FromRedisValue.of_value
-          (is_one_each-false c.args.width c.args.replies.items groups) c.args.replies.items c.convert_groups.result groups
+          (is_one_each-false c.args.width c.args.replies.items groups) c.args.replies.items c.convert_groups.result
+          groups
           c.convert_groups.ensures.converts;
     }

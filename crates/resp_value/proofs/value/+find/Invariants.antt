@@ -13,7 +13,8 @@ abbrev pub invariant-first_error_in_pairs-loop-pair : goal.invariant-first_error
 invariant-first_error_in_pairs-loop-pair l =
     (goal.iterator-first_error_in_pairs-loop-pair).can_next l.pair-iterator ×
     (goal.iterator-first_error_in_pairs-loop-pair).is_finite l.pair-iterator ×
-    (first_of_pairs (map (λ p. (first_error p.0, first_error p.1)) (into_iter_items l.pair-iterator)) ≡ first_of_pairs (map (λ p. (first_error p.0, first_error p.1)) l.fn.pairs))
+    (first_of_pairs (map (λ p. (first_error p.0, first_error p.1)) (into_iter_items l.pair-iterator))
+    ≡ first_of_pairs (map (λ p. (first_error p.0, first_error p.1)) l.fn.pairs))
 
 abbrev pub decreases-Value::into_first_error : goal.decreases-Value::into_first_error
 decreases-Value::into_first_error l = 3 * goal.size-Value::into_first_error l

@@ -12,10 +12,13 @@ pub returns-in_err-extend_from_slice-clause-err : goal.returns-in_err-extend_fro
 returns-in_err-extend_from_slice-clause-err c =
     let vs = c.args.self.now.items in
     let some : 0 < length vs = omega (arith, length-map vs (λ v. v.items), c.requires) in
-    at_err _ (args_of-set_same vs (c.len-last.result - 1) c.extend_from_slice.new.self c.index_mut.result.now (omega arith) (c.in_err-extend_from_slice.ensures.items ∙ ap (λ v. v.items) c.index_mut.ensures.value))
+    at_err _ (args_of-set_same vs (c.len-last.result - 1) c.extend_from_slice.new.self c.index_mut.result.now
+    (omega arith) (c.in_err-extend_from_slice.ensures.items ∙ ap (λ v. v.items) c.index_mut.ensures.value))
 
 pub returns-clause-ok : goal.returns-clause-ok
 returns-clause-ok c =
     let vs = c.args.self.now.items in
     let some : 0 < length vs = omega (arith, length-map vs (λ v. v.items), c.requires) in
-    args_of-set_last vs (c.len-last.result - 1) c.extend_from_slice.new.self c.index_mut.result.now c.args.more.now (omega arith) (c.in_ok-extend_from_slice.ensures.items ∙ ap (λ v. v.items ++ c.args.more.now) c.index_mut.ensures.value)
+    args_of-set_last vs (c.len-last.result - 1) c.extend_from_slice.new.self c.index_mut.result.now c.args.more.now
+    (omega arith) (c.in_ok-extend_from_slice.ensures.items ∙ ap (λ v. v.items ++ c.args.more.now)
+    c.index_mut.ensures.value)

@@ -100,7 +100,8 @@ module _ (E : Bx) where
           -- [what it requires; the handle; true; the tokens]
           move ! (2 ∷ []) $ feq_i ! (List Val) (vptr b o ∷ []) (vptr b o ∷ []) refl $ fjoin ! $ move ! (2 ∷ 0 ∷ []) $
           fjoin ! $ move ! (2 ∷ 0 ∷ []) $ join ! $ join ! $ use1 𝓛 (raw (Shuts.pre y)) (id⊢ 𝓤 _) $
-          calls_at_last ! (fm_of 𝓤 H 𝓛.laws 𝓣) Shuts kn y (and_then ! (get ! refl) (and_then ! (get ! refl) (no_more !)))
+          calls_at_last ! (fm_of 𝓤 H 𝓛.laws 𝓣) Shuts kn y
+          (and_then ! (get ! refl) (and_then ! (get ! refl) (no_more !)))
           (λ u.
           use1 𝓛
           (later (some (λ (r : D E). (ts ⊛ ‵ ((B E).own_val r (u ∷ []))) ⊛ some

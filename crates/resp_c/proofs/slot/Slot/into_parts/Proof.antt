@@ -51,20 +51,23 @@ module _ {M : Type 1} {𝓤 : Ura M} (𝓛 : Logic 𝓤) (at_mem : Memory → SP
         let Post = (walk_of 𝓛 F.ended stayed (F.clauses 𝓛 at_mem run)).post z in
         let s = z.0.3.0 in
         let To = type_at (F.signature).result tt in
-        qed 𝓛 ((‵ ftrue ⊛ ‵ (fsep (SlotRow.own_val s z.0.4.0) ftrue)) ∷ raw (fact 𝓤 (is_some s.value ≡ true)) ∷ []) ∵ move
+        qed 𝓛 ((‵ ftrue ⊛ ‵ (fsep (SlotRow.own_val s z.0.4.0) ftrue)) ∷ raw (fact 𝓤 (is_some s.value ≡ true)) ∷ []) ∵
+        move
         ! (1 ∷ 0 ∷ []) $ heard ! (is_some s.value ≡ true) (λ some.
         let h = held_in s.value some in
         let v : D E = record { ptr = s.at; alloc = s.alloc; value = h.0 } in
         let made : To.Denot = record { ptr = v.ptr; alloc = v.alloc; value = v.value } in
         let same : s ≡ record { at = s.at; alloc = s.alloc; value = Some h.0 } = ap
         (λ o. record { at = s.at; alloc = s.alloc; value = o }) h.1 in
-        split ! $ drop ! $ fsplit ! $ rewrite ! 0 (λ (t : SlotRow.Denot). ‵ (SlotRow.own_val t z.0.4.0)) same refl $ use1
+        split ! $ drop ! $ fsplit ! $ rewrite ! 0 (λ (t : SlotRow.Denot). ‵ (SlotRow.own_val t z.0.4.0)) same refl $
+        use1
         𝓛 (‵ ((B E).own_val v z.0.4.0)) (id⊢ 𝓤 _) $
         box_out E ! v z.0.4.0 (λ b o hv e ws fa. box_in E ! v b o v.value e refl $ use1 𝓛
         (‵ (To.own_val made (word E hv b o ∷ []))) (id⊢ 𝓤 _) $ move ! (1 ∷ []) $ drop ! $
         let w = word E hv b o in
         let Γ : List (Item 𝓤) = ‵ (To.own_val made (w ∷ [])) ∷ [] in
-        by ! (subst (λ (us : List Val). ent 𝓤 (types.Kit.⋆ 𝓛 Γ) (WpFn 𝓤 H 𝓣.C 𝓣.Λ code.function (us ++ []) Post)) (sym ws)
+        by ! (subst (λ (us : List Val). ent 𝓤 (types.Kit.⋆ 𝓛 Γ) (WpFn 𝓤 H 𝓣.C 𝓣.Λ code.function (us ++ []) Post))
+        (sym ws)
         (qed 𝓛 Γ ∵ enter ! 𝓣.C 𝓣.Λ code.function (w ∷ []) _ $ alloc_all !
         (λ ls. pass_all ! refl (box_typed E hv b o fa, tt) $
         sets ! (of_opd ! (get_in ! (fld ! refl (stop !)) (sub ! 0 refl (whole !)))) refl (tt, tt) $ sets !

@@ -5,12 +5,14 @@ use Rattle.resp_flat.proofs.flat_reply.FlatReply.to_value.Goals as goal
 
 pub returns-in-Ok-clause-value : goal.returns-in-Ok-clause-value
 returns-in-Ok-clause-value c = λ v flat readable.
-    let read = slices-read 1000 c.args.self.now v _ _ c.as_slice.ensures.value c.as_slice-2.ensures.value flat readable in
+    let read = slices-read 1000 c.args.self.now v _ _ c.as_slice.ensures.value c.as_slice-2.ensures.value flat
+    readable in
     cc (read, c.in-Ok.ensures)
 
 pub returns-in-Err-clause-memory : goal.returns-in-Err-clause-memory
 returns-in-Err-clause-memory c = λ v flat readable.
-    only_memory _ v _ _ (slices-read 1000 c.args.self.now v _ _ c.as_slice.ensures.value c.as_slice-2.ensures.value flat readable) c.in-Err.ensures c.refusal.ensures
+    only_memory _ v _ _ (slices-read 1000 c.args.self.now v _ _ c.as_slice.ensures.value c.as_slice-2.ensures.value flat
+    readable) c.in-Err.ensures c.refusal.ensures
 
 pub returns-in-Ok-clause-flat : goal.returns-in-Ok-clause-flat
 returns-in-Ok-clause-flat c =

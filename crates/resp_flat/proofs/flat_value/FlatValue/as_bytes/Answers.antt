@@ -10,7 +10,8 @@ returns-then-has_text c = record {
       let t = c.args.self.now.token.now in
       let x = c.args.self.now.text.now in
       let text : has_text t.kind ≡ true = cc in
-      c.bytes_at.ensures ∙ sym (ap (λ (b : Bool). cond b (bytes_at x t.start t.size) None) text) ∙ bytes_shown c.args.self.now v shows;
+      c.bytes_at.ensures ∙ sym (ap (λ (b : Bool). cond b (bytes_at x t.start t.size) None) text)
+      ∙ bytes_shown c.args.self.now v shows;
 }
 
 pub returns-else-has_text : goal.returns-else-has_text

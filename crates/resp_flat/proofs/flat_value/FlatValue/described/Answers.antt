@@ -15,5 +15,6 @@ returns c = record {
   shown = λ v shows.
       let attribute : is_attribute c.args.self.now.token.now.kind ≡ true = cc in
       let short : length c.args.self.now.others.now ≤ 2 ^ 64 - 1 = omega arith in
-      described_shown c.args.self.now v (2 ^ 64 - 1) _ _ _ shows short attribute c.saturating_mul-pairs.ensures c.after_values.ensures c.first.ensures;
+      described_shown c.args.self.now v (2 ^ 64 - 1) _ _ _ shows short attribute c.saturating_mul-pairs.ensures
+      c.after_values.ensures c.first.ensures;
 }

@@ -9,9 +9,11 @@ pub returns-clause-shown : goal.returns-clause-shown
 returns-clause-shown c = λ v shows.
     let self = c.args.self.now in
     subst (λ (ws : List View). AllZip IsShownIn ws (elements_of v))
-    (sym (c.over.ensures.left ∙ ap (λ (n : ℕ). views_from n self.others.now self.text.now) c.element_count.ensures)) (elements_shown self v shows)
+    (sym (c.over.ensures.left ∙ ap (λ (n : ℕ). views_from n self.others.now self.text.now) c.element_count.ensures))
+    (elements_shown self v shows)
 
 pub returns-clause-all : goal.returns-clause-all
 returns-clause-all c = λ v shows. record {
-  all = one_for_each IsShownIn _ _ (returns-clause-shown c v shows) ∙ sym (c.over.ensures.count ∙ c.element_count.ensures ∙ elements_counted c.args.self.now v shows);
+  all = one_for_each IsShownIn _ _ (returns-clause-shown c v shows)
+      ∙ sym (c.over.ensures.count ∙ c.element_count.ensures ∙ elements_counted c.args.self.now v shows);
 }

@@ -13,7 +13,8 @@ pub values-loop-preserved : goal.values-loop-preserved
 values-loop-preserved t c =
     let read = next_value c.args.self.now.text.now c.args.levels in
     let more : c.args.count - c.loop.counter ≡ suc (c.args.count - (c.loop.counter + 1)) = omega arith in
-    let after = next_values read (c.args.count - (c.loop.counter + 1)) c.value.new.place.tokens.now c.value.new.place.at in
+    let after = next_values read (c.args.count - (c.loop.counter + 1)) c.value.new.place.tokens.now
+    c.value.new.place.at in
     c.loop.invariant ∙ value_read read _ _ c.loop.values _ _ _ _ c.in_ok-value.field-0 more c.in_ok-value.ensures
     ∙ ap (λ (front : List Value). continued front after) (sym c.in_ok-push.ensures.ok)
 
@@ -21,6 +22,8 @@ pub pairs-loop-preserved : goal.pairs-loop-preserved
 pairs-loop-preserved t c =
     let read = next_value c.args.self.now.text.now c.args.levels in
     let more : c.args.count - c.loop.counter ≡ suc (c.args.count - (c.loop.counter + 1)) = omega arith in
-    let after = next_pairs read (c.args.count - (c.loop.counter + 1)) c.value-in-loop.new.place.tokens.now c.value-in-loop.new.place.at in
-    c.loop.invariant ∙ pair_read read _ _ c.loop.pairs _ _ _ _ _ _ c.in_ok-key.key c.in_ok-value.field-0 more c.in_ok-key.ensures c.in_ok-value.ensures
+    let after = next_pairs read (c.args.count - (c.loop.counter + 1)) c.value-in-loop.new.place.tokens.now
+    c.value-in-loop.new.place.at in
+    c.loop.invariant ∙ pair_read read _ _ c.loop.pairs _ _ _ _ _ _ c.in_ok-key.key c.in_ok-value.field-0 more
+    c.in_ok-key.ensures c.in_ok-value.ensures
     ∙ ap (λ (front : List (Value × Value)). continued front after) (sym c.in_ok-push.ensures.ok)

@@ -24,9 +24,11 @@ decreases-after_token l = 4 * l.levels + 3
 abbrev pub invariant-values-loop : goal.invariant-values-loop
 invariant-values-loop l =
     next_values (next_value l.self.text.now l.levels) l.count l.fn.place.tokens.now l.fn.place.at
-    ≡ continued l.values (next_values (next_value l.self.text.now l.levels) (l.count - l.counter) l.place.tokens.now l.place.at)
+    ≡ continued l.values (next_values (next_value l.self.text.now l.levels) (l.count - l.counter) l.place.tokens.now
+    l.place.at)
 
 abbrev pub invariant-pairs-loop : goal.invariant-pairs-loop
 invariant-pairs-loop l =
     next_pairs (next_value l.self.text.now l.levels) l.count l.fn.place.tokens.now l.fn.place.at
-    ≡ continued l.pairs (next_pairs (next_value l.self.text.now l.levels) (l.count - l.counter) l.place.tokens.now l.place.at)
+    ≡ continued l.pairs (next_pairs (next_value l.self.text.now l.levels) (l.count - l.counter) l.place.tokens.now
+    l.place.at)

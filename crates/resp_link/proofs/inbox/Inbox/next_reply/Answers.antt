@@ -25,8 +25,10 @@ returns-in_err-set_aside-in-Push-clause-reply g c =
     c.from_residual-in_err-set_aside-in-Push.ensures.1 in
     let parsed = rw c.in_ok-reply.was at c.parse_from.ensures.parses at.parser.since
     (stands_since at.parser c.loop-kind.invariant.rest) in
-    rw (p.1, p.2, c.in_err-set_aside-in-Push.ensures.listed, c.in_err-set_aside-in-Push.ensures.counted) (not_aside _ (source at.source) _
-    at.parser c.parse_from.new.self _ _ c.in_ok-reply.reply (record { kind = c.in-Push.kind; payload = c.in-Push.payload })
+    rw (p.1, p.2, c.in_err-set_aside-in-Push.ensures.listed, c.in_err-set_aside-in-Push.ensures.counted)
+    (not_aside _ (source at.source) _
+    at.parser c.parse_from.new.self _ _ c.in_ok-reply.reply
+    (record { kind = c.in-Push.kind; payload = c.in-Push.payload })
     c.loop-kind.invariant.only c.parse_from.ensures.limits parsed (rw c.in-Push.is (as_push-Push _ _)) _
     (rw (c.in_err-set_aside-in-Push.was, c.value_len-size.ensures.size, c.limits.ensures.limits) at
     c.set_aside.ensures.aside))
