@@ -18,6 +18,9 @@ use std::alloc::Global;
 /// How many levels of values inside values are sent.
 const LEVELS: usize = 1000;
 
+/// How many bytes a token's lines rarely exceed, beside its text.
+const LINE: usize = 16;
+
 /// The bytes that send the reply of these tokens and this text; or what its caller is told.
 pub fn encode(
     alloc: Global,
@@ -67,7 +70,10 @@ fn bytes_of(
     ensures refused { IfErr result (Refuses
         (IsSome (flat_encoding version 1000 (known_tokens tokens.now) text.now))) }
 {
-    let mut bytes = Vec::new(alloc);
+    let room = tokens.len().saturating_mul(LINE).saturating_add(text.len());
+    let Ok(mut bytes) = Vec::with_capacity(alloc, room) else {
+        return Err(MEMORY);
+    };
     match encode_tokens(GivenTokens { tokens }, text, version, LEVELS, &mut bytes) {
         Ok(()) => Ok(bytes),
         Err(error) => Err(status_of(error)),
