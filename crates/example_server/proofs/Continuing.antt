@@ -1,6 +1,6 @@
 -- What was read of bytes stays, whichever come next.
-use Rattle.std.proofs.Common.{◌≡◌, ◌<◌, ◌≤◌, ◌+◌, ◌-◌, ◌&&◌, ◌==◌, ℕ, zero, suc, Bool, true, false, not, List, [], ◌∷◌, ◌++◌, length, take, drop, nat_lt, nat_le, if◌then◌else◌, Option, Some, None, refl, sym, ap, ◌∙◌, arith, rules, slice_index, length-append, length-drop, append-nil, append_assoc, get_or}
-use Rattle.std.proofs.lemmas.Bool.{and_parts, and_from, ltb-true, lt-ltb, leb-true, le-leb}
+use Rattle.std.proofs.Common.{◌≡◌, ◌<◌, ◌≤◌, ◌+◌, ◌-◌, ◌==◌, ℕ, zero, suc, Bool, true, false, not, List, [], ◌∷◌, ◌++◌, length, take, drop, nat_lt, if◌then◌else◌, Option, Some, None, refl, sym, ap, ◌∙◌, arith, rules, slice_index, length-append, length-drop, append-nil, append_assoc, get_or}
+use Rattle.std.proofs.lemmas.Bool.{ltb-true, lt-ltb}
 use Rattle.std.proofs.lemmas.Grind.{common_steps}
 use Rattle.std.proofs.lemmas.List.Folds.{prefix_len-append}
 use Rattle.std.specs.List.{position_or_len}
@@ -12,9 +12,7 @@ use Rattle.example_server.specs.declared.requests.Taken.TheVariants as taken
 use Rattle.std.specs.Prelude.{Result, Ok, Err, IfOk}
 use Rattle.example_server.specs.declared.protocol_error.ProtocolError.{ProtocolError}
 use Rattle.example_server.specs.declared.protocol_error.ProtocolError.TheVariants as why
-use Rattle.example_server.specs.declared.lines.Array.{Array}
 use Rattle.example_server.specs.declared.lines.Array.TheVariants as array
-use Rattle.example_server.specs.declared.lines.BulkString.{BulkString}
 use Rattle.example_server.specs.declared.lines.BulkString.TheVariants as bulk
 use Rattle.example_server.specs.declared.lines.Line.{Line}
 use Rattle.example_server.specs.declared.lines.Line.TheVariants as line

@@ -1,7 +1,7 @@
 -- Words that are split off one after another.
-use Rattle.std.proofs.Common.{◌≡◌, ◌<◌, ◌≤◌, ◌+◌, ◌-◌, ℕ, zero, suc, List, [], ◌∷◌, ◌++◌, length, drop, Option, Some, None, refl, sym, ap, ◌∙◌, append_assoc, append-nil, get_or, arith, rules}
+use Rattle.std.proofs.Common.{◌≡◌, ◌<◌, ◌≤◌, ◌+◌, ◌-◌, ℕ, zero, suc, List, [], ◌∷◌, ◌++◌, length, drop, Option, Some, None, refl, sym, ap, ◌∙◌, append_assoc, append-nil, get_or, arith}
 use Rattle.std.proofs.lemmas.List.{drop_more, drop_all}
-use Rattle.example_server.specs.Inline.{after, at_end, begun, continued, piece_at, split, words_in}
+use Rattle.example_server.specs.Inline.{after, at_end, begun, continued, piece_at, split}
 use Rattle.example_server.specs.declared.inline.Place.{Place}
 use Rattle.example_server.specs.declared.inline.Place.TheVariants as place
 use Rattle.example_server.specs.declared.inline.Piece.{Piece}

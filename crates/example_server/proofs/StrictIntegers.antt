@@ -1,5 +1,5 @@
 -- The integer that bytes write.
-use Rattle.std.proofs.Common.{◌≡◌, ◌<◌, ◌≤◌, ◌&&◌, zero, suc, pos, nat_le, nat_lt, ◌^◌, ℕ, ℤ, List, Bool, true, false, cond, Option, Some, None, Result, FitsSigned, refl, sym, ◌∙◌, ap, subst, arith}
+use Rattle.std.proofs.Common.{◌≡◌, ◌<◌, ◌≤◌, ◌&&◌, zero, suc, pos, nat_le, nat_lt, ◌^◌, ℕ, ℤ, List, Bool, true, false, cond, Option, Some, None, Result, refl, ap, subst, arith}
 use Rattle.std.proofs.lemmas.Fmt.{IsAscii-signed}
 use Rattle.std.proofs.lemmas.Slice.Eq.{bytes_eq-Decides}
 use Rattle.std.proofs.lemmas.Str.{IsUtf8-from_ascii}
