@@ -1,5 +1,5 @@
 #!/bin/sh
-# Serves real clients: redis-cli in both versions of the protocol, from a pipe and at a terminal,
+# Serves real clients: redis-cli in both versions of the protocol, from a pipe, by --pipe and at a terminal,
 # redis-benchmark with sixteen commands at once, and Python's package redis (clients.py), each
 # connection by a server of its own. Says what each was answered, and ends with status 1 where an
 # answer isn't the one that is wanted. What is wanted is what redis-server 7.0.15 answers them.
@@ -85,8 +85,11 @@ for version in -2 -3; do
     wanted "redis-cli $version, command docs" "$documents" empty
 done
 
-served=$(redis-benchmark -p "$port" -t set,get,incr -n 2000 -c 4 -P 16 -q 2>&1 |
+piped=$(seq 1000 | sed 's/.*/SET key& "value &"/' | redis-cli -p "$port" --pipe | tail -1)
+wanted 'redis-cli --pipe' "$piped" 'errors: 0, replies: 1000'
+
+served=$(redis-benchmark -p "$port" -t ping_inline,set,get,incr -n 2000 -c 4 -P 16 -q 2>&1 |
     tr '\r' '\n' | grep 'requests per second' | sed 's/:.*//' | tr '\n' ' ')
-wanted redis-benchmark "$served" 'SET GET INCR '
+wanted redis-benchmark "$served" 'PING_INLINE SET GET INCR '
 
 /usr/bin/python3 clients.py "$port"

@@ -1,4 +1,5 @@
 mod Continuing
+mod Exchanges
 mod LineEnds
 mod Splitting
 mod StrictIntegers

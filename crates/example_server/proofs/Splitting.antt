@@ -1,7 +1,8 @@
 -- Words that are split off one after another.
-use Rattle.std.proofs.Common.{◌≡◌, ◌<◌, ◌≤◌, ◌+◌, ◌-◌, ℕ, zero, suc, List, [], ◌∷◌, ◌++◌, length, drop, Option, Some, None, refl, sym, ap, ◌∙◌, append_assoc, append-nil, get_or, arith, rules}
+use Rattle.std.proofs.Common.{◌≡◌, ◌<◌, ◌≤◌, ◌+◌, ◌-◌, ℕ, zero, suc, List, [], ◌∷◌, ◌++◌, length, drop, Option, Some}
+use Rattle.std.proofs.Common.{None, refl, sym, ap, ◌∙◌, append_assoc, append-nil, get_or, arith}
 use Rattle.std.proofs.lemmas.List.{drop_more, drop_all}
-use Rattle.example_server.specs.Inline.{after, at_end, begun, continued, piece_at, split, words_in}
+use Rattle.example_server.specs.Inline.{after, at_end, begun, continued, piece_at, split}
 use Rattle.example_server.specs.declared.inline.Place.{Place}
 use Rattle.example_server.specs.declared.inline.Place.TheVariants as place
 use Rattle.example_server.specs.declared.inline.Piece.{Piece}
@@ -11,14 +12,17 @@ Words : Type 0
 Words = List (List ℕ)
 
 -- one more byte of a word
-one_byte : (done : List (List ℕ)) (word : List ℕ) (c : ℕ) (o : Option (List (List ℕ))) → after done (word ++ c ∷ []) o ≡ after done word (continued c o)
+one_byte : (done : List (List ℕ)) (word : List ℕ) (c : ℕ) (o : Option (List (List ℕ)))
+    → after done (word ++ c ∷ []) o ≡ after done word (continued c o)
 one_byte done word c (Some (rest ∷ words)) = ap (λ w. Some (done ++ (w ∷ words))) (append_assoc word (c ∷ []) rest)
 one_byte done word c (Some []) = refl
 one_byte done word c None = refl
 
 -- one more word
-one_word : (done : List (List ℕ)) (word : List ℕ) (o : Option (List (List ℕ))) → after (done ++ word ∷ []) [] o ≡ after done word (begun o)
-one_word done word (Some (rest ∷ words)) = ap (λ ws. Some ws) (append_assoc done (word ∷ []) (rest ∷ words) ∙ ap (λ w. done ++ (w ∷ rest ∷ words)) (sym (append-nil word)))
+one_word : (done : List (List ℕ)) (word : List ℕ) (o : Option (List (List ℕ)))
+    → after (done ++ word ∷ []) [] o ≡ after done word (begun o)
+one_word done word (Some (rest ∷ words)) = ap (λ ws. Some ws) (append_assoc done (word ∷ []) (rest ∷ words)
+    ∙ ap (λ w. done ++ (w ∷ rest ∷ words)) (sym (append-nil word)))
 one_word done word (Some []) = ap (λ w. Some (done ++ (w ∷ []))) (sym (append-nil word))
 one_word done word None = refl
 
@@ -29,7 +33,8 @@ none_yet (Some []) = refl
 none_yet None = refl
 
 -- a byte belongs to the one before
-pub skipped : (done : List (List ℕ)) (word : List ℕ) (q : Place) (skip at : ℕ) (line : List ℕ) → 0 < skip → at < length line
+pub skipped : (done : List (List ℕ)) (word : List ℕ) (q : Place) (skip at : ℕ) (line : List ℕ) → 0 < skip
+    → at < length line
     → after done word (split q (skip - 1) (drop (at + 1) line)) ≡ after done word (split q skip (drop at line))
 skipped done word q zero at line h k = absurd (omega (arith, h))
 skipped done word q (suc skip) at line h k =
@@ -64,28 +69,35 @@ one_piece q at line p k h =
     let e = drop_more line at 0 k in
     ap (split q 0) e ∙ pieces q (get_or line at 0) (drop (at + 1) line) p (sym (ap (piece_at q) e) ∙ h)
 
-pub byte_taken : (done : List (List ℕ)) (word : List ℕ) (q : Place) (skip at : ℕ) (line : List ℕ) (byte more : ℕ) (to : Place) → skip ≡ 0 → at < length line
+pub byte_taken : (done : List (List ℕ)) (word : List ℕ) (q : Place) (skip at : ℕ) (line : List ℕ) (byte more : ℕ)
+    (to : Place) → skip ≡ 0 → at < length line
     → piece_at q (drop at line) ≡ piece.Byte byte more to
-    → after done (word ++ byte ∷ []) (split to more (drop (at + 1) line)) ≡ after done word (split q skip (drop at line))
+    → after done (word ++ byte ∷ []) (split to more (drop (at + 1) line))
+    ≡ after done word (split q skip (drop at line))
 byte_taken done word q skip at line byte more to z k h =
-    one_byte done word byte (split to more (drop (at + 1) line)) ∙ sym (ap (after done word) (ap (λ n. split q n (drop at line)) z ∙ one_piece q at line _ k h))
+    one_byte done word byte (split to more (drop (at + 1) line))
+    ∙ sym (ap (after done word) (ap (λ n. split q n (drop at line)) z ∙ one_piece q at line _ k h))
 
-pub place_taken : (done : List (List ℕ)) (word : List ℕ) (q : Place) (skip at : ℕ) (line : List ℕ) (to : Place) → skip ≡ 0 → at < length line
+pub place_taken : (done : List (List ℕ)) (word : List ℕ) (q : Place) (skip at : ℕ) (line : List ℕ) (to : Place)
+    → skip ≡ 0 → at < length line
     → piece_at q (drop at line) ≡ piece.Goes to
     → after done word (split to skip (drop (at + 1) line)) ≡ after done word (split q skip (drop at line))
 place_taken done word q skip at line to z k h =
     ap (λ n. after done word (split to n (drop (at + 1) line))) z
     ∙ sym (ap (after done word) (ap (λ n. split q n (drop at line)) z ∙ one_piece q at line _ k h))
 
-pub word_ended : (done : List (List ℕ)) (word : List ℕ) (q : Place) (skip at : ℕ) (line : List ℕ) → skip ≡ 0 → at < length line
+pub word_ended : (done : List (List ℕ)) (word : List ℕ) (q : Place) (skip at : ℕ) (line : List ℕ) → skip ≡ 0
+    → at < length line
     → piece_at q (drop at line) ≡ piece.Ends
-    → after (done ++ word ∷ []) [] (split place.Between skip (drop (at + 1) line)) ≡ after done word (split q skip (drop at line))
+    → after (done ++ word ∷ []) [] (split place.Between skip (drop (at + 1) line))
+    ≡ after done word (split q skip (drop at line))
 word_ended done word q skip at line z k h =
     ap (λ n. after (done ++ word ∷ []) [] (split place.Between n (drop (at + 1) line))) z
     ∙ one_word done word (split place.Between 0 (drop (at + 1) line))
     ∙ sym (ap (after done word) (ap (λ n. split q n (drop at line)) z ∙ one_piece q at line _ k h))
 
-pub unbalanced : (done : List (List ℕ)) (word : List ℕ) (q : Place) (skip at : ℕ) (line : List ℕ) → skip ≡ 0 → at < length line
+pub unbalanced : (done : List (List ℕ)) (word : List ℕ) (q : Place) (skip at : ℕ) (line : List ℕ) → skip ≡ 0
+    → at < length line
     → piece_at q (drop at line) ≡ piece.Unbalanced → None ≡ after done word (split q skip (drop at line))
 unbalanced done word q skip at line z k h =
     sym (ap (after done word) (ap (λ n. split q n (drop at line)) z ∙ one_piece q at line _ k h))

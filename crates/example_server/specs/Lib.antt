@@ -8,4 +8,5 @@ pub mod ProtocolErrors
 pub mod Refusals
 pub mod Replies
 pub mod Requests
+pub mod Serving
 pub mod Sessions

@@ -1,7 +1,10 @@
 //! Serving a reader and a writer.
 
-ghost use Rattle.std.specs.Prelude.{OnOk};
+ghost use Rattle.std.specs.Prelude.{◌≡◌, ◌++◌, ℕ, List, IfOk, OnOk};
+ghost use Rattle.std.specs.Option.{option_map};
+ghost use Rattle.example_server.specs.Serving.{Answered, GoesOn, Served, vec_bytes};
 ghost use Rattle.example_server.specs.Sessions.{Replied};
+ghost use Rattle.example_server.specs.declared.session.Session.{Session};
 
 use crate::command::Request;
 use crate::reading::request_of;
@@ -63,7 +66,11 @@ impl Server {
     }
 
     /// Adds what the client sent.
-    pub fn feed(&mut self, bytes: &[u8]) -> RedisResult<()> {
+    #[tactic(auto, using(crate::proofs::Exchanges::fed))]
+    pub fn feed(&mut self, bytes: &[u8]) -> RedisResult<()>
+        ensures fed { OnOk result ((start : Session) (b w : List ℕ) → Served start b w self.old
+            → Served start (b ++ bytes.now) w self.new) }
+    {
         self.requests.feed(bytes)?;
         Ok(())
     }
@@ -80,17 +87,18 @@ impl Server {
     }
 
     /// What is written for the next request, if it is whole and the connection isn't closed.
-    pub fn next_reply(&mut self) -> RedisResult<Option<Vec<u8>>> {
+    #[tactic(auto, using(crate::proofs::Exchanges::answered, crate::proofs::Exchanges::nothing))]
+    pub fn next_reply(&mut self) -> RedisResult<Option<Vec<u8>>>
+        ensures goes_on { IfOk result (λ reply. (start : Session) (b w : List ℕ)
+            → Served start b w self.old
+            → GoesOn start b w self.old self.new (option_map vec_bytes reply)) }
+    {
         if self.is_closed {
             return Ok(None);
         }
         match self.requests.take()? {
             Taken::Unfinished => Ok(None),
-            Taken::Request(words) => {
-                let mut reply = Vec::new(self.alloc);
-                self.reply_to(words, &mut reply)?;
-                Ok(Some(reply))
-            }
+            Taken::Request(words) => Ok(Some(self.reply_to(words)?)),
             Taken::Wrong(why) => {
                 self.is_closed = true;
                 Ok(Some(why.reply(self.alloc)?))
@@ -98,18 +106,24 @@ impl Server {
         }
     }
 
-    /// Appends the reply to a request of these words, if there are any.
-    fn reply_to(&mut self, words: Vec<Bytes>, reply: &mut Vec<u8>) -> RedisResult<()> {
-        if words.is_empty() {
-            return Ok(());
+    /// The reply to a request of these words, if there are any.
+    fn reply_to(&mut self, words: Vec<Bytes>) -> RedisResult<Vec<u8>>
+        ensures answered { IfOk result (λ reply.
+            Answered words.items self.old.session self.new.session reply.items) }
+        ensures kept { self.new.requests ≡ self.old.requests }
+    {
+        let mut reply = Vec::new(self.alloc);
+        if !words.is_empty() {
+            self.append_reply(words_of(self.alloc, words)?, &mut reply)?;
         }
-        self.append_reply(words_of(self.alloc, words)?, reply)
+        Ok(reply)
     }
 
     /// Appends the reply to a request of these words.
     fn append_reply(&mut self, words: Vec<Vec<u8>>, reply: &mut Vec<u8>) -> RedisResult<()>
-        ensures { OnOk result (Replied self.old.session self.new.session reply.old.items
+        ensures replied { OnOk result (Replied self.old.session self.new.session reply.old.items
             reply.new.items) }
+        ensures kept { self.new.requests ≡ self.old.requests }
     {
         let request = request_of(self.alloc, words)?;
         self.is_closed = matches!(&request, Request::Quit);

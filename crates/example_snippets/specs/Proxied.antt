@@ -1,6 +1,6 @@
 -- What a proxy does with a command.
-use Rattle.std.specs.Prelude.{◌≡◌, ℕ, ◌||◌, ◌&&◌, ◌==◌, Bool, true, false, not, nat_le, List, [], ◌∷◌, length, map}
-use Rattle.std.specs.Prelude.{codes, Vec}
+use Rattle.std.specs.Prelude.{◌≡◌, ℕ, ◌||◌, ◌&&◌, ◌==◌, Bool, true, false, not, nat_le, List, [], ◌∷◌, length, codes}
+use Rattle.std.specs.Prelude.{Vec}
 use Rattle.std.specs.Prelude.{if◌then◌else◌}
 use Rattle.std.specs.Str.{str_eq_ignore_ascii_case}
 use Rattle.std.specs.declared.alloc.Global.{Global}
@@ -12,9 +12,6 @@ use Rattle.example_snippets.specs.declared.proxy.commands.Handling.TheVariants a
 
 abbrev pub Word : Type 0
 Word = Vec ℕ Global
-
-abbrev pub args_of : List Word → List (List ℕ)
-args_of words = map (λ word. word.items) words
 
 -- the first word is the text, in any case, or the second
 abbrev pub is_named : List Word → List ℕ → Bool

@@ -2,7 +2,8 @@
 
 ghost use Rattle.std.specs.Prelude.{◌≡◌, OnOk};
 ghost use Rattle.resp_core.specs.Connections.{packed};
-ghost use Rattle.example_snippets.specs.Proxied.{args_of, handling_of};
+ghost use Rattle.resp_core.specs.Arguments.{args_of};
+ghost use Rattle.example_snippets.specs.Proxied.{handling_of};
 ghost use Rattle.example_snippets.specs.Relayed.{Relays};
 ghost use Rattle.example_snippets.specs.declared.proxy.commands.Handling.TheVariants.{Forward, Refuse};
 

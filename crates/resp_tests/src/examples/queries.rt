@@ -4,7 +4,7 @@
 use crate::checks::{Test, assert_answer, assert_debug, assert_text, link};
 use crate::testing::{MemoryLink, command, sent_text};
 use example_snippets::arguments::{fields_of, rename, set_fields};
-use example_snippets::proxy::{forward, hand_on_pushes, relay};
+use example_snippets::proxy::{ClientState, forward, hand_on_pushes, pass_on, relay};
 use example_snippets::redirect::query_redirected;
 use resp_core::{ByteLink, ConnectionLike, ErrorKind, ProtocolVersion, Reading, Value, Writing};
 use std::io::Cursor;
@@ -106,6 +106,93 @@ fn a_proxy_hands_pushes_on(rt: HostRuntime) {
         let sent = client_is_sent(&rt, incoming, protocol);
         assert_eq!(&rt; sent.as_slice(), wanted.as_bytes());
     }
+}
+
+/// A client of a proxy in RESP3, in no transaction.
+const CLIENT: ClientState = ClientState {
+    protocol: ProtocolVersion::RESP3,
+    in_transaction: false,
+    is_closed: false,
+};
+
+/// What a client is sent for these commands where this comes from the server, and what goes there.
+fn assert_passed_on(
+    rt: &impl Test,
+    commands: &[&[&str]],
+    incoming: &str,
+    replies: &str,
+    sent: &str,
+) {
+    let mut upstream = link(rt, incoming.as_bytes());
+    let mut client = CLIENT;
+    let mut shown = Vec::new(rt.alloc());
+    for command in commands {
+        let mut words = Vec::new(rt.alloc());
+        for word in *command {
+            let word = Vec::from_slice(rt.alloc(), word.as_bytes());
+            words.push(word.expect(rt, "memory")).expect(rt, "memory");
+        }
+        let passed = pass_on(
+            rt.alloc(),
+            &mut upstream,
+            &mut client,
+            words.as_slice(),
+            &mut shown,
+        );
+        passed.expect(rt, "a reply");
+        hand_on_pushes(&mut upstream, client.protocol, &mut shown).expect(rt, "memory");
+    }
+    assert_eq!(rt; shown.as_slice(), replies.as_bytes());
+    assert_text(rt, sent_text(rt.alloc(), upstream), sent);
+}
+
+/// The server's replies are recorded ones of a redis-server 7.0.15, the greeting cut short.
+#[test]
+fn a_proxy_refuses_commands_without_a_reply(rt: HostRuntime) {
+    let commands: [&[&str]; 6] = [
+        &["MONITOR"],
+        &["client", "Reply", "OFF"],
+        &["SUBSCRIBE"],
+        &["PSYNC", "?", "-1"],
+        &["CLIENT", "ID"],
+        &["QUIT"],
+    ];
+    assert_passed_on(
+        &rt,
+        &commands,
+        ":7\r\n+OK\r\n",
+        "-ERR this proxy doesn't pass on 'MONITOR'\r\n-ERR this proxy doesn't pass on 'client'\r\n\
+        -ERR this proxy doesn't pass on 'SUBSCRIBE'\r\n-ERR this proxy doesn't pass on 'PSYNC'\r\n\
+        :7\r\n+OK\r\n",
+        "*2\r\n$6\r\nCLIENT\r\n$2\r\nID\r\n*1\r\n$4\r\nQUIT\r\n",
+    );
+}
+
+#[test]
+fn a_proxy_passes_subscriptions_on(rt: HostRuntime) {
+    let commands: [&[&str]; 7] = [
+        &["SUBSCRIBE", "news"],
+        &["SUBSCRIBE", "x"],
+        &["MULTI"],
+        &["SUBSCRIBE", "x"],
+        &["RESET"],
+        &["SUBSCRIBE", "x"],
+        &["HELLO", "3"],
+    ];
+    assert_passed_on(
+        &rt,
+        &commands,
+        ">3\r\n$9\r\nsubscribe\r\n$4\r\nnews\r\n:1\r\n+PONG\r\n\
+        -NOPERM this user has no permissions to run the 'subscribe' command\r\n+PONG\r\n+PONG\r\n\
+        +OK\r\n+RESET\r\n%1\r\n$5\r\nproto\r\n:3\r\n",
+        ">3\r\n$9\r\nsubscribe\r\n$4\r\nnews\r\n:1\r\n\
+        -NOPERM this user has no permissions to run the 'subscribe' command\r\n\
+        +OK\r\n-ERR this proxy doesn't pass on 'SUBSCRIBE'\r\n+RESET\r\n\
+        -ERR this proxy doesn't pass on 'SUBSCRIBE'\r\n%1\r\n$5\r\nproto\r\n:3\r\n",
+        "*2\r\n$9\r\nSUBSCRIBE\r\n$4\r\nnews\r\n*1\r\n$4\r\nPING\r\n\
+        *2\r\n$9\r\nSUBSCRIBE\r\n$1\r\nx\r\n*1\r\n$4\r\nPING\r\n*1\r\n$4\r\nPING\r\n\
+        *1\r\n$5\r\nMULTI\r\n*1\r\n$5\r\nRESET\r\n*2\r\n$5\r\nHELLO\r\n$1\r\n3\r\n",
+    );
 }
 
 #[test]

@@ -1,7 +1,7 @@
-use Rattle.std.proofs.Common.{rules, ◌≡◌, ◌≤◌, ◌+◌, ◌-◌, ℕ, List, [], ◌∷◌, ◌++◌, drop, take, length, Some, sym, ap, ◌∙◌, arith}
+use Rattle.std.proofs.Common.{rules, ◌≡◌, ◌≤◌, ◌+◌, ℕ, List, ◌++◌, drop, length, sym, ap, ◌∙◌}
 use Rattle.std.proofs.lemmas.List.{drop-drop}
 use Rattle.example_server.specs.Lines.{array_of}
-use Rattle.example_server.specs.Requests.{ahead, bulk_strings, in_array, pending}
+use Rattle.example_server.specs.Requests.{ahead, bulk_strings, pending}
 use Rattle.example_server.specs.declared.lines.Array.TheVariants as array
 use Rattle.example_server.proofs.Continuing.{array_taken, array_wrong, new_array, if_takes_same}
 use Rattle.example_server.proofs.requests.Requests.take_array.Goals as goal

@@ -1,4 +1,4 @@
-use Rattle.std.proofs.Common.{rules, ◌≡◌, ◌≤◌, ◌+◌, ◌-◌, ℕ, List, [], ◌∷◌, ◌++◌, drop, take, length, Some, sym, ap, ◌∙◌, arith}
+use Rattle.std.proofs.Common.{rules, ◌≡◌, ◌+◌, ℕ, List, ◌++◌, drop, take, Some, sym, ap, ◌∙◌}
 use Rattle.std.proofs.lemmas.List.{drop-drop}
 use Rattle.example_server.specs.Inline.{words_in}
 use Rattle.example_server.specs.Lines.{line_of}
@@ -17,6 +17,11 @@ returns-in-Some c =
     let l : line_of 10 0 b ≡ line.EndsAt n = ap (line_of 10 0) (sym e) ∙ sym c.first_line.ensures ∙ c.in-EndsAt.is in
     let f : words_in (take n b) ≡ Some words = search (rules, e, c.in_ok-words-in-EndsAt.ensures, c.in-Some.is) in
     let d : drop (n + 1) b ≡ drop (s.at + (n + 1)) s.bytes.items = drop-drop (n + 1) s.at s.bytes.items in (
-      λ i. record { words = c.new.ensures.items i; missing = c.requires.missing i; unread = drop (s.at + (n + 1)) s.bytes.items },
+      λ i. record {
+        words = c.new.ensures.items i;
+        missing = c.requires.missing i;
+        unread = drop (s.at + (n + 1))
+            s.bytes.items;
+      },
       λ more. c.requires.is_inline more ∙ inline_taken n b words l f more ∙ ap (λ x. request words (x ++ more)) d,
     )

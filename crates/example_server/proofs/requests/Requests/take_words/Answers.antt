@@ -1,7 +1,7 @@
-use Rattle.std.proofs.Common.{rules, ◌≡◌, ◌≤◌, ◌+◌, ◌-◌, ℕ, List, [], ◌∷◌, ◌++◌, drop, take, length, sym, ap, ◌∙◌, arith}
+use Rattle.std.proofs.Common.{rules, ◌≡◌, ◌≤◌, ◌+◌, ◌-◌, ℕ, List, [], ◌∷◌, ◌++◌, drop, take, length, sym, ap, ◌∙◌}
 use Rattle.std.proofs.lemmas.List.{drop-drop}
 use Rattle.example_server.specs.Lines.{bulk_string_of}
-use Rattle.example_server.specs.Requests.{bulk_strings, with_words, wrong}
+use Rattle.example_server.specs.Requests.{bulk_strings, with_words}
 use Rattle.example_server.specs.declared.lines.BulkString.TheVariants as bulk
 use Rattle.example_server.proofs.Continuing.{word_taken, word_wrong}
 use Rattle.example_server.proofs.requests.Requests.take_words.Goals as goal
