@@ -13,6 +13,9 @@ use resp_value::{Items, Value};
 use std::alloc::{AllocError, Global};
 use std::mem;
 
+/// How many pairs of an attribute are moved to memory of their own size.
+const FEW_PAIRS: usize = 128;
+
 /// What waits for an element in pairs.
 #[derive(Clone, Copy, Debug)]
 pub(crate) enum Waits {
@@ -113,10 +116,14 @@ fn take_last(pairs: &mut Items<(Value, Value)>, waits: Waits) -> Value
     }
 }
 
-/// The same pairs, in no more memory than they need.
+/// The same pairs: few of them in no more memory than they need, many where they are, so that they
+/// never stand in memory twice.
 fn fitted(alloc: Global, pairs: Items<(Value, Value)>) -> Result<Items<(Value, Value)>, AllocError>
     ensures same { IfOk result (λ fitted. fitted ≡ pairs) }
 {
+    if pairs.len() > FEW_PAIRS {
+        return Ok(pairs);
+    }
     let mut fitted = Vec::with_capacity(alloc, pairs.len())?;
     fitted.append(&mut pairs.into_vec())?;
     Ok(fitted.into())
