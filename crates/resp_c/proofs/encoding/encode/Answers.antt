@@ -1,11 +1,11 @@
 use Rattle.std.proofs.Common.{sym, ◌∙◌}
-use Rattle.resp_c.specs.Packing.{Refuses}
 use Rattle.resp_c.proofs.Tokens.{unknown_refused, made_sends, made_refused}
 use Rattle.resp_c.proofs.encoding.encode.Goals as goal
 
 pub returns-then-not-are_known-clause-refused : goal.returns-then-not-are_known-clause-refused
 returns-then-not-are_known-clause-refused c =
-    unknown_refused c.args.protocol c.args.tokens.now c.args.text.now (sym c.are_known.ensures ∙ c.if-not-are_known.true)
+    unknown_refused c.args.protocol c.args.tokens.now c.args.text.now
+    (sym c.are_known.ensures ∙ c.if-not-are_known.true)
 
 pub returns-clause-sends : goal.returns-clause-sends
 returns-clause-sends c = made_sends c.args.protocol c.in-Some.version c.args.tokens.now c.args.text.now
