@@ -1,5 +1,6 @@
 -- A handle may go to another thread: no part of what it owns, of the parser's lists and of its last
 -- reply, speaks of a thread.
+use mathlib.Core.List.{[], ◌∷◌}
 use mir.Raw.{raw}
 use base.Fraction.{full_share}
 use base.Shift.{Keyless}
