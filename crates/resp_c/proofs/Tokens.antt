@@ -1,8 +1,8 @@
 -- The tokens that C gives.
 use Rattle.std.proofs.Common.{◌≡◌, ℕ, zero, suc, ◌+◌, ◌<◌, ◌==◌, ◌&&◌, add-zero, zero-add, eqb-true, nat_lt, length}
 use Rattle.std.proofs.Common.{Bool, true, false, cond, get_or, map, List, [], ◌∷◌, Option, Some, None}
-use Rattle.std.proofs.Common.{IsSome, IfSome, IfOk, IfErr, Result, Ok, Err, is_some, MatchOption, refl, subst, sym, ap}
-use Rattle.std.proofs.Common.{◌∙◌, arith}
+use Rattle.std.proofs.Common.{IsSome, IfSome, IfOk, IfErr, Result, Ok, Err, is_some, MatchOption, refl, subst, sym}
+use Rattle.std.proofs.Common.{ap, ◌∙◌, arith}
 use Rattle.std.proofs.lemmas.Bool.{and_from, and_parts}
 use Rattle.std.proofs.lemmas.Bool.Decides.{nat_tests}
 use Rattle.std.specs.Fmt.{◌++?◌}
@@ -166,8 +166,8 @@ given_sends protocol version rs x is can =
     s.given.text_is s.given.readable in
     ap is_some (e ∙ ap (λ (v : ProtocolVersion). encoding_in v 1000 s.value) (sym same) ∙ s.encoded)
 
-pub given_known : (protocol : ℕ) (rs : List RespToken) (x : List ℕ) → CanSend protocol rs x → list_all is_known rs
-    ≡ true
+pub given_known : (protocol : ℕ) (rs : List RespToken)
+    (x : List ℕ) → CanSend protocol rs x → list_all is_known rs ≡ true
 given_known protocol rs x can =
     let s = can.1 in
     ap (list_all is_known) s.given.tokens_are ∙ all_known (placed 0 (tokens_of s.value))

@@ -1,5 +1,5 @@
 -- The tokens that C gives, as they are read.
-use Rattle.std.specs.Prelude.{ℕ, nat_lt, Bool, cond, List, [], ◌∷◌, get_or}
+use Rattle.std.specs.Prelude.{nat_lt, Bool, cond, List, [], ◌∷◌, get_or}
 use Rattle.resp_flat.specs.declared.token.Token.{Token}
 use Rattle.resp_flat.specs.declared.token.TokenKind.{TokenKind}
 use Rattle.resp_flat.specs.declared.token.TokenKind.TheVariants as kind

@@ -1,5 +1,4 @@
 use Rattle.std.proofs.Common.{sym, ◌∙◌}
-use Rattle.resp_c.specs.Packing.{Refuses}
 use Rattle.resp_c.proofs.Tokens.{unknown_refused, made_sends, made_refused}
 use Rattle.resp_c.proofs.encoding.encode.Goals as goal
 
