@@ -1,6 +1,7 @@
 -- What bytes of a client are read as: requests one after another, as a server reads them (RESP,
 -- "Sending commands to a Redis server", "Inline commands").
-use Rattle.std.specs.Prelude.{◌≡◌, ℕ, ◌+◌, ◌==◌, zero, suc, List, [], ◌∷◌, ◌++◌, take, drop, Option, Some, None, if◌then◌else◌}
+use Rattle.std.specs.Prelude.{◌≡◌, ℕ, ◌+◌, ◌==◌, zero, suc, List, [], ◌∷◌, ◌++◌, take, drop, Option, Some, None}
+use Rattle.std.specs.Prelude.{if◌then◌else◌}
 use Rattle.example_server.specs.Inline.{words_in}
 use Rattle.example_server.specs.Lines.{line_of, array_of, bulk_string_of}
 use Rattle.example_server.specs.declared.lines.Line.{Line}
