@@ -2,8 +2,10 @@
 
 use crate::rows::{Row, malformed};
 use crate::texts::{add_part, debug_text, quoted};
-use resp_core::{ErrorKind, Parser, ProtocolVersion, RedisResult, Value, parse_redis_value};
-use resp_encode::{as_resp2, encode};
+use resp_core::{
+    ErrorKind, FlatReply, Parser, ProtocolVersion, RedisResult, Value, parse_redis_value,
+};
+use resp_encode::{as_resp2, encode, encode_reply};
 use std::alloc::Global;
 
 /// `encode BYTES`
@@ -27,9 +29,21 @@ pub fn encode_both(alloc: Global, row: &Row) -> RedisResult<String> {
 
 /// The bytes of a value, in quotes.
 fn encoded(alloc: Global, value: &Value, protocol: ProtocolVersion) -> RedisResult<String> {
+    quoted(alloc, bytes_of(alloc, value, protocol)?.as_slice())
+}
+
+/// The bytes of a value, or those of its flat reply where these are others.
+fn bytes_of(alloc: Global, value: &Value, protocol: ProtocolVersion) -> RedisResult<Vec<u8>> {
     let mut out = Vec::new(alloc);
-    encode(value, protocol, &mut out)?;
-    quoted(alloc, out.as_slice())
+    let answer = encode(value, protocol, &mut out);
+    let mut flat = FlatReply::new(alloc);
+    flat.append(value)?;
+    let mut flat_out = Vec::new(alloc);
+    encode_reply(&flat, protocol, &mut flat_out)?;
+    if answer.is_ok() && flat_out.as_slice() == out.as_slice() {
+        return Ok(out);
+    }
+    Ok(flat_out)
 }
 
 /// What the values show that the bytes begin with, where each is the same when it is written and
@@ -75,7 +89,6 @@ fn other_than_form(alloc: Global, value: &Value, again: String) -> RedisResult<O
 
 /// What a value shows that was written and is read again.
 fn read_again(alloc: Global, value: &Value, protocol: ProtocolVersion) -> RedisResult<String> {
-    let mut out = Vec::new(alloc);
-    encode(value, protocol, &mut out)?;
-    debug_text(alloc, &parse_redis_value(alloc, out.as_slice())?)
+    let bytes = bytes_of(alloc, value, protocol)?;
+    debug_text(alloc, &parse_redis_value(alloc, bytes.as_slice())?)
 }
