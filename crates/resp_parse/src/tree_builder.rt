@@ -49,7 +49,8 @@ fn room_for_bytes(alloc: Global, missing: usize) -> Result<Bytes, AllocError>
 /// Builds a tree.
 #[derive(Drop)]
 pub(crate) struct TreeBuilder {
-    /// The elements so far of the innermost open aggregate.
+    /// The elements so far of the innermost open aggregate, and after them a value that is whole and
+    /// not yet kept; where no aggregate is open, that value alone.
     elements: Elements,
     /// Those of the others, the outermost first, after none.
     outer: Vec<Elements>,
@@ -163,6 +164,7 @@ impl Builder for TreeBuilder {
             Some(outer) => mem::replace(&mut self.elements, outer),
             None => mem::replace(&mut self.elements, Elements::Values(Items::new(alloc))),
         };
+        // Most aggregates are arrays: their value isn't handed on as a result.
         match closed.kind {
             ElementsKind::Array => Ok(self.append(Value::Array(elements.into_values(alloc)))?),
             kind => Ok(self.append(kind.value(alloc, elements)?)?),
