@@ -86,6 +86,7 @@ impl<T> Items<T> {
 
 impl<T: Drop> Items<T> {
     /// Adds an element at the end; on `OutOfMemory` the elements stay as they were.
+    #[inline(always)]
     pub fn push(&mut self, item: T) -> Result<(), AllocError>
         ensures ok { OnOk result (self.new ≡ self.old ++ item ∷ []) }
         ensures err { OnErr result (self.new ≡ self.old) }
