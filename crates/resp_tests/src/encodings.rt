@@ -4,10 +4,10 @@
 use crate::checks::{Test, assert_equal, assert_text, reply, text, token};
 use crate::testing::{answer_text, bytes_text};
 use resp_core::{
-    Bytes, FlatReply, Items, ProtocolVersion, PushKind, ServerError, TokenKind, Value,
+    Bytes, FlatReply, Items, ProtocolVersion, PushKind, ServerError, Token, TokenKind, Value,
     VerbatimFormat, is_double_text,
 };
-use resp_encode::{as_resp2, encode, encode_within};
+use resp_encode::{as_resp2, encode, encode_reply, encode_tokens, encode_within};
 
 const REFUSED: &str = "the value has no encoding - Client :1";
 
@@ -147,4 +147,101 @@ fn a_flat_reply_has_its_tokens_and_its_text(rt: HostRuntime) {
     ];
     assert_eq!(rt; flat.tokens.as_slice(), wanted.as_slice());
     assert_eq!(rt; flat.text.as_slice(), b"kminetxt:ab".as_slice());
+}
+
+fn flat_of(rt: &impl Test, bytes: &[u8]) -> FlatReply {
+    let mut flat = FlatReply::new(rt.alloc());
+    flat.append(&reply(rt, bytes)).expect(rt, "memory");
+    flat
+}
+
+/// As `appended`, of tokens and a text.
+fn appended_tokens(
+    rt: &impl Test,
+    tokens: &[Token],
+    text: &[u8],
+    protocol: ProtocolVersion,
+    depth: usize,
+) -> String {
+    let alloc = rt.alloc();
+    let mut out = Vec::from_slice(alloc, b":1").expect(rt, "memory");
+    let answer = answer_text(
+        alloc,
+        encode_tokens(tokens, text, protocol, depth, &mut out),
+    );
+    let bytes = bytes_text(alloc, out.as_slice());
+    format!(in alloc; "{answer} {bytes}").expect(rt, "memory")
+}
+
+#[test]
+fn a_flat_reply_below_the_last_level(rt: HostRuntime) {
+    let flat = flat_of(&rt, b"*2\r\n:1\r\n*1\r\n:2\r\n");
+    let tokens = flat.tokens.as_slice();
+    let whole = "() :1*2\r\n:1\r\n*1\r\n:2\r\n";
+    for protocol in [ProtocolVersion::RESP2, ProtocolVersion::RESP3] {
+        assert_text(&rt, appended_tokens(&rt, tokens, b"", protocol, 0), REFUSED);
+        assert_text(&rt, appended_tokens(&rt, tokens, b"", protocol, 2), REFUSED);
+        assert_text(&rt, appended_tokens(&rt, tokens, b"", protocol, 3), whole);
+    }
+}
+
+/// What is sent for the flat reply of these bytes.
+fn sent_flat(rt: &impl Test, bytes: &[u8], protocol: ProtocolVersion) -> Vec<u8> {
+    let mut out = Vec::new(rt.alloc());
+    encode_reply(&flat_of(rt, bytes), protocol, &mut out).expect(rt, "an encoding");
+    out
+}
+
+#[test]
+fn flat_replies_for_either_client(rt: HostRuntime) {
+    for (bytes, wanted) in FORMS {
+        let own = sent_flat(&rt, bytes, ProtocolVersion::RESP3);
+        assert_eq!(rt; own.as_slice(), *bytes);
+        let form = sent_flat(&rt, bytes, ProtocolVersion::RESP2);
+        assert_eq!(rt; form.as_slice(), *wanted);
+    }
+}
+
+/// RESP2 has no bulk errors, and no attributes.
+#[test]
+fn an_attribute_that_resp2_cannot_spell(rt: HostRuntime) {
+    let flat = sent_flat(
+        &rt,
+        b"|1\r\n+k\r\n!4\r\na\r\nb\r\n:1\r\n",
+        ProtocolVersion::RESP2,
+    );
+    assert_eq!(rt; flat.as_slice(), b":1\r\n".as_slice());
+}
+
+fn assert_no_reply(rt: &impl Test, tokens: &[Token], text: &[u8]) {
+    for protocol in [ProtocolVersion::RESP2, ProtocolVersion::RESP3] {
+        assert_text(
+            rt,
+            appended_tokens(rt, tokens, text, protocol, 100),
+            REFUSED,
+        );
+    }
+}
+
+#[test]
+fn tokens_of_no_reply(rt: HostRuntime) {
+    let int = token(TokenKind::Int, 0, 7, 0);
+    let bulk = token(TokenKind::BulkString, 1, 0, 0);
+    assert_no_reply(&rt, &[], b"");
+    assert_no_reply(&rt, &[int, int], b"");
+    assert_no_reply(&rt, &[int], b"a");
+    assert_no_reply(&rt, &[bulk], b"");
+    assert_no_reply(&rt, &[token(TokenKind::BulkString, 1, 0, 1)], b"aa");
+    assert_no_reply(&rt, &[token(TokenKind::Array, 2, 0, 0), int], b"");
+    assert_no_reply(&rt, &[token(TokenKind::Push, 1, 0, 0), int], b"");
+    assert_no_reply(&rt, &[token(TokenKind::Boolean, 0, 2, 0)], b"");
+}
+
+#[test]
+fn tokens_of_texts_that_no_reply_has(rt: HostRuntime) {
+    assert_no_reply(&rt, &[token(TokenKind::SimpleString, 1, 0, 0)], b"\xFF");
+    assert_no_reply(&rt, &[token(TokenKind::SimpleString, 2, 0, 0)], b"OK");
+    assert_no_reply(&rt, &[token(TokenKind::ServerError, 1, 0, 0)], b"\xFF");
+    assert_no_reply(&rt, &[token(TokenKind::Double, 1, 0, 0)], b"\xFF");
+    assert_no_reply(&rt, &[token(TokenKind::VerbatimString, 1, 0, 0)], b"a");
 }

@@ -2,7 +2,7 @@
 
 use crate::heap::{Test, made, ran_out, refuse};
 use resp_core::{FlatReply, FlatValue, ProtocolVersion, RedisResult, Value, parse_redis_value};
-use resp_encode::{as_resp2, encode, encode_within};
+use resp_encode::{as_resp2, encode, encode_reply, encode_tokens, encode_within};
 
 /// Of types that take memory while they are written, and of others.
 const REPLY: &[u8] =
@@ -44,6 +44,38 @@ fn values_in_resp2(rt: HostRuntime) {
     let mut out = before(&rt);
     refuse(rt.alloc());
     let answer = encode_within(&value, ProtocolVersion::RESP2, 3, &mut out);
+    assert_appended(&rt, &answer, out.as_slice(), IN_RESP2);
+}
+
+/// The flat reply of a value.
+fn flat_of(rt: &impl Test, bytes: &[u8]) -> FlatReply {
+    let mut flat = FlatReply::new(rt.alloc());
+    flat.append(&reply(rt, bytes)).expect(rt, "no refusal");
+    flat
+}
+
+#[test]
+fn flat_replies_in_resp3(rt: HostRuntime) {
+    let flat = flat_of(&rt, REPLY);
+    let mut out = before(&rt);
+    refuse(rt.alloc());
+    let answer = encode_reply(&flat, ProtocolVersion::RESP3, &mut out);
+    assert_appended(&rt, &answer, out.as_slice(), IN_RESP3);
+}
+
+#[test]
+fn tokens_in_resp2(rt: HostRuntime) {
+    let flat = flat_of(&rt, REPLY);
+    let tokens = flat.tokens.as_slice();
+    let mut out = before(&rt);
+    refuse(rt.alloc());
+    let answer = encode_tokens(
+        tokens,
+        flat.text.as_slice(),
+        ProtocolVersion::RESP2,
+        3,
+        &mut out,
+    );
     assert_appended(&rt, &answer, out.as_slice(), IN_RESP2);
 }
 

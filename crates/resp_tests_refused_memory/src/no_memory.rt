@@ -11,10 +11,11 @@ use resp_core::{
     ArgList, ArgWriter, Boxed, ByteLink, Bytes, Cmd, CommandSink, ConnectionLike, Fields,
     FlatParser, FlatReply, FlatValue, FromRedisValue, History, InfoDict, IntegerReplyOrNoOp, Items,
     Limits, NumericBehavior, Parser, Pipeline, ProtocolVersion, PushKind, Reading, RedisWrite,
-    Reply, ReplySource, Text, ToRedisArgs, TokenKind, Value, ValueType, VerbatimFormat, Writing,
-    from_redis_value, from_redis_value_ref, get_push_kind, is_double_text,
+    Reply, ReplySource, Text, ToRedisArgs, Token, TokenKind, Value, ValueType, VerbatimFormat,
+    Writing, from_redis_value, from_redis_value_ref, get_push_kind, is_double_text,
     is_valid_16_bytes_hex_digest, parse_redis_value, pipe, verbatim_format,
 };
+use resp_encode::Tokens;
 use std::alloc::Global;
 use std::collections::BTreeMap;
 
@@ -227,6 +228,22 @@ fn cursors_over_flat_replies(rt: HostRuntime) {
     let list = root.described().expect(&rt, "a value");
     let truth = list.elements().next().expect(&rt, "an element");
     assert!(rt; truth.as_bool() == Some(true));
+    took_none(&rt);
+}
+
+#[test]
+fn tokens_one_after_another(rt: HostRuntime) {
+    let token = Token {
+        kind: TokenKind::Int,
+        size: 0,
+        number: 7,
+        start: 0,
+    };
+    refuse_all(rt.alloc());
+    let list = [token];
+    let mut tokens: &[Token] = &list;
+    assert!(rt; token.may_stand());
+    assert!(rt; tokens.next_token() == Some(token) && tokens.next_token().is_none());
     took_none(&rt);
 }
 
