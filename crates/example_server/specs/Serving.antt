@@ -2,7 +2,7 @@
 use Rattle.std.specs.Prelude.{◌≡◌, ◌⊎◌, ℕ, true, List, [], ◌∷◌, ◌++◌, Option, None, Some, Vec}
 use Rattle.std.specs.declared.alloc.Global.{Global}
 use Rattle.example_server.specs.ProtocolErrors.{told}
-use Rattle.example_server.specs.Requests.{ahead, pending, reading, request, wrong}
+use Rattle.example_server.specs.Requests.{ahead, pending, reading, request, unfinished, wrong}
 use Rattle.example_server.specs.Sessions.{Replied}
 use Rattle.example_server.specs.declared.protocol_error.ProtocolError.{ProtocolError}
 use Rattle.example_server.specs.declared.server.Server.{Server}
@@ -48,10 +48,22 @@ pub record Told (old new : Server) (written : List ℕ) : Type 0 where
   pub told : written ≡ told error
   pub closed : new.is_closed ≡ true
 
--- one more request was answered, or none, since none is whole or the connection is closed
+-- the next request was taken and answered
+pub record AnswersNext (start : Session) (b w : List ℕ) (old new : Server) (written : List ℕ) : Type 0 where
+  pub words : List (List ℕ)
+  pub taken : (more : List ℕ) → ahead (pending old.requests) more
+      ≡ request words ((pending new.requests).unread ++ more)
+  pub served : Served start b (w ++ written) new
+
+-- nothing can be answered: the connection is closed, or no request is whole
+abbrev pub Waits : Server → Type 0
+Waits s = (s.is_closed ≡ true) ⊎ (ahead (pending s.requests) [] ≡ unfinished)
+
+-- one more request is answered, or none, since none can be
 abbrev pub GoesOn : Session → List ℕ → List ℕ → Server → Server → Option (List ℕ) → Type 0
-GoesOn start b w old new None = Served start b w new
-GoesOn start b w old new (Some written) = Served start b (w ++ written) new ⊎ Told old new written
+GoesOn start b w old new None = Waits old × Served start b w new
+GoesOn start b w old new (Some written) =
+    AnswersNext start b w old new written ⊎ Told old new written
 
 abbrev pub vec_bytes : Vec ℕ Global → List ℕ
 vec_bytes v = v.items

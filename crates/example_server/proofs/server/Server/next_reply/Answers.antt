@@ -13,8 +13,12 @@ returns-in_ok-reply_to-in-Request c = record {
       let takes : Takes (ahead (pending old.requests)) (pending c.take.new.self) (taken.Request c.in-Request.words) =
       subst (Takes (ahead (pending old.requests)) (pending c.take.new.self)) c.in-Request.is c.in_ok-take.ensures in
       let kept : pending new.requests ≡ pending c.take.new.self = ap pending c.in_ok-reply_to-in-Request.ensures.kept in
-      inl (answered start b w old new words c.in_ok-reply_to-in-Request.field-0.items served
-      (kept ∙ takes.0 ∙ ap (λ p. between p.unread) (sym kept))
-      (λ more. takes.1 more ∙ ap (λ p. request words (p.unread ++ more)) (sym kept))
-      c.in_ok-reply_to-in-Request.ensures.answered);
+      let taken : (more : List ℕ) → ahead (pending old.requests) more ≡ request words ((pending new.requests).unread ++ more) =
+      λ more. takes.1 more ∙ ap (λ p. request words (p.unread ++ more)) (sym kept) in
+      inl (record {
+        words = words;
+        taken = taken;
+        served = answered start b w old new words c.in_ok-reply_to-in-Request.field-0.items served
+            (kept ∙ takes.0 ∙ ap (λ p. between p.unread) (sym kept)) taken c.in_ok-reply_to-in-Request.ensures.answered;
+      });
 }
