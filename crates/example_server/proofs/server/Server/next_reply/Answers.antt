@@ -13,7 +13,8 @@ returns-in_ok-reply_to-in-Request c = record {
       let takes : Takes (ahead (pending old.requests)) (pending c.take.new.self) (taken.Request c.in-Request.words) =
       subst (Takes (ahead (pending old.requests)) (pending c.take.new.self)) c.in-Request.is c.in_ok-take.ensures in
       let kept : pending new.requests ≡ pending c.take.new.self = ap pending c.in_ok-reply_to-in-Request.ensures.kept in
-      let taken : (more : List ℕ) → ahead (pending old.requests) more ≡ request words ((pending new.requests).unread ++ more) =
+      let taken : (more : List ℕ) → ahead (pending old.requests) more
+      ≡ request words ((pending new.requests).unread ++ more) =
       λ more. takes.1 more ∙ ap (λ p. request words (p.unread ++ more)) (sym kept) in
       inl (record {
         words = words;
