@@ -5,7 +5,7 @@ use mir.Raw.{raw}
 use base.Fraction.{full_share}
 use base.Shift.{Keyless}
 use denote.RattleType.{RattleType}
-use denote.Builtin.{u8, usize, unit}
+use denote.Builtin.{u8, usize}
 use denote.Hole.{as_row}
 use denote.Memory.{lone}
 use denote.Param.Send.{IsSend, sendable, view_send, owning_send, part_keyless}
@@ -114,7 +114,7 @@ machine_send =
 
 -- what a decoder is over this builder
 abbrev decoder_row : RattleType
-decoder_row = decoder.the_row builder.the_row unit reply.the_row flat_builder.ghosts
+decoder_row = decoder.the_row builder.the_row reply.the_row flat_builder.ghosts
 
 decoder_send : IsSend decoder_row
 decoder_send =
@@ -122,7 +122,7 @@ decoder_send =
     let offset = option_send usize (search sendable depth 12) in
     let since = as_row_send history.the_field history_sent.the_send in
     let counts = as_row_send counter.the_field counter_sent.the_send in
-    view_send _ _ _ _ _ (declared_send (decoder_inside.the_type builder.the_row unit reply.the_row flat_builder.ghosts)
+    view_send _ _ _ _ _ (declared_send (decoder_inside.the_type builder.the_row reply.the_row flat_builder.ghosts)
     (search (leaves, machine_send, buffer, offset, since, counts) depth 60))
 
 parser_send : IsSend parser.the_row

@@ -46,7 +46,7 @@ returns-in-Ok-true-clause-first c =
     let took = rw c.in-Ok-true.field-0-test at (c.in-Ok-true.ensures.takes c.args.bytes.now c.in-Ok.ensures.stands) in
     let within = c.in-Ok-true.ensures.limits ∙ c.in-Ok.ensures.limits ∙ c.limits.ensures.limits in
     let rest = c.take_reply.new.self.unparsed in
-    let spelled = took.1.1.0 in
+    let spelled = took.1.1.value in
     let size : length c.args.bytes.now ≡ length spelled.prefix + length rest = ap length spelled.whole
     ∙ length-append spelled.prefix rest in
     FirstOf.value refl (record {
