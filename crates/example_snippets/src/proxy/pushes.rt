@@ -34,7 +34,7 @@ pub fn hand_on_pushes<S: ReplySource, K: CommandSink>(
     ensures unchanged { OnErr result (replies.new.items ≡ replies.old.items) }
     ensures taken { ⟦<ByteLink<S, K> as ConnectionLike>⟧.connection link.new
         ≡ record (⟦<ByteLink<S, K> as ConnectionLike>⟧.connection link.old)
-            { pushes = []; push_bytes = 0 } }
+        { pushes = []; push_bytes = 0 } }
 {
     let pushes = link.take_pushes();
     match protocol {
