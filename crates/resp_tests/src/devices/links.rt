@@ -29,12 +29,16 @@ fn pushes_are_taken_once(rt: HostRuntime) {
 
 #[test]
 fn taken_pushes_leave_room_for_others(rt: HostRuntime) {
-    let bytes = Cursor::new(b">1\r\n+x\r\n:2\r\n>1\r\n+x\r\n:3\r\n>1\r\n+x\r\n:4\r\n".as_slice());
+    let incoming = Vec::from_slice(
+        rt.alloc(),
+        b">1\r\n+x\r\n:2\r\n>1\r\n+x\r\n:3\r\n>1\r\n+x\r\n:4\r\n",
+    );
+    let reader = Cursor::new(incoming.expect(&rt, "memory"));
     let limits = Limits {
         pushes: 8,
         ..Limits::default()
     };
-    let made = ByteLink::with_limits(rt.alloc(), bytes, Vec::new(rt.alloc()), limits);
+    let made = ByteLink::with_limits(rt.alloc(), reader, Vec::new(rt.alloc()), limits);
     let mut link = made.expect(&rt, "limits");
     assert_ping(&rt, &mut link, "2");
     assert!(&rt; link.take_pushes().len() == 1);
