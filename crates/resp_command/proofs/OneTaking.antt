@@ -1,7 +1,7 @@
 -- From any bytes n replies take one thing: there is one, and there is no other.
 use Rattle.std.proofs.Common.{◌≡◌, ℕ, zero, suc, ◌+◌, ◌-◌, ◌<◌, ◌≤◌, Option, None, Some, List, [], ◌∷◌, ◌++◌, length}
 use Rattle.std.proofs.Common.{refl}
-use Rattle.std.proofs.Common.{sym, ap, ◌∙◌, subst, append_assoc, append-nil, length-append, arith, ◌⊎◌, inl, inr}
+use Rattle.std.proofs.Common.{sym, ap, ◌∙◌, subst, append_assoc, length-append, arith, ◌⊎◌, inl, inr}
 use Rattle.std.proofs.lemmas.List.{append_cancel_right}
 use Rattle.resp_value.specs.declared.value.Value.{Value}
 use Rattle.resp_value.specs.declared.value.PushInfo.{PushInfo}
@@ -11,8 +11,8 @@ use Rattle.resp_parse.specs.declared.limits.Limits.{Limits}
 use Rattle.resp_parse.specs.Limited as limited
 use Rattle.resp_parse.specs.Limited.{WellFormedWithin, HasValue, HasFault, Awaits, Found}
 use Rattle.resp_parse.proofs.LimitedReadings.{one_reading, found}
-use Rattle.resp_command.specs.Taken.{as_push, Frame, bytes_of, Aside, aside_of, push_bytes, replies_in, pushes_in}
-use Rattle.resp_command.specs.Taken.{AreFrames, PrefixReads, PushPasses, MeetsFault, in_bytes, too_many_pushes, Taking}
+use Rattle.resp_command.specs.Taken.{as_push, Frame, bytes_of, Aside, aside_of, push_bytes, replies_in}
+use Rattle.resp_command.specs.Taken.{PrefixReads, MeetsFault, in_bytes, too_many_pushes, Taking}
 use Rattle.resp_command.specs.Taken.{took, met_fault, ended_early, TakesAll, TakesFewer, Taken, TakesOneThing}
 use Rattle.resp_command.specs.Taken.{no_pushes}
 use Rattle.resp_command.proofs.PackedReadsBack.{well_formed_some}

@@ -7,10 +7,12 @@ use Rattle.resp_errors.specs.declared.redis_error.RedisError.{RedisError}
 use Rattle.resp_errors.specs.declared.redis_error.RedisError.TheVariants.{Io, Parse, OutOfMemory}
 use Rattle.resp_errors.specs.declared.kinds.IoKind.TheVariants.{UnexpectedEof}
 use Rattle.resp_errors.specs.declared.parsing_error.ParsingError.TheVariants.{Fault}
-use Rattle.resp_command.specs.Call.{Call, CommandCall, Refuses, broken_link, no_command, AnswersReply, Answers, needed}
+use Rattle.resp_command.specs.Call.{Asks, Call, CommandCall, Reconnects, Refuses, AnswersReply, Answers, needed}
+use Rattle.resp_command.specs.Call.{broken_link, no_command, refused, replaced}
 use Rattle.resp_command.specs.Command.{Command}
 use Rattle.resp_command.specs.CommandQuery.{CommandQuery}
-use Rattle.resp_command.specs.Connection.{push_room, Connection, Bytes, ExchangeOf, Exchange, replied, malformed}
+use Rattle.resp_command.specs.Connection.{push_room, Connection, Bytes, ExchangeOf, Exchange, replied}
+use Rattle.resp_command.specs.Connection.{malformed}
 use Rattle.resp_command.specs.Connection.{early_end}
 use Rattle.resp_command.specs.Connection.{sink_failed, source_failed, out_of_memory}
 use Rattle.resp_command.specs.Packed.{packed}
@@ -21,7 +23,8 @@ use Rattle.resp_command.proofs.OneTaking.{takes_one_thing}
 refuses_ok : {A : Type 0} (old new : Connection) (a : A) (f : RedisError) → Refuses old new f (Ok a) → ⊥
 refuses_ok old new a f h = let k = h.answer in cc
 
-module _ {A B : Type 0} (old new : Connection) (q : List ℕ) (n : ℕ) (answers answers' : List Value → Type 0) where
+module _ {A B : Type 0} (new : Connection) (q : List ℕ) (n : ℕ) (answers answers' : List Value → Type 0)
+    (old : Connection) where
   -- the same error, of another type of answers
   exchange_of_err : (bytes : Bytes) (e : RedisError) → ((replies : List Value) → answers replies → ⊥)
       → ExchangeOf {A = A} bytes old new q n (Err e) answers → ExchangeOf {A = B} bytes old new q n (Err e) answers'
@@ -73,6 +76,7 @@ module _ {A B : Type 0} (old new : Connection) (q : List ℕ) (n : ℕ) (answers
   exchange_err : (e : RedisError) → ((replies : List Value) → answers replies → ⊥)
       → Exchange {A = A} old new q n (Err e) answers → Exchange {A = B} old new q n (Err e) answers'
   exchange_err e none h = record {
+    same = h.same;
     arrived = h.arrived;
     gone = h.gone;
     moves = h.moves;
@@ -105,6 +109,7 @@ module _ {A B : Type 0} (old new : Connection) (q : List ℕ) (n : ℕ) (answers
       → ((replies : List Value) → length replies ≡ n → answers replies → answers' replies)
       → Exchange {A = A} old new q n (Ok a) answers → Exchange {A = B} old new q n r answers'
   exchange_ok a r turn h = record {
+    same = h.same;
     arrived = h.arrived;
     gone = h.gone;
     moves = h.moves;
@@ -115,23 +120,60 @@ module _ {A B : Type 0} (old new : Connection) (q : List ℕ) (n : ℕ) (answers
   refuses_err : (e f : RedisError) → Refuses {A = A} old new f (Err e) → Refuses {A = B} old new f (Err e)
   refuses_err e f h = record { answer = (let i : e ≡ f = (let k = h.answer in cc) in ap Err i); same = h.same }
 
-  pub call_err : (IsEmpty : Type 0) (e : RedisError) → ((replies : List Value) → answers replies → ⊥)
-      → Call {A = A} old new IsEmpty q n (Err e) answers → Call {A = B} old new IsEmpty q n (Err e) answers'
-  call_err IsEmpty e none h = record {
-    same = h.same;
-    when_broken = λ b. refuses_err e broken_link (h.when_broken b);
-    when_empty = λ b m. refuses_err e no_command (h.when_empty b m);
-    otherwise = λ b m. exchange_err e none (h.otherwise b m);
+  asks_err : (IsEmpty : Type 0) (e : RedisError) → ((replies : List Value) → answers replies → ⊥)
+      → Asks {A = A} old new IsEmpty q n (Err e) answers → Asks {A = B} old new IsEmpty q n (Err e) answers'
+  asks_err IsEmpty e none h = record {
+    when_empty = λ m. refuses_err e no_command (h.when_empty m);
+    otherwise = λ m. exchange_err e none (h.otherwise m);
   }
 
-  pub call_ok : (IsEmpty : Type 0) (a : A) (r : Result B RedisError)
+  asks_ok : (IsEmpty : Type 0) (a : A) (r : Result B RedisError)
+      → ((replies : List Value) → length replies ≡ n → answers replies → answers' replies)
+      → Asks {A = A} old new IsEmpty q n (Ok a) answers → Asks {A = B} old new IsEmpty q n r answers'
+  asks_ok IsEmpty a r turn h = record {
+    when_empty = λ m. absurd (refuses_ok old new a no_command (h.when_empty m));
+    otherwise = λ m. exchange_ok a r turn (h.otherwise m);
+  }
+
+-- a connection that reconnects, by what is said of the call over the other in its place
+module _ {A B : Type 0} (old new : Connection) (MadeOver MadeOver' : Connection → Type 0)
+    (turn : (other : Connection) → MadeOver other → MadeOver' other) where
+  pub reconnects_err : (e : RedisError) → Reconnects {A = A} old new (Err e) MadeOver
+      → Reconnects {A = B} old new (Err e) MadeOver'
+  reconnects_err e (refused f h) = refused f (refuses_err new [] 0 (λ _. ⊥) (λ _. ⊥) old e f h)
+  reconnects_err e (replaced other works h) = replaced other works (turn other h)
+
+  pub reconnects_ok : (a : A) (r : Result B RedisError) → Reconnects {A = A} old new (Ok a) MadeOver
+      → Reconnects {A = B} old new r MadeOver'
+  reconnects_ok a r (refused f h) = absurd (refuses_ok old new a f h)
+  reconnects_ok a r (replaced other works h) = replaced other works (turn other h)
+
+-- the same answer, by less that is said of the call over the other
+pub reconnects_over : {A : Type 0} (old new : Connection) (r : Result A RedisError)
+    (MadeOver MadeOver' : Connection → Type 0) → ((other : Connection) → MadeOver other → MadeOver' other)
+    → Reconnects old new r MadeOver → Reconnects old new r MadeOver'
+reconnects_over old new r MadeOver MadeOver' turn (refused e h) = refused e h
+reconnects_over old new r MadeOver MadeOver' turn (replaced other works h) = replaced other works (turn other h)
+
+module _ {A B : Type 0} (old new : Connection) (q : List ℕ) (n : ℕ) (answers answers' : List Value → Type 0)
+    (IsEmpty : Type 0) where
+  pub call_err : (e : RedisError) → ((replies : List Value) → answers replies → ⊥)
+      → Call {A = A} old new IsEmpty q n (Err e) answers → Call {A = B} old new IsEmpty q n (Err e) answers'
+  call_err e none h = record {
+    when_broken = λ b same. refuses_err new q n answers answers' old e broken_link (h.when_broken b same);
+    when_lost = λ b again. reconnects_err old new _ _
+        (λ other. asks_err new q n answers answers' other IsEmpty e none) e (h.when_lost b again);
+    when_working = λ b. asks_err new q n answers answers' old IsEmpty e none (h.when_working b);
+  }
+
+  pub call_ok : (a : A) (r : Result B RedisError)
       → ((replies : List Value) → length replies ≡ n → answers replies → answers' replies)
       → Call {A = A} old new IsEmpty q n (Ok a) answers → Call {A = B} old new IsEmpty q n r answers'
-  call_ok IsEmpty a r turn h = record {
-    same = h.same;
-    when_broken = λ b. absurd (refuses_ok old new a broken_link (h.when_broken b));
-    when_empty = λ b m. absurd (refuses_ok old new a no_command (h.when_empty b m));
-    otherwise = λ b m. exchange_ok a r turn (h.otherwise b m);
+  call_ok a r turn h = record {
+    when_broken = λ b same. absurd (refuses_ok old new a broken_link (h.when_broken b same));
+    when_lost = λ b again. reconnects_ok old new _ _
+        (λ other. asks_ok new q n answers answers' other IsEmpty a r turn) a r (h.when_lost b again);
+    when_working = λ b. asks_ok new q n answers answers' old IsEmpty a r turn (h.when_working b);
   }
 
 -- an exchange in which nothing came and nothing was sent
@@ -144,6 +186,12 @@ pub nothing_done : {A : Type 0} {old new : Connection} {q : List ℕ} {n : ℕ} 
     ExchangeOf (record { incoming = old.received ++ []; left = new.received; sent = [] }) old new q n r answers
     → Exchange old new q n r answers
 nothing_done {old = old} {new = new} same h = record {
+  same = record {
+    pipelines = ap (λ (c : Connection). c.pipelines) same;
+    reconnects = ap (λ (c : Connection). c.reconnects) same;
+    limits = ap (λ (c : Connection). c.limits) same;
+    read_size = ap (λ (c : Connection). c.read_size) same;
+  };
   arrived = [];
   gone = [];
   moves = record {

@@ -1,5 +1,5 @@
 -- Frames that are read one after another, and the replies and pushes among them.
-use Rattle.std.proofs.Common.{◌≡◌, ℕ, ◌+◌, ◌≤◌, None, Some, is_none, is_some, List, [], ◌∷◌, ◌++◌, length, filter}
+use Rattle.std.proofs.Common.{◌≡◌, ℕ, ◌+◌, None, Some, is_none, is_some, List, [], ◌∷◌, ◌++◌, length, filter}
 use Rattle.std.proofs.Common.{filter_map, refl, sym}
 use Rattle.std.proofs.Common.{ap, ◌∙◌, append_assoc, append-nil, length-append, arith, rules}
 use Rattle.std.proofs.lemmas.List.{map-append}
@@ -9,7 +9,7 @@ use Rattle.resp_value.specs.declared.names.PushKind.{PushKind}
 use Rattle.resp_parse.specs.declared.limits.Limits.{Limits}
 use Rattle.resp_parse.specs.Limited.{HasValue}
 use Rattle.resp_command.specs.Taken.{as_push, Frame, bytes_of, AreFrames, values_of, replies_in, pushes_in, push_bytes}
-use Rattle.resp_command.specs.Taken.{Aside, aside_of, PrefixReads, EndsAtReply}
+use Rattle.resp_command.specs.Taken.{PrefixReads, EndsAtReply}
 
 -- a push is one
 pub as_push-Push : (kind : PushKind) (payload : List Value)

@@ -9,7 +9,7 @@ use Rattle.resp_value.specs.FirstError.{first_error}
 use Rattle.resp_from.specs.Conversion.{ConvertsCall}
 use Rattle.resp_command.specs.Packed.{packed}
 use Rattle.resp_command.specs.Command.{Command}
-use Rattle.resp_command.specs.Connection.{Connection, SameKind, Exchange}
+use Rattle.resp_command.specs.Connection.{Connection, Exchange}
 
 -- what a connection answers that broke before
 abbrev pub broken_link : RedisError
@@ -25,14 +25,29 @@ pub record Refuses {A : Type 0} (old new : Connection) (e : RedisError)
   pub answer : r ≡ Err e
   pub same : new ≡ old
 
--- the contract of a call that sends q and needs n replies: refused of a broken connection, refused
--- where the command is empty, and else an exchange
+-- a connection that broke and reconnects: no other was had, the call is refused with what that
+-- failed of, and nothing changes; or another that works stands in its place, over which the call is
+-- made
+pub data Reconnects {A : Type 0} (old new : Connection) (r : Result A RedisError)
+    (MadeOver : Connection → Type 0) : Type 0 where
+  refused : (e : RedisError) → Refuses old new e r → Reconnects old new r MadeOver
+  replaced : (other : Connection) → other.broken ≡ false → MadeOver other
+      → Reconnects old new r MadeOver
+
+-- a call over a connection that works: refused where the command is empty, and else an exchange
+pub record Asks {A : Type 0} (old new : Connection) (IsEmpty : Type 0) (q : List ℕ) (n : ℕ)
+    (r : Result A RedisError) (answers : List Value → Type 0) : Type 0 where
+  pub when_empty : IsEmpty → Refuses old new no_command r
+  pub otherwise : (IsEmpty → ⊥) → Exchange old new q n r answers
+
+-- the contract of a call that sends q and needs n replies: refused of a connection that broke, if
+-- it doesn't reconnect
 pub record Call {A : Type 0} (old new : Connection) (IsEmpty : Type 0) (q : List ℕ) (n : ℕ)
     (r : Result A RedisError) (answers : List Value → Type 0) : Type 0 where
-  pub same : SameKind old new
-  pub when_broken : old.broken ≡ true → Refuses old new broken_link r
-  pub when_empty : old.broken ≡ false → IsEmpty → Refuses old new no_command r
-  pub otherwise : old.broken ≡ false → (IsEmpty → ⊥) → Exchange old new q n r answers
+  pub when_broken : old.broken ≡ true → old.reconnects ≡ false → Refuses old new broken_link r
+  pub when_lost : old.broken ≡ true → old.reconnects ≡ true →
+      Reconnects old new r (λ other. Asks other new IsEmpty q n r answers)
+  pub when_working : old.broken ≡ false → Asks old new IsEmpty q n r answers
 
 -- how many replies a command needs
 abbrev pub needed : Command → ℕ

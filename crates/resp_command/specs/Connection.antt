@@ -27,10 +27,13 @@ pub record Connection : Type 0 where
   pub unflushed : Bool
   -- the bytes that came and aren't taken, those of a value in progress included
   pub received : List ℕ
-  -- the pushes that were set aside and aren't taken, and how many bytes spelled them
+  -- the pushes that were set aside and aren't taken, and how many bytes spelled those that were set
+  -- aside since there was none
   pub pushes : List PushInfo
   pub push_bytes : ℕ
   pub broken : Bool
+  -- whether another takes its place, once it broke, before the next request is sent
+  pub reconnects : Bool
   -- how deep and how long the values may be that are read, and how many bytes of pushes are set
   -- aside
   pub limits : Limits
@@ -54,6 +57,7 @@ idle broken = record {
   pushes = [];
   push_bytes = 0;
   broken = broken;
+  reconnects = false;
   limits = usual;
   read_size = 0;
   source_failures = 0;
@@ -74,6 +78,7 @@ pub record SetsAside (old new : Connection) (aside : Aside) : Type 0 where
 -- what no call changes
 pub record SameKind (old new : Connection) : Type 0 where
   pub pipelines : new.pipelines ≡ old.pipelines
+  pub reconnects : new.reconnects ≡ old.reconnects
   pub limits : new.limits ≡ old.limits
   pub read_size : new.read_size ≡ old.read_size
 
@@ -227,6 +232,7 @@ pub data ExchangeOf {A : Type 0} (bytes : Bytes) (old new : Connection) (q : Lis
 -- what was received before and what came, and no more was asked for than they need
 pub record Exchange {A : Type 0} (old new : Connection) (q : List ℕ) (n : ℕ)
     (result : Result A RedisError) (answers : List Value → Type 0) : Type 0 where
+  pub same : SameKind old new
   pub arrived : List ℕ
   pub gone : List ℕ
   pub moves : Moves old new arrived gone

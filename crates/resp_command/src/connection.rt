@@ -3,7 +3,7 @@
 //! The trait lies beside [`Cmd`](crate::Cmd), since each names the other: a connection takes a
 //! command, and a command's query takes a connection.
 
-ghost use Rattle.std.specs.Prelude.{◌≡◌, ◌+◌, Ok, IfOk, length};
+ghost use Rattle.std.specs.Prelude.{◌≡◌, ◌+◌, Ok, IfOk, length, not};
 ghost use Rattle.resp_command.specs.Connection.{Connection};
 ghost use Rattle.resp_command.specs.Call.{Call, CommandCall, PackedCall, AnswersFrom};
 
@@ -16,7 +16,8 @@ use resp_value::{RedisResult, Value};
 /// command, but several packed commands may be none; for a fault of sending or flushing; for a
 /// fault of receiving; for an early end; for bytes that are no reply. `OutOfMemory` may come at any
 /// place. After a refusal of the last four, and on `OutOfMemory` once sending was begun, the
-/// connection is broken permanently.
+/// connection is broken: permanently, unless it is one that reconnects. That has another take its
+/// place before it sends the next request, and sends none twice.
 ///
 /// Pushes that stand before the last reply to a request are set aside, and count as no reply.
 pub trait ConnectionLike {
@@ -47,4 +48,8 @@ pub trait ConnectionLike {
     /// Whether several commands may be sent at once.
     fn supports_pipelining(&self) -> bool
         ensures { result ≡ (connection self.now).pipelines };
+
+    /// Whether the connection isn't broken.
+    fn is_open(&self) -> bool
+        ensures { result ≡ not (connection self.now).broken };
 }

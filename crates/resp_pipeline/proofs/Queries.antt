@@ -4,41 +4,34 @@ use Rattle.std.proofs.Common.{subst, arith}
 use Rattle.resp_value.specs.declared.value.Value.{Value}
 use Rattle.resp_errors.specs.declared.redis_error.RedisError.{RedisError}
 use Rattle.resp_errors.specs.declared.redis_error.RedisError.TheVariants.{OutOfMemory}
-use Rattle.resp_command.specs.Call.{Call, AnswersFrom}
-use Rattle.resp_command.specs.Connection.{push_room, Connection, SameKind, out_of_memory}
+use Rattle.resp_command.specs.Call.{Asks, Call, AnswersFrom, refused}
+use Rattle.resp_command.specs.Connection.{push_room, Connection, out_of_memory}
 use Rattle.resp_command.proofs.OneTaking.{takes_one_thing}
-use Rattle.resp_command.proofs.Queries.{call_err, call_ok, nothing_done}
+use Rattle.resp_command.proofs.Queries.{call_err, call_ok, nothing_done, reconnects_over}
 use Rattle.resp_pipeline.specs.Outcome.{Outcome}
 use Rattle.resp_pipeline.specs.Pipeline.{Plan, request, replies_needed}
 use Rattle.resp_pipeline.specs.PipelineQuery.{PipelineQuery, no_pipelining}
 use Rattle.resp_pipeline.proofs.Requests.{pipeline_reads_only}
 
 module _ {X : Type 0} (old new : Connection) (p : Plan) (Of : Value → X → Type 0) (same : new ≡ old) where
-  same_kind : SameKind old new
-  same_kind = record {
-    pipelines = ap (λ (c : Connection). c.pipelines) same;
-    limits = ap (λ (c : Connection). c.limits) same;
-    read_size = ap (λ (c : Connection). c.read_size) same;
-  }
-
   pub unsupported : old.pipelines ≡ false → PipelineQuery old new p Of (Err no_pipelining)
   unsupported alone = record {
     reads_only = pipeline_reads_only p;
     takes_one = λ arrived. takes_one_thing old.limits (push_room old) (replies_needed p) (old.received ++ arrived);
-    same = same_kind;
     unsupported = λ _. record { answer = refl; same = same };
-    when_broken = λ t _. absurd (let k : true ≡ false = sym t ∙ alone in cc);
-    otherwise = λ t _. absurd (let k : true ≡ false = sym t ∙ alone in cc);
+    when_broken = λ t _ _. absurd (let k : true ≡ false = sym t ∙ alone in cc);
+    when_lost = λ t _ _. absurd (let k : true ≡ false = sym t ∙ alone in cc);
+    when_working = λ t _. absurd (let k : true ≡ false = sym t ∙ alone in cc);
   }
 
   pub not_packed : old.pipelines ≡ true → PipelineQuery old new p Of (Err OutOfMemory)
   not_packed several = record {
     reads_only = pipeline_reads_only p;
     takes_one = λ arrived. takes_one_thing old.limits (push_room old) (replies_needed p) (old.received ++ arrived);
-    same = same_kind;
     unsupported = λ t. absurd (let k : true ≡ false = sym several ∙ t in cc);
-    when_broken = λ _ _. inr (record { answer = refl; same = same });
-    otherwise = λ _ _. nothing_done same (out_of_memory (record {
+    when_broken = λ _ _ _. inr (record { answer = refl; same = same });
+    when_lost = λ _ _ _. refused OutOfMemory (record { answer = refl; same = same });
+    when_working = λ _ _. nothing_done same (out_of_memory (record {
       answer = refl;
       no_failure = record {
         source = ap (λ (c : Connection). c.source_failures) same;
@@ -63,10 +56,10 @@ module _ {X V : Type 0} (items : V → List Value) (old new : Connection) (p : P
       record {
         reads_only = pipeline_reads_only p;
         takes_one = λ arrived. takes_one_thing old.limits (push_room old) (replies_needed p) (old.received ++ arrived);
-        same = h.same;
         unsupported = λ t. absurd (let k : true ≡ false = sym several ∙ t in cc);
-        when_broken = λ _ b. inl (call.when_broken b);
-        otherwise = λ _ b. call.otherwise b (λ k. k);
+        when_broken = λ _ b same. inl (call.when_broken b same);
+        when_lost = λ _ b again. reconnects_over _ _ _ _ _ (λ other asks. asks.otherwise (λ k. k)) (call.when_lost b again);
+        when_working = λ _ b. (call.when_working b).otherwise (λ k. k);
       }
 
   pub pipeline_answered : (v : V) (r : Result X RedisError) → sent ≡ Ok v → Outcome p Of r (items v)
@@ -78,8 +71,8 @@ module _ {X V : Type 0} (items : V → List Value) (old new : Connection) (p : P
       record {
         reads_only = pipeline_reads_only p;
         takes_one = λ arrived. takes_one_thing old.limits (push_room old) (replies_needed p) (old.received ++ arrived);
-        same = h.same;
         unsupported = λ t. absurd (let k : true ≡ false = sym several ∙ t in cc);
-        when_broken = λ _ b. inl (call.when_broken b);
-        otherwise = λ _ b. call.otherwise b (λ k. k);
+        when_broken = λ _ b same. inl (call.when_broken b same);
+        when_lost = λ _ b again. reconnects_over _ _ _ _ _ (λ other asks. asks.otherwise (λ k. k)) (call.when_lost b again);
+        when_working = λ _ b. (call.when_working b).otherwise (λ k. k);
       }

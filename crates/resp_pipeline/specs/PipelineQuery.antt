@@ -4,8 +4,8 @@ use Rattle.resp_value.specs.declared.value.Value.{Value}
 use Rattle.resp_errors.specs.declared.kinds.ErrorKind.TheVariants as kind
 use Rattle.resp_errors.specs.declared.redis_error.RedisError.{RedisError}
 use Rattle.resp_errors.specs.declared.redis_error.RedisError.TheVariants.{General, OutOfMemory}
-use Rattle.resp_command.specs.Call.{Refuses, broken_link}
-use Rattle.resp_command.specs.Connection.{push_room, Connection, SameKind, Exchange}
+use Rattle.resp_command.specs.Call.{Reconnects, Refuses, broken_link}
+use Rattle.resp_command.specs.Connection.{push_room, Connection, Exchange}
 use Rattle.resp_pipeline.specs.Outcome.{Outcome}
 use Rattle.resp_pipeline.specs.Pipeline.{Plan, request, replies_needed}
 use Rattle.resp_pipeline.specs.PipelineLaw.{LawOfPipelines}
@@ -23,10 +23,12 @@ pub record PipelineQuery {X : Type 0} (old new : Connection) (p : Plan)
   pub reads_only : LawOfPipelines p
   pub takes_one : (arrived : List ℕ) → TakesOneThing old.limits (push_room old) (replies_needed p)
       (old.received ++ arrived)
-  pub same : SameKind old new
   pub unsupported : old.pipelines ≡ false → Refuses old new no_pipelining result
   -- memory may run out while the request is built
-  pub when_broken : old.pipelines ≡ true → old.broken ≡ true →
+  pub when_broken : old.pipelines ≡ true → old.broken ≡ true → old.reconnects ≡ false →
       Refuses old new broken_link result ⊎ Refuses old new OutOfMemory result
-  pub otherwise : old.pipelines ≡ true → old.broken ≡ false →
+  pub when_lost : old.pipelines ≡ true → old.broken ≡ true → old.reconnects ≡ true →
+      Reconnects old new result (λ other. Exchange other new (request p) (replies_needed p) result
+      (Outcome p of_value result))
+  pub when_working : old.pipelines ≡ true → old.broken ≡ false →
       Exchange old new (request p) (replies_needed p) result (Outcome p of_value result)
