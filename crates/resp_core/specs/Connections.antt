@@ -1,6 +1,6 @@
 -- What the contracts of commands and connections cite, given out for the crates of users.
-pub use Rattle.resp_command.specs.Call.{Call, CommandCall, PackedCall, Answers, AnswersReply}
-pub use Rattle.resp_command.specs.Call.{Refuses, needed}
+pub use Rattle.resp_command.specs.Call.{Asks, Call, CommandCall, PackedCall, Answers, AnswersReply}
+pub use Rattle.resp_command.specs.Call.{Reconnects, Refuses, needed, refused, replaced}
 pub use Rattle.resp_command.specs.Command.{Command, new_command}
 pub use Rattle.resp_command.specs.CommandQuery.{CommandQuery}
 pub use Rattle.resp_command.specs.Connection.{Connection, Bytes, Exchange, ExchangeOf}

@@ -1,3 +1,5 @@
 pub mod LinkExchanges
+pub mod NamedMessages
+pub mod ReadsMessages
 pub mod Receiving
 pub mod SentSoFar

@@ -1,7 +1,7 @@
 -- A request, and then its replies.
-use Rattle.std.proofs.Common.{◌≡◌, ℕ, ◌+◌, ◌-◌, ◌<◌, ◌≤◌, arith, List, [], ◌∷◌, ◌++◌, length, true, false, Bool}
+use Rattle.std.proofs.Common.{◌≡◌, ℕ, ◌-◌, ◌<◌, arith, List, [], ◌∷◌, ◌++◌, length, true, false, Bool}
 use Rattle.std.proofs.Common.{append-nil, sym, ap, ◌∙◌}
-use Rattle.std.proofs.Common.{refl, subst, Option, None, Some, Result, Ok, Err, inr}
+use Rattle.std.proofs.Common.{refl, subst, Result, Ok, Err, inr}
 use Rattle.std.specs.Io.KnownBytes.{Consumes}
 use Rattle.resp_value.specs.declared.value.Value.{Value}
 use Rattle.resp_errors.specs.declared.kinds.IoKind.{IoKind}
@@ -10,9 +10,9 @@ use Rattle.resp_errors.specs.declared.redis_error.RedisError.{RedisError}
 use Rattle.resp_errors.specs.declared.redis_error.RedisError.TheVariants.{Io}
 use Rattle.resp_parse.specs.Limited.{Awaits}
 use Rattle.resp_parse.specs.declared.limits.Limits.{Limits}
-use Rattle.resp_link.specs.Linking.{connection_of, Exchanges}
+use Rattle.resp_link.specs.Linking.{connection_of}
 use Rattle.resp_link.specs.Sink.{Sink, SendsAll}
-use Rattle.resp_command.specs.Taken.{Taken, took, met_fault, ended_early, Frame, Aside, aside_of, no_pushes, push_bytes}
+use Rattle.resp_command.specs.Taken.{Taken, took, met_fault, ended_early, Frame, aside_of, push_bytes}
 use Rattle.resp_command.specs.Taken.{FollowsPush, MeetsFault, replies_in, all, all_but_last}
 use Rattle.resp_command.proofs.Values.{reads_both}
 use Rattle.resp_link.specs.Receiving.{Inflow, room, Reads, StopsReceiving, Receives, CannotReceive, malformed}
@@ -77,7 +77,7 @@ taken_got n i i' replies r = record {
 -- what came in while this was sent
 module _ (i i' : Inflow) (k k' : Sink) (b b' : Bool) where
   same_kind : i'.limits ≡ i.limits → SameKind (connection_of i k b) (connection_of i' k' b')
-  same_kind limits = record { pipelines = refl; limits = limits; read_size = refl }
+  same_kind limits = record { pipelines = refl; reconnects = refl; limits = limits; read_size = refl }
 
   moves : (arrived : List ℕ) → i'.came ≡ i.came ++ arrived → Consumes i.to_come i'.to_come arrived
       → {q : List ℕ} {r : Result (Unit {0}) IoKind} → (sending : SendsAll k k' q r)
@@ -100,52 +100,48 @@ module _ (i i' : Inflow) (k k' : Sink) (b b' : Bool) where
 -- the request wasn't sent whole
 pub unsent : {A : Type 0} (i : Inflow) (k k' : Sink) (b : Bool) (q : List ℕ) (n : ℕ) (kind : IoKind)
     (answers : List Value → Type 0) →
-    SendsAll k k' q (Err kind) → Exchanges {A = A} (connection_of i k b) (connection_of i k' true) q n (Err (Io kind))
+    SendsAll k k' q (Err kind) → Exchange {A = A} (connection_of i k b) (connection_of i k' true) q n (Err (Io kind))
     answers
 unsent i k k' b q n kind answers sending =
     record {
       same = same_kind i i k k' b true refl;
-      exchange = record {
-        arrived = [];
-        gone = sending.gone;
-        moves = moves i i k k' b true [] (sym (append-nil i.came)) (consumed-nothing i.to_come) sending;
-        needed = needed-none i.limits (room i) n i.received;
-        of = connection.sink_failed (record {
-          sent = sending.part;
-          unread = record { received = refl; came = refl };
-          listed = record { pushes = sym (append-nil i.pushes); bytes = omega arith };
-          broken = refl;
-          source = refl;
-          counted = sending.failures;
-          answer = tt;
-        });
-      };
+      arrived = [];
+      gone = sending.gone;
+      moves = moves i i k k' b true [] (sym (append-nil i.came)) (consumed-nothing i.to_come) sending;
+      needed = needed-none i.limits (room i) n i.received;
+      of = connection.sink_failed (record {
+        sent = sending.part;
+        unread = record { received = refl; came = refl };
+        listed = record { pushes = sym (append-nil i.pushes); bytes = omega arith };
+        broken = refl;
+        source = refl;
+        counted = sending.failures;
+        answer = tt;
+      });
     }
 
 -- the replies came
 pub replied : {A : Type 0} (i i' : Inflow) (k k' : Sink) (b : Bool) (q : List ℕ) (n : ℕ) (replies : List Value)
     (result : Result A RedisError) (answers : List Value → Type 0) →
     SendsAll k k' q (Ok tt) → Receives n i i' replies → answers replies
-    → Exchanges (connection_of i k b) (connection_of i' k' false) q n result answers
+    → Exchange (connection_of i k b) (connection_of i' k' false) q n result answers
 replied i i' k k' b q n replies result answers sending r answer = record {
   same = same_kind i i' k k' b false r.reads.limits;
-  exchange = record {
-    arrived = r.reads.arrived;
-    gone = sending.gone;
-    moves = moves i i' k k' b false r.reads.arrived r.reads.came r.reads.to_come sending;
-    needed = r.reads.needed;
-    of = connection.replied (record {
-      replies = replies;
-      aside = aside_of r.frames;
-      enough = ap length r.replies_are ∙ r.ends.enough;
-      sent = sent_whole i i' k k' b false q _ _ sending;
-      takes = taken_got n i i' replies r;
-      listed = set_aside i i' k k' b false n r.frames i'.received r.reads;
-      usable = refl;
-      no_failure = record { source = r.failures; sink = sending.failures };
-      answer = answer;
-    });
-  };
+  arrived = r.reads.arrived;
+  gone = sending.gone;
+  moves = moves i i' k k' b false r.reads.arrived r.reads.came r.reads.to_come sending;
+  needed = r.reads.needed;
+  of = connection.replied (record {
+    replies = replies;
+    aside = aside_of r.frames;
+    enough = ap length r.replies_are ∙ r.ends.enough;
+    sent = sent_whole i i' k k' b false q _ _ sending;
+    takes = taken_got n i i' replies r;
+    listed = set_aside i i' k k' b false n r.frames i'.received r.reads;
+    usable = refl;
+    no_failure = record { source = r.failures; sink = sending.failures };
+    answer = answer;
+  });
 }
 
 -- fewer replies came than were needed
@@ -245,25 +241,22 @@ module _ (i i' : Inflow) (k k' : Sink) (b : Bool) (q : List ℕ) (n : ℕ) (e : 
 pub unanswered : {A : Type 0} (i i' : Inflow) (k k' : Sink) (b : Bool) (q : List ℕ) (n : ℕ) (e : RedisError)
     (answers : List Value → Type 0) →
     SendsAll k k' q (Ok tt) → CannotReceive n i i' e
-    → Exchanges {A = A} (connection_of i k b) (connection_of i' k' true) q n (Err e) answers
+    → Exchange {A = A} (connection_of i k b) (connection_of i' k' true) q n (Err e) answers
 unanswered i i' k k' b q n e answers sending r = record {
   same = same_kind i i' k k' b true r.reads.limits;
-  exchange = record {
-    arrived = r.reads.arrived;
-    gone = sending.gone;
-    moves = moves i i' k k' b true r.reads.arrived r.reads.came r.reads.to_come sending;
-    needed = r.reads.needed;
-    of = missed i i' k k' b q n e sending r answers r.stops;
-  };
+  arrived = r.reads.arrived;
+  gone = sending.gone;
+  moves = moves i i' k k' b true r.reads.arrived r.reads.came r.reads.to_come sending;
+  needed = r.reads.needed;
+  of = missed i i' k k' b q n e sending r answers r.stops;
 }
 
 -- the call of a command that isn't refused
 pub commanded : {A : Type 0} (old new : Connection) (c : Command) (q : List ℕ) (n : ℕ) (r : Result A RedisError)
     (answers : List Value → Type 0) → old.broken ≡ false → (c.args ≡ [] → ⊥) → q ≡ packed c.args → n ≡ needed c →
-    Exchanges old new q n r answers → Call old new (c.args ≡ []) (packed c.args) (needed c) r answers
+    Exchange old new q n r answers → Call old new (c.args ≡ []) (packed c.args) (needed c) r answers
 commanded old new c q n r answers works some is count h = record {
-  same = h.same;
-  when_broken = λ b. absurd (let k : true ≡ false = sym b ∙ works in cc);
-  when_empty = λ _ none. absurd (some none);
-  otherwise = λ _ _. rw (is, count) at h.exchange;
+  when_broken = λ b _. absurd (let k : true ≡ false = sym b ∙ works in cc);
+  when_lost = λ b _. absurd (let k : true ≡ false = sym b ∙ works in cc);
+  when_working = λ _. record { when_empty = λ none. absurd (some none); otherwise = λ _. rw (is, count) at h };
 }

@@ -1,5 +1,5 @@
 -- Reading on: what was received before, and then what is received next.
-use Rattle.std.proofs.Common.{◌≡◌, ◌≢◌, ℕ, ◌+◌, ◌-◌, ◌<◌, ◌≤◌, Option, List, [], ◌∷◌, ◌++◌, length, drop, refl, sym, ap}
+use Rattle.std.proofs.Common.{◌≡◌, ℕ, ◌+◌, ◌-◌, ◌<◌, ◌≤◌, Option, List, [], ◌∷◌, ◌++◌, length, drop, refl, sym, ap}
 use Rattle.std.proofs.Common.{◌∙◌}
 use Rattle.std.proofs.Common.{subst, append_assoc, append-nil, length-append, arith, Ok, Err, None, Some}
 use Rattle.std.specs.Io.KnownBytes.{Consumes}
@@ -17,7 +17,7 @@ use Rattle.resp_parse.specs.Limited.{HasValue, Awaits}
 use Rattle.resp_parse.proofs.ParserStates.{StandsAfter-from_since, StandsAfter-works, StandsAfter-since}
 use Rattle.resp_parse.proofs.ParserStates.{FailedAfter-since, IsBetweenValues-same}
 use Rattle.resp_command.specs.Taken.{as_push, Frame, Aside, aside_of, replies_in, pushes_in, push_bytes, PrefixReads}
-use Rattle.resp_command.specs.Taken.{FollowsPush, MeetsFault, in_bytes, too_many_pushes, Taken, ended_early, IsShort}
+use Rattle.resp_command.specs.Taken.{FollowsPush, MeetsFault, in_bytes, too_many_pushes, Taken, IsShort}
 use Rattle.resp_command.specs.Taken.{ArrivedAsNeeded}
 use Rattle.resp_command.proofs.KnownBytes.{prefix-longer}
 use Rattle.resp_command.proofs.Values.{reads_nothing, reads_one, reads_both, replies_in-append, pushes_in-append}

@@ -1,4 +1,5 @@
 pub mod Linking
 pub mod LinkStates
+pub mod NextPush
 pub mod Receiving
 pub mod Sink

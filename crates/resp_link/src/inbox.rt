@@ -1,10 +1,14 @@
 //! What comes in over a connection: replies, and pushes between them.
 
-ghost use Rattle.std.specs.Prelude.{◌≡◌, ◌∷◌, [], ◌+◌, OnOk, MatchResult};
+ghost use Rattle.std.specs.Prelude.{◌≡◌, ◌∷◌, [], ◌+◌, false, is_err, OnOk, MatchResult};
 ghost use Rattle.resp_parse.specs.State.{IsBetweenValues};
 ghost use Rattle.resp_link.specs.LinkStates.{inflow_at};
 ghost use Rattle.resp_link.specs.Receiving.{Receives, CannotReceive, Skips};
+ghost use Rattle.resp_link.specs.Linking.{connection_of};
+ghost use Rattle.resp_link.specs.NextPush.{ReadsMessage};
+ghost use Rattle.resp_link.specs.Sink.{Sink};
 
+use crate::messages::message_of;
 use crate::pushes::Pushes;
 use resp_parse::{Parser, ReplySource};
 use resp_value::{PushInfo, RedisResult, Value};
@@ -66,5 +70,16 @@ impl<S: ReplySource> Inbox<S> {
             replies.push(self.next_reply()?)?;
         }
         Ok(replies)
+    }
+    /// The next value, which is to be a message. It is as for a link that breaks on a refusal, over
+    /// any sink.
+    pub(crate) fn next_message(&mut self) -> RedisResult<PushInfo>
+        requires { IsBetweenValues self.old.parser }
+        ensures message { (sink : Sink) → ReadsMessage
+            (connection_of (inflow_at S.source self.old) sink false)
+            (connection_of (inflow_at S.source self.new) sink (is_err result)) result }
+        ensures rest { OnOk result (IsBetweenValues self.new.parser) }
+    {
+        message_of(self.parser.parse_from(&mut self.source)?)
     }
 }

@@ -3,6 +3,7 @@
 
 mod inbox;
 mod link;
+mod messages;
 mod pushes;
 mod sink;
 mod writer_sink;

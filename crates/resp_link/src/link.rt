@@ -9,7 +9,9 @@ ghost use Rattle.resp_parse.specs.Source.{fresh_source};
 ghost use Rattle.resp_link.specs.Sink.{fresh_sink};
 ghost use Rattle.resp_command.specs.Call.{AnswersReply, AnswersFrom, broken_link, no_command};
 ghost use Rattle.resp_link.specs.Receiving.{unread};
-ghost use Rattle.resp_link.specs.Linking.{BetweenUnless, Exchanges, connection_of};
+ghost use Rattle.resp_link.specs.Linking.{BetweenUnless, connection_of};
+ghost use Rattle.resp_link.specs.NextPush.{NextPush};
+ghost use Rattle.resp_command.specs.Connection.{Exchange};
 
 use crate::inbox::Inbox;
 use crate::pushes::Pushes;
@@ -19,6 +21,7 @@ use resp_command::{Cmd, ConnectionLike};
 use resp_parse::{Limits, Parser, Reading, ReplySource};
 use resp_value::{ErrorKind, PushInfo, RedisError, RedisResult, Value};
 use std::alloc::Global;
+use std::collections::VecDeque;
 use std::io::{Read, Write};
 use std::mem;
 
@@ -29,7 +32,8 @@ const KEPT: usize = 4096;
 ///
 /// A call writes its request whole and flushes, then takes the replies. The source is asked, for at
 /// most 4096 bytes a time, only while what was received is no reply yet; later bytes are kept for
-/// the next call. Pushes that come before a reply are set aside, up to the limit on their bytes.
+/// the next call. Pushes that come before a reply are set aside, up to the limit on their bytes;
+/// [`ByteLink::next_push`] waits for one.
 pub struct ByteLink<S, K> {
     alloc: Global,
     inbox: Inbox<S>,
@@ -196,10 +200,11 @@ impl<S: ReplySource, K: CommandSink> ByteLink<S, K> {
     }
 
     /// The pushes that were set aside, the oldest first.
-    pub fn pushes(&self) -> &[PushInfo]
-        ensures { result.now ≡ (⟦<ByteLink<S, K> as ConnectionLike>⟧.connection self.now).pushes }
+    pub fn pushes(&self) -> &VecDeque<PushInfo>
+        ensures { result.now.items
+            ≡ (⟦<ByteLink<S, K> as ConnectionLike>⟧.connection self.now).pushes }
     {
-        self.inbox.pushes.list.as_slice()
+        &self.inbox.pushes.list
     }
 
     /// Hands out the pushes that were set aside, the oldest first, which leaves room for others up
@@ -214,7 +219,39 @@ impl<S: ReplySource, K: CommandSink> ByteLink<S, K> {
         self.inbox.pushes.take(self.alloc)
     }
 
-    /// Whether the link is broken: every further call is refused.
+    /// Waits for a push: hands out the oldest that was set aside, or else reads the next value.
+    /// Sends nothing.
+    ///
+    /// Under RESP2 a subscriber is sent arrays in place of pushes. While nothing is asked, an array
+    /// whose first element is the bulk string `message`, `subscribe` or `unsubscribe`, or one of
+    /// these after `p` or `s`, is answered as the push of that kind would be.
+    ///
+    /// Any other value is a reply that nobody asked for: it is refused with kind `Io`, `reply
+    /// without a request`, and the link is then broken, since a later command might take such a
+    /// reply for its own. Bytes that are no value, an early end and a failure of the source are
+    /// refused as after a command, and break the link too; so does `OutOfMemory`. A broken link is
+    /// refused with `link is broken`, once no push is left.
+    ///
+    /// The bytes of pushes that were set aside count for the limit on them until the last of them
+    /// is handed out. A push that is read here counts for nothing.
+    pub fn next_push(&mut self) -> RedisResult<PushInfo>
+        ensures { NextPush (⟦<ByteLink<S, K> as ConnectionLike>⟧.connection self.old)
+            (⟦<ByteLink<S, K> as ConnectionLike>⟧.connection self.new) result }
+    {
+        if let Some(push) = self.inbox.pushes.take_oldest() {
+            return Ok(push);
+        }
+        if self.broken {
+            return Err(link_is_broken());
+        }
+        self.broken = true;
+        let push = self.inbox.next_message()?;
+        self.broken = false;
+        Ok(push)
+    }
+
+    /// Whether the link is broken: it still hands out the pushes that were set aside, and refuses
+    /// every other call.
     pub fn is_broken(&self) -> bool
         ensures { result ≡ (⟦<ByteLink<S, K> as ConnectionLike>⟧.connection self.now).broken }
     {
@@ -252,7 +289,7 @@ impl<S: ReplySource, K: CommandSink> ByteLink<S, K> {
     /// Sends the request of a command, and takes its reply where one is waited for.
     fn exchange(&mut self, bytes: Vec<u8>, no_response: bool) -> RedisResult<Value>
         requires { self.old.broken ≡ false }
-        ensures exchanged { Exchanges
+        ensures exchanged { Exchange
             (connection_at S.source K.sink self.old)
             (connection_at S.source K.sink self.new)
             bytes.items (if no_response then 0 else 1) result (AnswersReply (λ reply. result ≡ Ok reply)) }
@@ -279,7 +316,7 @@ impl<S: ReplySource, K: CommandSink> ByteLink<S, K> {
     /// Sends a request that needs no reply.
     fn exchange_none(&mut self, bytes: &[u8]) -> RedisResult<Value>
         requires { self.old.broken ≡ false }
-        ensures exchanged { Exchanges
+        ensures exchanged { Exchange
             (connection_at S.source K.sink self.old)
             (connection_at S.source K.sink self.new)
             bytes.now 0 result (AnswersReply (λ reply. result ≡ Ok reply)) }
@@ -293,7 +330,7 @@ impl<S: ReplySource, K: CommandSink> ByteLink<S, K> {
     /// Sends a request and takes its reply.
     fn exchange_one(&mut self, bytes: &[u8]) -> RedisResult<Value>
         requires { self.old.broken ≡ false }
-        ensures exchanged { Exchanges
+        ensures exchanged { Exchange
             (connection_at S.source K.sink self.old)
             (connection_at S.source K.sink self.new)
             bytes.now 1 result (AnswersReply (λ reply. result ≡ Ok reply)) }
@@ -314,7 +351,7 @@ impl<S: ReplySource, K: CommandSink> ByteLink<S, K> {
     ) -> RedisResult<Vec<Value>>
         requires { self.old.broken ≡ false }
         ensures counted { IfOk result (λ vs. length vs.items ≡ count) }
-        ensures exchanged { Exchanges
+        ensures exchanged { Exchange
             (connection_at S.source K.sink self.old)
             (connection_at S.source K.sink self.new)
             bytes.now (offset + count) result (AnswersFrom (λ vs. vs.items) offset result) }
@@ -370,6 +407,10 @@ impl<S: ReplySource, K: CommandSink> ConnectionLike for ByteLink<S, K> {
 
     fn supports_pipelining(&self) -> bool {
         true
+    }
+
+    fn is_open(&self) -> bool {
+        !self.broken
     }
 }
 

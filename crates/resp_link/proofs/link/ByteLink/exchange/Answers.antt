@@ -1,4 +1,4 @@
-use Rattle.std.proofs.Common.{rules, sym}
+use Rattle.std.proofs.Common.{sym}
 use Rattle.resp_link.proofs.link.ByteLink.exchange.Goals as goal
 
 pub returns-then-no_response : goal.returns-then-no_response
