@@ -1,6 +1,6 @@
 //! What transactions come to that a server doesn't run, or that fail.
 
-ghost use Rattle.std.specs.Prelude.{IfOk};
+ghost use Rattle.std.specs.Prelude.{◌≡◌, IfOk, Ok};
 ghost use Rattle.resp_core.specs.Pipelines.{PipelineQuery};
 ghost use Rattle.example_session.specs.Transactions.{answer_of};
 
@@ -42,11 +42,20 @@ fn query(transaction: &Pipeline, con: &mut dyn ConnectionLike) -> RedisResult<Ou
 {
     let answer: RedisResult<Option<()>> = transaction.query(con);
     match answer {
-        Ok(Some(())) => Ok(Outcome::Done),
-        Ok(None) => Ok(Outcome::Overtaken),
+        Ok(done) => Ok(outcome_of(done)),
         Err(RedisError::Aborted(causes)) => Ok(Outcome::Refused(causes)),
         Err(RedisError::Pipeline(errors)) => Ok(Outcome::Failed(errors)),
         Err(error) => Err(error),
+    }
+}
+
+/// The outcome of a transaction whose commands were taken.
+fn outcome_of(done: Option<()>) -> Outcome
+    ensures { answer_of result ≡ Ok done }
+{
+    match done {
+        Some(()) => Outcome::Done,
+        None => Outcome::Overtaken,
     }
 }
 

@@ -1,0 +1,7 @@
+pub mod Greeted
+pub mod Greetings
+pub mod LookUps
+pub mod ReadSettings
+pub mod Replaced
+pub mod Slashes
+pub mod Working

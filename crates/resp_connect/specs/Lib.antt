@@ -1,0 +1,12 @@
+pub mod Addresses
+pub mod Answers
+pub mod Greeting
+pub mod Pools
+pub mod Protocols
+pub mod Queries
+pub mod Reconnecting
+pub mod Refusals
+pub mod Schemes
+pub mod Shown
+pub mod Steps
+pub mod Targets
