@@ -14,4 +14,4 @@ trap 'kill "$server"; rm -r "$work"' EXIT
 sleep 1
 mkfifo "$work/replies"
 (sleep 1; redis-cli -p "$port" publish news hello; sleep 1; redis-cli -p "$port" publish news bye) > /dev/null &
-"$program" news 4 < "$work/replies" | socat - "TCP:127.0.0.1:$port" > "$work/replies"
+"$program" news 3 < "$work/replies" | socat - "TCP:127.0.0.1:$port" > "$work/replies"

@@ -1,6 +1,4 @@
-//! A subscriber, over a link that sets pushes aside.
-
-ghost use Rattle.std.specs.Prelude.{◌≡◌, [], OnOk};
+//! A subscriber, over a link that waits for pushes.
 
 use resp_core::{
     ByteLink, ConnectionLike, PushInfo, PushKind, Reading, RedisResult, Value, Writing, cmd,
@@ -19,17 +17,6 @@ pub fn subscribe(alloc: Global, con: &mut dyn ConnectionLike, channel: &str) -> 
         .arg(channel)?
         .set_no_response(true)
         .exec(con)
-}
-
-/// Lets a second pass at the server, and takes the pushes that came before its reply, and those
-/// that were there; none is left.
-pub fn pushes_of_a_round(alloc: Global, link: &mut Link) -> RedisResult<Vec<PushInfo>>
-    ensures taken { OnOk result
-        ((⟦<ByteLink<Reading<Stdin>, Writing<Stdout>> as ConnectionLike>⟧.connection
-        link.new).pushes ≡ []) }
-{
-    cmd(alloc, "BLPOP")?.arg(("idle", 1))?.exec(link)?;
-    Ok(link.take_pushes())
 }
 
 /// The text of a message, if the push is one: it holds the channel and the text.

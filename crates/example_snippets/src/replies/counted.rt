@@ -65,4 +65,8 @@ impl ConnectionLike for Counted {
     fn supports_pipelining(&self) -> bool {
         self.link.supports_pipelining()
     }
+
+    fn is_open(&self) -> bool {
+        self.link.is_open()
+    }
 }
