@@ -125,3 +125,33 @@ fn packed_commands(rt: HostRuntime) {
         asks_several(&rt, *offset, *count, wanted);
     }
 }
+
+/// Messages: a push, and the array that RESP2 has in its place; `:7` follows.
+const MESSAGES: &[(&[u8], &str)] = &[
+    (
+        b">2\r\n+message\r\n$3\r\nabc\r\n:7\r\n",
+        "Ok(PushInfo { kind: Message, payload: [bulk-string('\"abc\"')] })",
+    ),
+    (
+        b"*2\r\n$7\r\nmessage\r\n$3\r\nabc\r\n:7\r\n",
+        "Ok(PushInfo { kind: Message, payload: [bulk-string('\"abc\"')] })",
+    ),
+];
+
+/// The next push is this, and 7 is answered after it; or memory ran out, and the link is broken.
+fn next_is(rt: &impl Test, incoming: &[u8], wanted: &str) {
+    let mut con = link(rt, incoming);
+    refuse(rt.alloc());
+    let push = con.next_push();
+    let is_refused = push.is_err();
+    shows(rt, push, wanted);
+    equal(rt, con.is_broken(), is_refused);
+    assert!(rt; is_refused || is_seven(rt, &mut con) == Some(true));
+}
+
+#[test]
+fn next_pushes_that_come(rt: HostRuntime) {
+    for (incoming, wanted) in MESSAGES {
+        next_is(&rt, incoming, wanted);
+    }
+}

@@ -318,7 +318,7 @@ fn pushed(rt: &impl Test) -> Link {
 
 /// Whether the link is usable, and has set a push aside.
 fn is_pushed(con: &Link) -> bool {
-    !con.is_broken() && con.supports_pipelining() && con.pushes().len() == 1
+    !con.is_broken() && con.is_open() && con.supports_pipelining() && con.pushes().len() == 1
 }
 
 #[test]
@@ -328,6 +328,16 @@ fn links(rt: HostRuntime) {
     assert!(rt; is_pushed(&con));
     assert!(rt; con.limits() == Limits::default() && con.depth_limit() == 100);
     equal(&rt, con.take_pushes().len(), 1);
+    took_none(&rt);
+}
+
+#[test]
+fn next_pushes(rt: HostRuntime) {
+    let mut con = pushed(&rt);
+    refuse_all(rt.alloc());
+    let push = con.next_push().expect(&rt, "a push");
+    equal(&rt, push.payload.len(), 0);
+    assert!(rt; con.pushes().is_empty());
     took_none(&rt);
 }
 

@@ -1,26 +1,24 @@
-//! Links in memory: pushes that are taken, many pushes, and their limits.
+//! Links in memory: pushes that are taken or waited for, many pushes, and their limits.
 
-use crate::checks::{Test, assert_answer, assert_text, link};
+use crate::checks::{Test, assert_answer, assert_debug, link};
 use crate::devices::checks::assert_ping;
-use crate::testing::{command, debug_text};
-use resp_core::{ByteLink, Limits, Parser, PushInfo, PushKind, Reading, RedisResult, Writing};
-use std::io::Cursor;
-
-/// These are the pushes.
-fn assert_pushes(rt: &impl Test, pushes: &[PushInfo], wanted: &str) {
-    assert_text(rt, debug_text(rt.alloc(), &pushes), wanted);
-}
+use crate::testing::{Device, MemoryLink, command};
+use resp_core::{
+    ByteLink, CommandSink, Limits, Parser, PushInfo, PushKind, Reading, RedisResult, ReplySource,
+    Writing,
+};
+use std::io::{Cursor, ErrorKind};
 
 #[test]
 fn pushes_are_taken_once(rt: HostRuntime) {
     let mut link = link(&rt, b">2\r\n+message\r\n+c\r\n:2\r\n>0\r\n:9\r\n");
     assert_ping(&rt, &mut link, "2");
     let message = "[PushInfo { kind: Message, payload: [simple-string(\"c\")] }]";
-    assert_pushes(&rt, link.pushes(), message);
-    assert_pushes(&rt, link.take_pushes().as_slice(), message);
-    assert_pushes(&rt, link.pushes(), "[]");
+    assert_debug(&rt, link.pushes(), message);
+    assert_debug(&rt, &link.take_pushes(), message);
+    assert_debug(&rt, link.pushes(), "[]");
     assert_ping(&rt, &mut link, "9");
-    assert_pushes(
+    assert_debug(
         &rt,
         link.pushes(),
         "[PushInfo { kind: Other(\"\"), payload: [] }]",
@@ -29,17 +27,8 @@ fn pushes_are_taken_once(rt: HostRuntime) {
 
 #[test]
 fn taken_pushes_leave_room_for_others(rt: HostRuntime) {
-    let incoming = Vec::from_slice(
-        rt.alloc(),
-        b">1\r\n+x\r\n:2\r\n>1\r\n+x\r\n:3\r\n>1\r\n+x\r\n:4\r\n",
-    );
-    let reader = Cursor::new(incoming.expect(&rt, "memory"));
-    let limits = Limits {
-        pushes: 8,
-        ..Limits::default()
-    };
-    let made = ByteLink::with_limits(rt.alloc(), reader, Vec::new(rt.alloc()), limits);
-    let mut link = made.expect(&rt, "limits");
+    let incoming = b">1\r\n+x\r\n:2\r\n>1\r\n+x\r\n:3\r\n>1\r\n+x\r\n:4\r\n";
+    let mut link = limited(&rt, incoming, 8);
     assert_ping(&rt, &mut link, "2");
     assert!(&rt; link.take_pushes().len() == 1);
     assert_ping(&rt, &mut link, "3");
@@ -105,4 +94,183 @@ fn a_query_over_a_link_of_one_level(rt: HostRuntime) {
     let mut link = link.expect(&rt, "a limit");
     let get = command(rt.alloc(), &["GET", "k"]).expect(&rt, "memory");
     assert_answer(&rt, get.query::<i64>(&mut link), "5");
+}
+
+/// The calls of `next_push` answer this: pushes and refusals.
+fn assert_next<S: ReplySource, K: CommandSink>(
+    rt: &impl Test,
+    link: &mut ByteLink<S, K>,
+    wanted: &[&str],
+) {
+    for text in wanted {
+        assert_answer(rt, link.next_push(), text);
+    }
+}
+
+/// A link over bytes that come so many at a time.
+fn in_pieces(
+    rt: &impl Test,
+    incoming: &'static [u8],
+    each: usize,
+) -> ByteLink<Reading<Device>, Writing<Vec<u8>>> {
+    let reader = Device::new(rt.alloc(), incoming, each);
+    ByteLink::new(rt.alloc(), reader, Vec::new(rt.alloc()))
+}
+
+/// Where nothing was asked these bytes are answered so, in any pieces, and nothing is sent.
+fn assert_unasked(rt: &impl Test, incoming: &'static [u8], wanted: &[&str]) {
+    for each in [1, 2, usize::MAX] {
+        let mut link = in_pieces(rt, incoming, each);
+        assert_next(rt, &mut link, wanted);
+        let (_source, sink) = link.into_ends();
+        assert!(rt; sink.into_inner().is_empty());
+    }
+}
+
+const BROKEN: &str = "link is broken - Io";
+
+/// The specification's push.
+const PUSH: &[u8] = b">3\r\n+message\r\n+somechannel\r\n+this is the message\r\n";
+
+const MESSAGE: &str = "PushInfo { kind: Message, payload: \
+    [simple-string(\"somechannel\"), simple-string(\"this is the message\")] }";
+
+#[test]
+fn a_push_is_waited_for(rt: HostRuntime) {
+    assert_unasked(&rt, PUSH, &[MESSAGE, "UnexpectedEof", BROKEN]);
+    for cut in 0..PUSH.len() {
+        assert_unasked(&rt, &PUSH[..cut], &["UnexpectedEof", BROKEN]);
+    }
+    assert_unasked(&rt, b">3\r\n?", &["UnknownType", BROKEN]);
+}
+
+/// Arrays to a subscriber under RESP2, and the pushes that they are.
+const ARRAYS: &[(&[u8], &str)] = &[
+    (
+        b"*3\r\n$9\r\nsubscribe\r\n$5\r\nfirst\r\n:1\r\n",
+        "PushInfo { kind: Subscribe, payload: [bulk-string('\"first\"'), int(1)] }",
+    ),
+    (
+        b"*3\r\n$7\r\nmessage\r\n$6\r\nsecond\r\n$5\r\nHello\r\n",
+        "PushInfo { kind: Message, payload: \
+            [bulk-string('\"second\"'), bulk-string('\"Hello\"')] }",
+    ),
+    (
+        b"*4\r\n$8\r\npmessage\r\n$1\r\n*\r\n$6\r\nsecond\r\n$5\r\nHello\r\n",
+        "PushInfo { kind: PMessage, payload: \
+            [bulk-string('\"*\"'), bulk-string('\"second\"'), bulk-string('\"Hello\"')] }",
+    ),
+    (
+        b"*3\r\n$11\r\nunsubscribe\r\n$-1\r\n:0\r\n",
+        "PushInfo { kind: Unsubscribe, payload: [nil, int(0)] }",
+    ),
+    (
+        b"*3\r\n$10\r\nssubscribe\r\n$5\r\nfirst\r\n:1\r\n",
+        "PushInfo { kind: SSubscribe, payload: [bulk-string('\"first\"'), int(1)] }",
+    ),
+];
+
+#[test]
+fn messages_under_resp2(rt: HostRuntime) {
+    for (incoming, wanted) in ARRAYS {
+        assert_unasked(&rt, *incoming, &[*wanted, "UnexpectedEof", BROKEN]);
+    }
+}
+
+/// Values that are no messages: among them arrays of another name, or whose name is no bulk string.
+const REPLIES: &[&[u8]] = &[
+    b":7\r\n",
+    b"+message\r\n",
+    b"$7\r\nmessage\r\n",
+    b"-ERR x\r\n",
+    b"*0\r\n",
+    b"*-1\r\n",
+    b"*1\r\n+message\r\n",
+    b"*1\r\n$4\r\npong\r\n",
+    b"*1\r\n$10\r\ninvalidate\r\n",
+    b"*1\r\n$1\r\n\xFF\r\n",
+    b"~1\r\n$7\r\nmessage\r\n",
+    b"|1\r\n+a\r\n+b\r\n>1\r\n+x\r\n",
+];
+
+#[test]
+fn replies_without_a_request(rt: HostRuntime) {
+    let refused = "reply without a request - Io";
+    for reply in REPLIES {
+        assert_unasked(&rt, *reply, &[refused, BROKEN]);
+    }
+    let mut link = link(&rt, b">1\r\n+x\r\n:7\r\n:8\r\n");
+    assert_next(&rt, &mut link, &[X, refused]);
+    assert_ping(&rt, &mut link, BROKEN);
+    assert!(rt; link.is_broken());
+}
+
+const X: &str = "PushInfo { kind: Other(\"x\"), payload: [] }";
+
+const Y: &str = "PushInfo { kind: Other(\"y\"), payload: [] }";
+
+#[test]
+fn pushes_that_were_set_aside_come_first(rt: HostRuntime) {
+    let mut link = link(
+        &rt,
+        b">1\r\n+x\r\n>1\r\n+y\r\n>1\r\n+x\r\n:1\r\n>1\r\n+y\r\n?",
+    );
+    assert_ping(&rt, &mut link, "1");
+    assert_next(&rt, &mut link, &[X]);
+    let left = "[PushInfo { kind: Other(\"y\"), payload: [] }, \
+        PushInfo { kind: Other(\"x\"), payload: [] }]";
+    assert_debug(&rt, link.pushes(), left);
+    assert_debug(&rt, &link.take_pushes(), left);
+    assert_next(&rt, &mut link, &[Y, "UnknownType", BROKEN]);
+}
+
+#[test]
+fn pushes_of_a_broken_link(rt: HostRuntime) {
+    let mut link = link(&rt, b">1\r\n+x\r\n>1\r\n+y\r\n?");
+    assert_ping(&rt, &mut link, "UnknownType");
+    assert_next(&rt, &mut link, &[X, Y, BROKEN]);
+}
+
+/// A link that sets so many bytes of pushes aside.
+fn limited(rt: &impl Test, incoming: &[u8], pushes: usize) -> MemoryLink {
+    let incoming = Vec::from_slice(rt.alloc(), incoming).expect(rt, "memory");
+    let limits = Limits {
+        pushes,
+        ..Limits::default()
+    };
+    let sent = Vec::new(rt.alloc());
+    ByteLink::with_limits(rt.alloc(), Cursor::new(incoming), sent, limits).expect(rt, "limits")
+}
+
+/// Three pushes of 8 bytes, and replies.
+const LIMITED: &[u8] = b">1\r\n+x\r\n>1\r\n+y\r\n:1\r\n>1\r\n+x\r\n:2\r\n";
+
+#[test]
+fn a_push_that_is_waited_for_needs_no_room(rt: HostRuntime) {
+    let mut link = limited(&rt, LIMITED, 0);
+    assert_next(&rt, &mut link, &[X, Y]);
+    assert_ping(&rt, &mut link, "1");
+    assert_ping(&rt, &mut link, "TooManyPushes");
+}
+
+#[test]
+fn the_last_push_leaves_room_for_others(rt: HostRuntime) {
+    let mut link = limited(&rt, LIMITED, 16);
+    assert_ping(&rt, &mut link, "1");
+    assert_next(&rt, &mut link, &[X, Y]);
+    assert_ping(&rt, &mut link, "2");
+    let mut link = limited(&rt, LIMITED, 16);
+    assert_ping(&rt, &mut link, "1");
+    assert_next(&rt, &mut link, &[X]);
+    assert_ping(&rt, &mut link, "TooManyPushes");
+    assert_next(&rt, &mut link, &[Y, BROKEN]);
+}
+
+#[test]
+fn a_source_that_fails_while_a_push_is_waited_for(rt: HostRuntime) {
+    for at in [1, 2] {
+        let reader = Device::failing(rt.alloc(), PUSH, 9, at, Some(ErrorKind::TimedOut));
+        let mut link = ByteLink::new(rt.alloc(), reader, Vec::new(rt.alloc()));
+        assert_next(&rt, &mut link, &["TimedOut", BROKEN]);
+    }
 }

@@ -61,6 +61,10 @@ impl ConnectionLike for OneByOne {
     fn supports_pipelining(&self) -> bool {
         false
     }
+
+    fn is_open(&self) -> bool {
+        true
+    }
 }
 
 /// A visit is answered this.
