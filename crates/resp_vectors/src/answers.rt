@@ -2,7 +2,9 @@
 
 use crate::rows::{Row, malformed};
 use crate::texts::escaped;
-use crate::{commands, conversions, encodings, errors, names, program, queries, replies, scans};
+use crate::{
+    commands, connecting, conversions, encodings, errors, names, program, queries, replies, scans,
+};
 use resp_core::RedisResult;
 use std::alloc::Global;
 
@@ -29,6 +31,9 @@ fn plain_answer(alloc: Global, row: &Row) -> RedisResult<String> {
 
 fn other_answer(alloc: Global, row: &Row) -> RedisResult<String> {
     match row.task() {
+        "address" => connecting::address(alloc, row),
+        "greet" => connecting::greeting(alloc, row),
+        "reconnect" => connecting::reconnect(alloc, row),
         "encode" => encodings::encode_both(alloc, row),
         "error" => errors::error(alloc, row),
         "first-error" => errors::first_error(alloc, row),

@@ -8,6 +8,7 @@
 
 mod answers;
 mod commands;
+mod connecting;
 mod conversions;
 mod encodings;
 mod errors;
