@@ -1,0 +1,44 @@
+//! Slots of keys.
+
+ghost use Rattle.std.specs.Prelude.{◌≡◌, ◌<◌};
+ghost use Rattle.resp_routing.specs.Slots.{IsHashTag, IsSlot};
+
+use crate::checksum::crc16;
+use memchr::memchr;
+
+/// How many slots a cluster has.
+pub const SLOT_COUNT: u16 = 16384;
+
+/// The bytes of a key that its slot is computed of: those between the first `{` and the first `}`
+/// after it, where there are any; else the whole key.
+///
+/// ```text
+/// hash_tag(b"{user:7}:visits") == b"user:7"
+/// hash_tag(b"{}:visits") == b"{}:visits"
+/// ```
+pub fn hash_tag(key: &[u8]) -> &[u8]
+    ensures { IsHashTag key.now result.now }
+{
+    let Some(opening) = memchr(b'{', key) else {
+        return key;
+    };
+    let rest = &key[opening + 1..];
+    match memchr(b'}', rest) {
+        Some(length) if length > 0 => &rest[..length],
+        _ => key,
+    }
+}
+
+/// The slot of a key, below [`SLOT_COUNT`]: the checksum of its hash tag, modulo the number of
+/// slots.
+///
+/// ```text
+/// get_slot(b"foo") == 12182
+/// get_slot(b"{foo}new") == 12182
+/// ```
+pub fn get_slot(key: &[u8]) -> u16
+    ensures slot { IsSlot key.now result }
+    ensures range { result < SLOT_COUNT }
+{
+    crc16(hash_tag(key)) % SLOT_COUNT
+}
