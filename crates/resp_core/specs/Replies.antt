@@ -31,6 +31,8 @@ pub use Rattle.resp_parse.specs.Counts.{Counts, nothing_done}
 pub use Rattle.resp_parse.specs.Built.{built}
 pub use Rattle.resp_parse.specs.Bounds.{not_looked_at, WorksWithin, Bounded, FedBy, OneCall}
 pub use Rattle.resp_parse.specs.Bounds.{CallsWithin}
+pub use Rattle.resp_types.specs.Refusals.{RefusesField, RefusesFieldOr}
+pub use Rattle.resp_types.specs.Doubles.{OfDouble, SpellsDouble}
 pub use Rattle.resp_types.specs.Info.{Gets, HoldsText, OfInfo, SameEntry, entries_of, value_at}
 pub use Rattle.resp_types.specs.Increx.{AreIntegers, OfIncrex}
 pub use Rattle.resp_types.specs.IntegerReplies.{OfIntegerReply, number_of}

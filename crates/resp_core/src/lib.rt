@@ -37,8 +37,8 @@ pub use resp_parse::{
 };
 pub use resp_pipeline::{Attempt, Pipeline, pipe, retrying};
 pub use resp_types::{
-    Fields, FromFields, IncrexResult, InfoDict, IntegerReplyOrNoOp, ReplicaInfo, Role, ValueType,
-    from_redis_fields, from_redis_fields_by,
+    DoubleText, Fields, FromFields, IncrexResult, InfoDict, IntegerReplyOrNoOp, ReplicaInfo, Role,
+    ValueType, from_redis_fields, from_redis_fields_by,
 };
 pub use resp_value::{
     Boxed, Bytes, Description, ErrorKind, FrameFault, IoKind, Items, MapIter, OwnedMapIter,

@@ -1,4 +1,5 @@
 pub mod Copies
+pub mod Doubles
 pub mod Entries
 pub mod Naming
 pub mod Roles

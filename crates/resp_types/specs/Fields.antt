@@ -1,11 +1,9 @@
 -- The fields of a reply by name: names, each with its value (Redis, HGETALL).
-use Rattle.std.specs.Prelude.{◌≡◌, ℕ, List, map, Option, None, Some, String, string_bytes, string_cmp, codes}
+use Rattle.std.specs.Prelude.{◌≡◌, ℕ, List, map, Option, None, Some, String, string_bytes, string_cmp}
 use Rattle.std.specs.BTreeMap.{BTreeMap}
 use Rattle.std.specs.Map.{lookup, remove_entry}
 use Rattle.std.specs.Str.{bytes_eq}
 use Rattle.std.specs.declared.alloc.Global.{Global}
-use Rattle.resp_errors.specs.declared.parsing_error.ParsingError.{ParsingError}
-use Rattle.resp_errors.specs.declared.parsing_error.ParsingError.TheVariants as parsing
 use Rattle.resp_value.specs.declared.value.Value.{Value}
 use Rattle.resp_containers.specs.Keyed.{sorted}
 use Rattle.resp_from.specs.Conversion.{OfVia}
@@ -58,7 +56,3 @@ OfField name Of fields x = OfGiven Of (value_of name fields) x
 -- the same, or the field isn't there and x is the default
 abbrev pub OfFieldOr : {X : Type 0} → List ℕ → (Value → X → Type 0) → X → NamedValues → X → Type 0
 OfFieldOr name Of default fields x = OfGivenOr Of default (value_of name fields) x
-
--- the refusal of a field that isn't there
-abbrev pub field_is_missing : ParsingError
-field_is_missing = parsing.Described (codes "field is missing")

@@ -1,9 +1,11 @@
+pub mod Doubles
 pub mod Fields
 pub mod Increx
 pub mod Info
 pub mod IntegerReplies
 pub mod OneValue
 pub mod lemmas
+pub mod Refusals
 pub mod Roles
 pub mod Rows
 pub mod Structs

@@ -5,11 +5,16 @@ ghost use Rattle.resp_containers.specs.lemmas.Equality.{both, one_field, two_fie
 ghost use Rattle.resp_containers.specs.lemmas.Equality.{same_enum, same_integers, same_lists};
 ghost use Rattle.resp_containers.specs.lemmas.Equality.{same_numbers};
 
+use crate::double::DoubleText;
 use crate::increx::IncrexResult;
 use crate::integer_reply::IntegerReplyOrNoOp;
 use crate::role::{ReplicaInfo, Role};
 use crate::value_type::ValueType;
 use resp_value::{ExactClone, StructuralEq};
+
+impl StructuralEq for DoubleText {
+    ghost structural = { same_bytes };
+}
 
 impl StructuralEq for IntegerReplyOrNoOp {
     ghost use Rattle.std.proofs.Common.{rules};

@@ -2,8 +2,10 @@
 
 ghost use Rattle.std.specs.Prelude.{◌≡◌, ◌↔◌, [], IfErr, IsTrue, length};
 ghost use Rattle.resp_from.specs.Conversion.{Converts};
-ghost use Rattle.resp_types.specs.Fields.{field_is_missing, value_of, without, OfField, OfFieldOr};
+ghost use Rattle.resp_types.specs.Fields.{value_of, without, OfField, OfFieldOr};
+ghost use Rattle.resp_types.specs.Refusals.{RefusesField, RefusesFieldOr};
 
+use crate::refusals::{convert_field, missing};
 use resp_from::{FromRedisValue, from_redis_value_by};
 use resp_value::{ParsingError, Value};
 use std::alloc::Global;
@@ -50,22 +52,22 @@ impl Fields {
 
     /// Takes a field out, as a `T`.
     ///
-    /// Refused with `field is missing` where it isn't there, and as the conversion of its value
-    /// refuses; it is taken out then too. Takes no memory but what the conversion takes.
+    /// Refused where it isn't there, with `field NAME: it is missing`, and as the conversion of its
+    /// value refuses, with its name before that; it is taken out then too. Takes no memory but for
+    /// the conversion and the text of a refusal.
     pub fn take<T: FromRedisValue>(&mut self, alloc: Global, name: &str) -> Result<T, ParsingError>
         ensures converts { Converts (OfField name.now T.of_value self.old) result }
-        ensures errors { IfErr result
-            (OfFieldOr name.now T.error_of_value field_is_missing self.old) }
+        ensures errors { IfErr result (RefusesField name.now T.error_of_value self.old) }
         ensures left { self.new ≡ without name.now self.old }
     {
-        let Some(found) = self.remove(name) else {
-            return Err(ParsingError::from("field is missing"));
-        };
-        T::from_redis_value(alloc, found)
+        match self.remove(name) {
+            Some(value) => convert_field(alloc, name, value),
+            None => Err(missing(alloc, name)),
+        }
     }
 
     /// Takes a field out, as a `T`, or answers the default where it isn't there. Refused as the
-    /// conversion of its value refuses; it is taken out then too.
+    /// conversion of its value refuses, with its name before that; it is taken out then too.
     pub fn take_or<T: FromRedisValue>(
         &mut self,
         alloc: Global,
@@ -73,11 +75,11 @@ impl Fields {
         default: T,
     ) -> Result<T, ParsingError>
         ensures converts { Converts (OfFieldOr name.now T.of_value default self.old) result }
-        ensures errors { IfErr result (OfField name.now T.error_of_value self.old) }
+        ensures errors { IfErr result (RefusesFieldOr name.now T.error_of_value self.old) }
         ensures left { self.new ≡ without name.now self.old }
     {
         match self.remove(name) {
-            Some(value) => T::from_redis_value(alloc, value),
+            Some(value) => convert_field(alloc, name, value),
             None => Ok(default),
         }
     }

@@ -1,18 +1,21 @@
 //! Replies of a shape: the fields of a reply by name and structs that are made of them; and replies
-//! of single commands as types of their own: INFO, ROLE, TYPE, INCREX, and integers with two answers
-//! that are no number.
+//! of single commands as types of their own: INFO, ROLE, TYPE, INCREX, doubles by their texts, and
+//! integers with two answers that are no number.
 #![tactic(auto)]
 
+mod double;
 mod equality;
 mod fields;
 mod increx;
 mod info;
 mod integer_reply;
+mod refusals;
 mod role;
 mod rows;
 mod structs;
 mod value_type;
 
+pub use double::DoubleText;
 pub use fields::Fields;
 pub use increx::IncrexResult;
 pub use info::InfoDict;

@@ -7,6 +7,7 @@ ghost use Rattle.resp_types.specs.Rows.{row_of, texts, values_of, values_or_nil,
 ghost use Rattle.resp_types.specs.Rows.{Finds, FindsRow, OfRow};
 
 use crate::fields::Fields;
+use crate::refusals::missing;
 use resp_from::{FromRedisValue, from_redis_value_by};
 use resp_value::{Items, ParsingError, Value};
 use std::alloc::{AllocError, Global};
@@ -14,7 +15,12 @@ use std::alloc::{AllocError, Global};
 /// Takes the values of these fields out, in this order, and adds them to a row.
 ///
 /// Refused where one isn't there, or on `OutOfMemory`.
-fn add_needed(fields: &mut Fields, names: &[&str], row: &mut Vec<Value>) -> Result<(), ParsingError>
+fn add_needed(
+    alloc: Global,
+    fields: &mut Fields,
+    names: &[&str],
+    row: &mut Vec<Value>,
+) -> Result<(), ParsingError>
     ensures added { Finds (values_of (texts names.now) fields.old) row.old.items row.new.items
         result }
     ensures left { OnOk result (fields.new ≡ without_all (texts names.now) fields.old) }
@@ -22,7 +28,7 @@ fn add_needed(fields: &mut Fields, names: &[&str], row: &mut Vec<Value>) -> Resu
     for name in names {
         match fields.remove(name) {
             Some(value) => row.push(value)?,
-            None => return Err(ParsingError::from("field is missing")),
+            None => return Err(missing(alloc, name)),
         }
     }
     Ok(())
@@ -49,7 +55,7 @@ fn take_row(
     ensures row { FindsRow (row_of (texts needed.now) (texts optional.now) fields.old) result }
 {
     let mut row = Vec::new(alloc);
-    add_needed(fields, needed, &mut row)?;
+    add_needed(alloc, fields, needed, &mut row)?;
     add_optional(fields, optional, &mut row)?;
     Ok(Value::Array(Items::from(row)))
 }
@@ -73,8 +79,8 @@ fn from_row<T: FromRedisValue, X: From<T>>(
 /// together as a `T`, which is mostly a tuple. In which order the reply has them makes no
 /// difference, and other fields are ignored.
 ///
-/// Refused with `field is missing` where one of the first isn't there, and where the reply has no
-/// fields, or the values are no `T`, or on `OutOfMemory`.
+/// Refused where one of the first isn't there, with `field NAME: it is missing`, where the reply has
+/// no fields, or the values are no `T`, or on `OutOfMemory`.
 ///
 /// ```text
 /// type Row = (String, Vec<Point>, Option<Point>);

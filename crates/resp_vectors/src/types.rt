@@ -2,7 +2,7 @@
 
 use crate::rows::malformed;
 use resp_core::{
-    FromRedisValue, IncrexResult, IntegerReplyOrNoOp, Items, RedisResult, ReplicaInfo, Role, Text,
+    DoubleText, FromRedisValue, IncrexResult, IntegerReplyOrNoOp, Items, RedisResult, ReplicaInfo, Role, Text,
     Value, ValueType,
 };
 use std::boxed::BoxedSlice;
@@ -116,6 +116,7 @@ fn at_array<W: AtType + Drop>(name: &str, work: W) -> RedisResult<String> {
         "Vec<(i64,i64,i64)>" => work.at::<Vec<(i64, i64, i64)>>(),
         "Vec<((i64,i64),i64)>" => work.at::<Vec<((i64, i64), i64)>>(),
         "Vec<(String,i64)>" => work.at::<Vec<(String, i64)>>(),
+        "Vec<(String,DoubleText)>" => work.at::<Vec<(String, DoubleText)>>(),
         "Vec<Option<(i64,i64)>>" => work.at::<Vec<Option<(i64, i64)>>>(),
         _ => at_tuple(name, work),
     }
@@ -174,6 +175,7 @@ fn at_keyed<W: AtType + Drop>(name: &str, work: W) -> RedisResult<String> {
         "Role" => work.at::<Role>(),
         "ReplicaInfo" => work.at::<ReplicaInfo>(),
         "ValueType" => work.at::<ValueType>(),
+        "DoubleText" => work.at::<DoubleText>(),
         "IntegerReplyOrNoOp" => work.at::<IntegerReplyOrNoOp>(),
         "IncrexResult" => work.at::<IncrexResult>(),
         _ => Err(malformed()),

@@ -55,12 +55,13 @@ fn an_optional_field_may_be_absent(rt: HostRuntime) {
 
 #[test]
 fn a_missing_field_and_a_wrong_one_are_refused(rt: HostRuntime) {
-    assert!(rt; refuses::<Account>(&rt, "*0\r\n", "field is missing"));
-    assert!(rt; refuses::<Account>(&rt, "*2\r\n+name\r\n+Ada\r\n", "field is missing"));
+    assert!(rt; refuses::<Account>(&rt, "*0\r\n", "field name: it is missing"));
+    let of_ada = "*2\r\n+name\r\n+Ada\r\n";
+    assert!(rt; refuses::<Account>(&rt, of_ada, "field age: it is missing"));
     assert!(rt; refuses::<Account>(&rt, "+OK\r\n", "Response type not hashmap compatible"));
     let wrong =
         "*10\r\n+name\r\n+B\r\n+age\r\n:-1\r\n+motto\r\n+m\r\n+visits\r\n:0\r\n+active\r\n:0\r\n";
-    assert!(rt; read::<Account>(&rt, wrong).is_err());
+    assert!(rt; refuses::<Account>(&rt, wrong, "Number out of range"));
 }
 
 #[test]
@@ -69,7 +70,9 @@ fn a_struct_may_refuse_other_fields(rt: HostRuntime) {
     assert!(rt; point == Point { x: 3, y: -4 });
     let wide = "*6\r\n+y\r\n:-4\r\n+x\r\n:3\r\n+z\r\n:1\r\n";
     assert!(rt; refuses::<Point>(&rt, wide, "unknown field"));
-    assert!(rt; refuses::<Point>(&rt, "%1\r\n+x\r\n:3\r\n", "field is missing"));
+    assert!(rt; refuses::<Point>(&rt, "%1\r\n+x\r\n:3\r\n", "field y: it is missing"));
+    let word = "%2\r\n+x\r\n:3\r\n+y\r\n+a\r\n";
+    assert!(rt; refuses::<Point>(&rt, word, "field y: Could not convert from string."));
     assert!(rt; matches!(read::<Option<Point>>(&rt, "_\r\n"), Ok(None)));
 }
 
@@ -83,7 +86,7 @@ fn structs_stand_in_lists_of_others(rt: HostRuntime) {
     assert!(rt; path.name.as_str() == "hill" && path.start.is_none());
     assert!(rt; path.points.as_slice() == points.as_slice());
     let short = "%2\r\n+points\r\n*1\r\n%1\r\n+x\r\n:1\r\n+name\r\n+hill\r\n";
-    assert!(rt; refuses::<Path>(&rt, short, "field is missing"));
+    assert!(rt; refuses::<Path>(&rt, short, "field y: it is missing"));
 }
 
 #[test]
