@@ -15,4 +15,4 @@ pub use counters::{count_call, is_of_wrong_type, visits_when_ready};
 pub use ends::{visit, visit_between, visit_over};
 pub use own_types::{Point, Scored};
 pub use pieces::InPieces;
-pub use stored_replies::{stored, visits};
+pub use stored_replies::{page, stored, visits};

@@ -2,9 +2,9 @@
 
 use crate::heap::{Test, made, refuse, shows};
 use resp_core::{
-    FlatReply, FromRedisValue, IncrexResult, Items, ParsingError, RedisError, RedisResult, Reply,
-    Role, Text, Value, ValueType, from_flat_reply, from_redis_value, from_redis_value_by,
-    from_redis_value_ref, parse_redis_value,
+    DoubleText, FlatReply, FromRedisValue, IncrexResult, Items, ParsingError, RedisError,
+    RedisResult, Reply, Role, Text, Value, ValueType, from_flat_reply, from_redis_value,
+    from_redis_value_by, from_redis_value_ref, parse_redis_value,
 };
 use std::boxed::BoxedSlice;
 use std::collections::{BTreeMap, BTreeSet, HashMap, HashSet};
@@ -105,6 +105,7 @@ const INCREASED: &str = "Ok(IncrexResult { value: int(5), actual_increment: int(
 fn replies_of_single_commands(rt: HostRuntime) {
     converts::<Role>(&rt, MASTER, IS_MASTER);
     converts::<ValueType>(&rt, b"+zset\r\n", "Ok(ZSet)");
+    converts::<DoubleText>(&rt, b"$3\r\n1.5\r\n", "Ok(DoubleText(1.5))");
     converts::<IncrexResult>(&rt, b"*2\r\n:5\r\n:2\r\n", INCREASED);
 }
 

@@ -3,10 +3,10 @@
 use crate::heap::{Test, made, refuse};
 use crate::made::{GET_K, get};
 use resp_core::{
-    ArgList, Cmd, Description, ErrorKind, FromRedisValue, IncrexResult, InfoDict, Items,
-    ParsingError, Pipeline, PushInfo, PushKind, RedisError, RedisResult, RedisWrite, ReplicaInfo,
-    Role, ServerError, Text, Value, ValueComparison, ValueType, VerbatimFormat, from_redis_value,
-    get_push_kind, parse_redis_value, pipe, verbatim_format,
+    ArgList, Cmd, Description, DoubleText, ErrorKind, FromRedisValue, IncrexResult, InfoDict,
+    Items, ParsingError, Pipeline, PushInfo, PushKind, RedisError, RedisResult, RedisWrite,
+    ReplicaInfo, Role, ServerError, Text, Value, ValueComparison, ValueType, VerbatimFormat,
+    from_redis_value, get_push_kind, parse_redis_value, pipe, verbatim_format,
 };
 use std::alloc::AllocError;
 
@@ -105,6 +105,8 @@ fn types_and_increments(rt: HostRuntime) {
     makes! { rt; of_a_value.try_clone(alloc) => of_a_value }
     let increx: IncrexResult = reply(&rt, b"*2\r\n$1\r\n5\r\n$1\r\n2\r\n");
     makes! { rt; increx.try_clone(alloc) => increx }
+    let double: DoubleText = reply(&rt, b"$3\r\n1.5\r\n");
+    makes! { rt; double.try_clone(alloc) => double }
 }
 
 /// Whether a copy has the entries of the dictionary.

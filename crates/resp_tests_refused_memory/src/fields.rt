@@ -89,6 +89,27 @@ fn field_or(alloc: Global, name: &str) -> RedisResult<i64> {
     Ok(fields.take_or(alloc, name, 7)?)
 }
 
+/// Why a field of the hash is refused.
+fn refusal(alloc: Global, name: &str) -> RedisResult<String> {
+    let mut fields: Fields = of_hash(alloc)?;
+    match fields.take::<i64>(alloc, name) {
+        Err(error) if !error.is_out_of_memory() => {
+            Ok(String::from_str(alloc, error.description())?)
+        }
+        Err(error) => Err(error.into()),
+        Ok(_) => Ok(String::new(alloc)),
+    }
+}
+
+#[test]
+fn refusals_that_name_their_field(rt: HostRuntime) {
+    let alloc = rt.alloc();
+    makes! { rt;
+        refusal(alloc, "gone") => "field gone: it is missing",
+        refusal(alloc, "name") => "field name: Could not convert from string.",
+    }
+}
+
 #[test]
 fn fields_by_name(rt: HostRuntime) {
     let alloc = rt.alloc();

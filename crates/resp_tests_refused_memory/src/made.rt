@@ -4,9 +4,9 @@
 use crate::heap::{Test, made, refuse, shows};
 use crate::links::link;
 use resp_core::{
-    ArgList, Boxed, Bytes, Cmd, IncrexResult, InfoDict, Items, ParsingError, Pipeline, RedisError,
-    RedisResult, ServerError, Text, ToRedisArgs, Value, ValueComparison, ValueType, cmd,
-    from_redis_value, from_redis_value_ref, pack_command, parse_redis_value, pipe,
+    ArgList, Boxed, Bytes, Cmd, DoubleText, IncrexResult, InfoDict, Items, ParsingError, Pipeline,
+    RedisError, RedisResult, ServerError, Text, ToRedisArgs, Value, ValueComparison, ValueType,
+    cmd, from_redis_value, from_redis_value_ref, pack_command, parse_redis_value, pipe,
 };
 use std::alloc::Global;
 use std::collections::BTreeMap;
@@ -111,7 +111,17 @@ fn containers(rt: HostRuntime) {
         Text::from_utf8_lossy(alloc, b"abc") => "abc",
         Items::from_slice(alloc, &[1u8, 2, 3]) => [1, 2, 3],
         Boxed::new(alloc, 5i64) => 5,
+        DoubleText::from_str(alloc, "1.5").map(DoubleText::into_text) => "1.5",
     }
+}
+
+#[test]
+fn values(rt: HostRuntime) {
+    let alloc = rt.alloc();
+    let bytes = Bytes::from_slice(alloc, LONG.as_bytes()).expect(&rt, "no refusal");
+    makes! { rt; Value::bulk_string(alloc, LONG) => Value::BulkString(bytes) }
+    let line = Text::from_str(alloc, LONG).expect(&rt, "no refusal");
+    makes! { rt; Value::simple_string(alloc, LONG) => Value::SimpleString(line) }
 }
 
 #[test]

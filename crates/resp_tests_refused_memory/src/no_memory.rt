@@ -8,12 +8,12 @@ use crate::links::{Link, link};
 use crate::made::get;
 use crate::subjects::Subject;
 use resp_core::{
-    ArgList, ArgWriter, Boxed, ByteLink, Bytes, Cmd, CommandSink, ConnectionLike, Fields,
-    FlatParser, FlatReply, FlatValue, FromRedisValue, History, InfoDict, IntegerReplyOrNoOp, Items,
-    Limits, NumericBehavior, Parser, Pipeline, ProtocolVersion, PushKind, Reading, RedisWrite,
-    Reply, ReplySource, Text, ToRedisArgs, Token, TokenKind, Value, ValueType, VerbatimFormat,
-    Writing, from_redis_value, from_redis_value_ref, get_push_kind, is_double_text,
-    is_valid_16_bytes_hex_digest, parse_redis_value, pipe, verbatim_format,
+    ArgList, ArgWriter, Boxed, ByteLink, Bytes, Cmd, CommandSink, ConnectionLike, DoubleText,
+    Fields, FlatParser, FlatReply, FlatValue, FromRedisValue, History, InfoDict,
+    IntegerReplyOrNoOp, Items, Limits, NumericBehavior, Parser, Pipeline, ProtocolVersion,
+    PushKind, Reading, RedisWrite, Reply, ReplySource, Text, ToRedisArgs, Token, TokenKind, Value,
+    ValueType, VerbatimFormat, Writing, from_redis_value, from_redis_value_ref, get_push_kind,
+    is_double_text, is_valid_16_bytes_hex_digest, parse_redis_value, pipe, verbatim_format,
 };
 use resp_encode::Tokens;
 use std::alloc::Global;
@@ -488,5 +488,24 @@ fn fields(rt: HostRuntime) {
 fn texts_of_doubles(rt: HostRuntime) {
     refuse_all(rt.alloc());
     assert!(rt; is_double_text("-1.5e7") && !is_double_text("1.5 "));
+    took_none(&rt);
+}
+
+#[test]
+fn doubles(rt: HostRuntime) {
+    let double: DoubleText = reply(&rt, b",1.5\r\n");
+    refuse_all(rt.alloc());
+    assert!(rt; double.as_str() == "1.5" && double.into_text().eq_str("1.5"));
+    took_none(&rt);
+}
+
+#[test]
+fn values_in_a_line(rt: HostRuntime) {
+    let bytes = Vec::<u8>::of_size(&rt, 2);
+    let values: Vec<Value> = Vec::new(rt.alloc());
+    refuse_all(rt.alloc());
+    equal(&rt, Value::from(7), Value::Int(7));
+    assert!(rt; matches!(Value::from(bytes), Value::BulkString(bytes) if bytes.len() == 2));
+    assert!(rt; matches!(Value::from(values), Value::Array(values) if values.is_empty()));
     took_none(&rt);
 }

@@ -2,6 +2,7 @@
 #![tactic(auto)]
 
 mod equality;
+mod making;
 mod map_iter;
 mod names;
 mod value;

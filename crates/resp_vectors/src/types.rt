@@ -2,8 +2,8 @@
 
 use crate::rows::malformed;
 use resp_core::{
-    DoubleText, FromRedisValue, IncrexResult, IntegerReplyOrNoOp, Items, RedisResult, ReplicaInfo, Role, Text,
-    Value, ValueType,
+    DoubleText, FromRedisValue, IncrexResult, IntegerReplyOrNoOp, Items, RedisResult, ReplicaInfo,
+    Role, Text, Value, ValueType,
 };
 use std::boxed::BoxedSlice;
 use std::collections::{BTreeMap, BTreeSet, HashMap, HashSet};

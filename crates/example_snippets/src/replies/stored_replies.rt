@@ -18,6 +18,12 @@ pub fn stored(alloc: Global, replies: &[Value]) -> RedisResult<MemoryLink> {
     Ok(ByteLink::new(alloc, Cursor::new(bytes), Vec::new(alloc)))
 }
 
+/// A page of a scan, as a reply in a line: the next cursor, and the keys.
+pub fn page(alloc: Global, cursor: &str, keys: Vec<Value>) -> RedisResult<Value> {
+    let page = vec![in alloc; Value::bulk_string(alloc, cursor)?, Value::from(keys)]?;
+    Ok(Value::from(page))
+}
+
 /// Code under test: it takes any connection.
 pub fn visits(alloc: Global, con: &mut dyn ConnectionLike, page: &str) -> RedisResult<i64> {
     cmd(alloc, "HINCRBY")?.arg((page, "visits", 1))?.query(con)

@@ -4,7 +4,9 @@
 use crate::checks::{Test, assert_answer, assert_text, reply};
 use crate::testing::{MemoryLink, bytes_text, pipeline};
 use example_snippets::replies;
-use example_snippets::replies::{Counted, InPieces, count_call, visit_between, visit_over, visits};
+use example_snippets::replies::{
+    Counted, InPieces, count_call, page, visit_between, visit_over, visits,
+};
 use resp_core::{
     ByteLink, Cmd, ConnectionLike, ErrorKind, RedisError, RedisResult, Value, Writing,
 };
@@ -168,4 +170,11 @@ fn visits_over_ends_of_any_type(rt: HostRuntime) {
     assert!(rt; output.as_slice() == sent.as_slice());
     let input = Cursor::new(Vec::from_slice(alloc, b":8\r\n").expect(&rt, "memory"));
     assert_answer(&rt, visit_over(alloc, input, output, "home"), "8");
+}
+
+#[test]
+fn a_reply_is_written_in_a_line(rt: HostRuntime) {
+    let keys = vec![in rt.alloc(); Value::from(1), Value::Nil].expect(&rt, "memory");
+    let page = page(rt.alloc(), "0", keys).expect(&rt, "memory");
+    assert!(rt; page == reply(&rt, b"*2\r\n$1\r\n0\r\n*2\r\n:1\r\n_\r\n"));
 }
