@@ -1,2 +1,4 @@
 pub mod Checksums
+pub mod Commands
+pub mod Keys
 pub mod Slots

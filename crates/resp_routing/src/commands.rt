@@ -3,10 +3,10 @@
 /// A command of the server, or a subcommand.
 #[derive(Debug, Drop)]
 pub struct CommandInfo {
-    /// The name, in lower case.
-    pub name: &'static [u8],
-    /// The subcommand's name, in lower case, where it is one.
-    pub subcommand: Option<&'static [u8]>,
+    /// The name, in lower case, and spaces after it.
+    pub name: [u8; 20],
+    /// The subcommand's name, in lower case, and spaces after it; all spaces where it is none.
+    pub subcommand: [u8; 21],
     /// How many arguments it takes.
     pub arity: Arity,
     /// Which of its arguments are keys.
@@ -31,11 +31,17 @@ pub enum Arity {
 /// Which arguments of a command are keys.
 #[derive(Debug, Drop)]
 pub enum Keys {
-    /// Those that these specifications name.
-    At(&'static [KeySpec]),
-    /// None; but those that these specifications name are names of shard channels, which are at the
+    /// None.
+    NoKeys,
+    /// Those that this specification names.
+    One(KeySpec),
+    /// Those that these two name, in this order.
+    Two(KeySpec, KeySpec),
+    /// Those that these three name, in this order.
+    Three(KeySpec, KeySpec, KeySpec),
+    /// None; but those that this specification names are names of shard channels, which are at the
     /// slot that keys of that name are at.
-    Channels(&'static [KeySpec]),
+    Channels(KeySpec),
     /// The server has no exact specification.
     Unspecified,
     /// Those of its subcommand.
@@ -58,9 +64,20 @@ pub enum BeginSearch {
     Index(usize),
     /// After this word, in upper or lower case, the first time that it is an argument from this one
     /// on. It has to be there.
-    Keyword(&'static [u8], usize),
+    Keyword(Keyword, usize),
     /// The same, where the word is there.
-    AnyKeyword(&'static [u8], usize),
+    AnyKeyword(Keyword, usize),
+}
+
+/// A word after which keys begin.
+#[derive(Debug, Drop)]
+pub enum Keyword {
+    /// `STORE`.
+    Store,
+    /// `STOREDIST`.
+    StoreDist,
+    /// `STREAMS`.
+    Streams,
 }
 
 /// Which arguments are keys, from the one on where they begin. There has to be one.

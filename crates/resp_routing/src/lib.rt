@@ -3,12 +3,19 @@
 
 mod checksum;
 mod commands;
+mod errors;
+mod keys;
+mod lookup;
 mod slots;
 mod table;
 
 pub use checksum::crc16;
 pub use commands::{
-    Access, Arity, BeginSearch, CommandInfo, FindKeys, KeySpec, Keys, RequestPolicy, ResponsePolicy,
+    Access, Arity, BeginSearch, CommandInfo, FindKeys, KeySpec, Keys, Keyword, RequestPolicy,
+    ResponsePolicy,
 };
+pub use errors::RoutingError;
+pub use keys::keys_of;
+pub use lookup::command_info;
 pub use slots::{SLOT_COUNT, get_slot, hash_tag};
 pub use table::COMMANDS;
