@@ -1,5 +1,5 @@
 -- Refusals that name a field.
-use Rattle.std.specs.Prelude.{◌≡◌, ℕ, List, ◌++◌, codes, None, Some}
+use Rattle.std.specs.Prelude.{◌≡◌, ℕ, List, ◌++◌, codes}
 use Rattle.resp_errors.specs.declared.parsing_error.ParsingError.{ParsingError}
 use Rattle.resp_errors.specs.declared.parsing_error.ParsingError.TheVariants as parsing
 use Rattle.resp_value.specs.declared.value.Value.{Value}

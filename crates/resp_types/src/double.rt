@@ -112,10 +112,10 @@ impl FromRedisValue for DoubleText {
 
 /// The text, as one argument.
 impl ToRedisArgs for DoubleText {
-    ghost use Rattle.std.specs.Prelude.{[], ◌∷◌};
+    ghost use Rattle.resp_args.specs.Args.{GivesOne};
     ghost use Rattle.resp_args.specs.declared.args.NumericBehavior.TheVariants.{NumberIsFloat};
 
-    ghost gives = { λ d args. args ≡ d ∷ [] };
+    ghost gives = { GivesOne (λ d. d) };
 
     ghost behaviour = { λ _. NumberIsFloat };
 
