@@ -1,5 +1,5 @@
 -- Which arguments of a command are keys, by their positions; the name is at 0.
-use Rattle.std.specs.Prelude.{◌≡◌, ◌≢◌, ℕ, ◌+◌, ◌-◌, ◌/◌, ◌%◌, Bool, true, false, ◌&&◌, ◌||◌, not, ◌==◌, nat_lt, nat_le, List, [], ◌∷◌, ◌++◌}
+use Rattle.std.specs.Prelude.{◌≡◌, ◌≢◌, ℕ, ◌+◌, ◌-◌, ◌/◌, ◌%◌, Bool, ◌&&◌, ◌||◌, not, ◌==◌, nat_lt, nat_le, List, [], ◌∷◌, ◌++◌}
 use Rattle.std.specs.Prelude.{length, take, drop, filter, slice_index, if◌then◌else◌, Option, None, Some, option_map}
 use Rattle.std.specs.Prelude.{Result, Ok, Err, MatchResult, codes}
 use Rattle.std.specs.List.{position_from, range_with_len}
@@ -79,10 +79,10 @@ found (Counted least) first (text ∷ rest) = numbered least (first + 1) (length
 -- the positions that a specification names
 abbrev pub named : KeySpec → Args → Positions
 named spec args = elim (beginning spec.begin args) [
-    Ok (Some first) ↦ found spec.find first (drop first args)
+  | Ok (Some first) ↦ found spec.find first (drop first args)
   | Ok None ↦ Ok []
   | Err e ↦ Err e
-  ]
+]
 
 -- those of the one, and then those of the other
 abbrev pub both : Positions → Positions → Positions

@@ -1,4 +1,5 @@
 pub mod Checksums
 pub mod Commands
 pub mod Keys
+pub mod Routes
 pub mod Slots

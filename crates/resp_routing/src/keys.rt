@@ -36,7 +36,11 @@ pub fn keys_of(alloc: Global, args: &[&[u8]]) -> Result<Vec<usize>, RoutingError
 impl Keys {
     /// Appends the positions of the keys.
     #[tactic(auto, unfolding(crate::specs::Keys::keys_in))]
-    fn push_keys(&self, args: &[&[u8]], positions: &mut Vec<usize>) -> Result<(), RoutingError>
+    pub(crate) fn push_keys(
+        &self,
+        args: &[&[u8]],
+        positions: &mut Vec<usize>,
+    ) -> Result<(), RoutingError>
         ensures { Adds (keys_in self.now (words args.now)) positions.old.items positions.new.items
             result }
     {
@@ -56,12 +60,18 @@ impl Keys {
 
 impl KeySpec {
     /// Appends the positions of the keys that it names.
-    fn push_keys(&self, args: &[&[u8]], positions: &mut Vec<usize>) -> Result<(), RoutingError>
+    pub(crate) fn push_keys(
+        &self,
+        args: &[&[u8]],
+        positions: &mut Vec<usize>,
+    ) -> Result<(), RoutingError>
         ensures { Adds (named self.now (words args.now)) positions.old.items positions.new.items
             result }
     {
         match self.begin.place(args)? {
-            Some(first) => self.find.push_keys(first, args_from(args, first), positions),
+            Some(first) => self
+                .find
+                .push_keys(first, args_from(args, first), positions),
             None => Ok(()),
         }
     }
@@ -85,7 +95,11 @@ fn push_both(
 fn args_from<'a, 'b>(args: &'a [&'b [u8]], first: usize) -> &'a [&'b [u8]]
     ensures { words result.now ≡ drop first (words args.now) }
 {
-    if first < args.len() { &args[first..] } else { &[] }
+    if first < args.len() {
+        &args[first..]
+    } else {
+        &[]
+    }
 }
 
 impl BeginSearch {

@@ -6,6 +6,7 @@ mod commands;
 mod errors;
 mod keys;
 mod lookup;
+mod routes;
 mod slots;
 mod table;
 
@@ -17,5 +18,6 @@ pub use commands::{
 pub use errors::RoutingError;
 pub use keys::keys_of;
 pub use lookup::command_info;
+pub use routes::{Route, is_readonly_cmd, route_of};
 pub use slots::{SLOT_COUNT, get_slot, hash_tag};
 pub use table::COMMANDS;

@@ -1,13 +1,12 @@
-use Rattle.std.proofs.Common.{◌≡◌, ℕ, zero, suc, [], ◌∷◌, slice_index, ◌+◌, ◌-◌, ◌*◌, ◌<◌, ◌≤◌, ◌^◌, List, true, length, get_or, take, nat_lt, nat_le, ◌&&◌, ◌||◌, not, ◌==◌, arith, refl, ap, sym, ◌∙◌}
+use Rattle.std.proofs.Common.{◌≡◌, ℕ, zero, suc, [], ◌∷◌, slice_index, ◌+◌, ◌*◌, ◌<◌, ◌≤◌, ◌^◌, List, true, length, get_or, take, nat_lt, nat_le, ◌&&◌, ◌||◌, not, ◌==◌, arith, ap, sym, ◌∙◌}
 use Rattle.std.proofs.lemmas.Bool.{and_parts, leb-true}
 use Rattle.std.proofs.lemmas.Int.Digits.{digits_value_more}
-use Rattle.std.proofs.lemmas.List.{take_all}
 use Rattle.std.proofs.lemmas.Str.{digit_value_digit}
 use Rattle.std.proofs.lemmas.Str.Parse.{IsNumeralModel, numerals_by_value, tells_all_ascii_digits, digits_value_short, digits_value-take-le, digit_from_value}
 use Rattle.std.specs.Char.{digit_value}
 use Rattle.std.specs.Str.{all_ascii_digits}
 use Rattle.std.specs.Str.Parse.{AllDigits, digits_value}
-use Rattle.resp_routing.specs.Keys.{is_number, number_of}
+use Rattle.resp_routing.specs.Keys.{is_number}
 use Rattle.resp_routing.proofs.keys.number.Goals as goal
 
 own : IsNumeralModel (λ ds. all_ascii_digits ds ≡ true) (digits_value 10)
@@ -42,9 +41,11 @@ digit text i n h lt held =
     let whole = digits_value_short own text 18 p.1 p.0 in
     let part = digits_value-take-le 10 text i (omega arith) in
     record {
-      low = range.0; high = range.1; value = digit_value_digit (get_or text i 0) range;
+      low = range.0;
+      high = range.1;
+      value = digit_value_digit (get_or text i 0) range;
       bound = omega arith;
-      more = digits_value_more 10 text i lt ∙ ap (λ m. m * 10 + digit_value (get_or text i 0)) (sym held)
+      more = digits_value_more 10 text i lt ∙ ap (λ m. m * 10 + digit_value (get_or text i 0)) (sym held);
     }
 
 pub overflow_mul-number : goal.overflow_mul-number

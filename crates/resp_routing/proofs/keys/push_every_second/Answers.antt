@@ -1,4 +1,4 @@
-use Rattle.std.proofs.Common.{◌≡◌, ℕ, ◌+◌, ◌-◌, ◌%◌, ◌<◌, ◌≤◌, List, ◌++◌, true, nat_lt, filter, ◌==◌, Ok, arith, refl, ap, sym, ◌∙◌, eq-eqb, ne_eqb}
+use Rattle.std.proofs.Common.{◌≡◌, ℕ, ◌+◌, ◌-◌, ◌%◌, ◌<◌, List, ◌++◌, true, nat_lt, filter, ◌==◌, Ok, arith, ap, sym, ◌∙◌, eq-eqb, ne_eqb}
 use Rattle.std.proofs.lemmas.Bool.{lt-ltb}
 use Rattle.std.specs.List.{range_with_len}
 use Rattle.resp_routing.specs.Keys.{both, every_second}
@@ -17,12 +17,12 @@ all_passed old new first left position some end held =
 pub loop-position-preserved : goal.loop-position-preserved
 loop-position-preserved c =
     elim c.if-position-first-eq0.branch [
-      then-position-first-eq0+in_ok-push w ↦ rw w.positions-is
-        (push_kept (λ place. (place - c.args.first) % 2 == 0) _ _ _ c.args.first c.loop-position.position (omega arith)
-        (eq-eqb _ _ w.if-position-first-eq0.true) c.loop-position.invariant w.in_ok-push.ensures.items)
-    | else-position-first-eq0 w ↦ rw w.positions-is
-        (pass_over (λ place. (place - c.args.first) % 2 == 0) _ _ c.args.first c.loop-position.position (omega arith)
-        (ne_eqb _ _ w.if-position-first-eq0.false) c.loop-position.invariant)
+      | then-position-first-eq0+in_ok-push w ↦ rw w.positions-is
+          (push_kept (λ place. (place - c.args.first) % 2 == 0) _ _ _ c.args.first c.loop-position.position (omega arith)
+          (eq-eqb _ _ w.if-position-first-eq0.true) c.loop-position.invariant w.in_ok-push.ensures.items)
+      | else-position-first-eq0 w ↦ rw w.positions-is
+          (pass_over (λ place. (place - c.args.first) % 2 == 0) _ _ c.args.first c.loop-position.position (omega arith)
+          (ne_eqb _ _ w.if-position-first-eq0.false) c.loop-position.invariant)
     ]
 
 pub returns : goal.returns

@@ -18,7 +18,7 @@ one_more : (name : List ℕ) (i : ℕ) → i < length name → unpadded name ≡
 unfolding unpadded
 one_more name i lt held other =
     let rest : unpadded (drop i name) ≡ get_or name i 0 ∷ unpadded (drop (i + 1) name)
-        = rw (drop_more name i 0 lt, other) refl in
+    = rw (drop_more name i 0 lt, other) refl in
     held ∙ ap (λ more. take i name ++ more) rest
     ∙ sym (append_assoc (take i name) (get_or name i 0 ∷ []) (unpadded (drop (i + 1) name)))
     ∙ ap (λ front. front ++ unpadded (drop (i + 1) name)) (sym (take_more name i 0 lt))

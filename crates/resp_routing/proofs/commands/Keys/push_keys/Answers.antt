@@ -1,4 +1,3 @@
-use Rattle.std.proofs.Common.{rules}
 use Rattle.resp_routing.specs.Keys.{keys_in}
 use Rattle.resp_routing.proofs.Appending.{then_adds}
 use Rattle.resp_routing.proofs.commands.Keys.push_keys.Goals as goal

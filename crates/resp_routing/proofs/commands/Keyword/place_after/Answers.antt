@@ -1,12 +1,11 @@
-use Rattle.std.proofs.Common.{◌≡◌, ℕ, ◌+◌, ◌-◌, ◌<◌, ◌≤◌, Bool, true, false, List, [], ◌∷◌, length, get_or, map, take, drop, Option, Some, None}
+use Rattle.std.proofs.Common.{◌≡◌, ℕ, ◌+◌, ◌-◌, ◌<◌, Bool, true, false, List, [], ◌∷◌, length, get_or, take, drop, Some}
 use Rattle.std.proofs.Common.{refl, sym, ap, ◌∙◌, arith, option_map}
 use Rattle.std.proofs.lemmas.List.{drop_more, get_or-map, get_or-take, length-map, length-take-le}
-use Rattle.std.proofs.Math.ListN.{drop_of_length-le}
 use Rattle.std.specs.Borrow.{Bor}
 use Rattle.std.specs.List.{position_from}
 use Rattle.std.specs.Str.{str_eq_ignore_ascii_case}
 use Rattle.resp_routing.specs.Commands.{words}
-use Rattle.resp_routing.specs.Keys.{after_word, word_text}
+use Rattle.resp_routing.specs.Keys.{word_text}
 use Rattle.resp_routing.specs.declared.commands.Keyword.{Keyword}
 use Rattle.resp_routing.proofs.commands.Keyword.place_after.Goals as goal
 
@@ -20,7 +19,7 @@ next_word : (args : List (Bor (List ℕ))) (place : ℕ) (arg : Bor (List ℕ)) 
 next_word args place arg lt =
     let count : length (words args) ≡ length args = length-map args (λ a. a.now) in
     let long : length (take (length (words args) - 1) (words args)) ≡ length (words args) - 1
-        = length-take-le (length (words args) - 1) (words args) (omega arith) in
+    = length-take-le (length (words args) - 1) (words args) (omega arith) in
     drop_more (but_last args) place [] (omega arith)
     ∙ ap (λ word. word ∷ drop (place + 1) (but_last args))
     (get_or-take (length (words args) - 1) (words args) place [] (omega arith)
@@ -34,13 +33,13 @@ module _ (is : List ℕ → Bool) (args : List (Bor (List ℕ))) (from place : �
       → Some (place + 1) ≡ option_map (λ k. k + 1) (position_from is from (drop from (but_last args)))
   at_word lt same held =
       let here : position_from is place (drop place (but_last args)) ≡ Some place
-          = rw (next_word args place arg lt, same) refl in
+      = rw (next_word args place arg lt, same) refl in
       ap (option_map (λ k. k + 1)) (sym here ∙ held)
 
   past_word : place < length args - 1 → is (get_or args place arg).now ≡ false → Held place → Held (place + 1)
   past_word lt other held =
       let here : position_from is place (drop place (but_last args)) ≡ position_from is (place + 1) (drop (place + 1) (but_last args))
-          = rw (next_word args place arg lt, other) refl in
+      = rw (next_word args place arg lt, other) refl in
       sym here ∙ held
 
 abbrev is_word : Keyword → List ℕ → Bool
