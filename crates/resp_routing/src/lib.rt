@@ -3,6 +3,7 @@
 
 mod checksum;
 mod commands;
+mod equality;
 mod errors;
 mod keys;
 mod lookup;
