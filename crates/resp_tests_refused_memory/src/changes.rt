@@ -4,10 +4,13 @@ use crate::heap::{Test, equal, has_to_repeat, ran_out, refuse};
 use crate::made::{LONG, get};
 use crate::subjects::{REST, Subject};
 use resp_core::{
-    ArgList, ArgPart, ArgWriter, Bytes, Cmd, Items, Joined, Parser, Pipeline, RedisResult,
-    RedisWrite, ToRedisArgs, cmd, write_each_arg,
+    ArgList, ArgPart, ArgWriter, Bytes, Cmd, FromRedisValue, Items, Joined, Parser, Pipeline,
+    RedisResult, RedisWrite, ToRedisArgs, cmd, from_redis_value, parse_redis_value, write_each_arg,
 };
 use std::alloc::Global;
+use std::borrow::CowStr;
+use std::collections::{BTreeMap, BTreeSet, HashMap, HashSet};
+use std::rc::Rc;
 
 /// A call that changes an object.
 trait Change: Clone + Copy {
@@ -333,6 +336,46 @@ fn appends<T: ToRedisArgs>(rt: &impl Test, value: &T, count: usize) {
 fn values_in_a_vector(rt: HostRuntime) {
     appends(&rt, &("a", 1i64, Some("b")), 3);
     appends(&rt, &["a", "b"].as_slice(), 2);
+    appends(&rt, &(1i64, "a", true, [2i64, 3].as_slice()), 5);
+    appends(
+        &rt,
+        &(
+            1i64, "a", 2u8, "b", 3i64, "c", 4u8, "d", 5i64, "e", 6u8, "f",
+        ),
+        12,
+    );
+    appends(&rt, &Some(Some("a")), 1);
+}
+
+#[test]
+fn owners_in_a_vector(rt: HostRuntime) {
+    let alloc = rt.alloc();
+    let boxed = Box::new(alloc, 7i64).expect(&rt, "no refusal");
+    appends(&rt, &boxed, 1);
+    appends(&rt, &CowStr::Borrowed("a"), 1);
+    let text = String::from_str(alloc, "a").expect(&rt, "no refusal");
+    let shared = Rc::new(alloc, text).expect(&rt, "no refusal");
+    appends(&rt, &shared, 1);
+}
+
+/// The pairs `a`: 1 and `b`: 2.
+fn pairs<C: FromRedisValue>(rt: &impl Test) -> C {
+    let reply = parse_redis_value(rt.alloc(), b"%2\r\n+a\r\n:1\r\n+b\r\n:2\r\n");
+    from_redis_value(rt.alloc(), reply.expect(rt, "no refusal")).expect(rt, "no refusal")
+}
+
+/// The members 1 and 2.
+fn members<C: FromRedisValue>(rt: &impl Test) -> C {
+    let reply = parse_redis_value(rt.alloc(), b"~2\r\n:1\r\n:2\r\n");
+    from_redis_value(rt.alloc(), reply.expect(rt, "no refusal")).expect(rt, "no refusal")
+}
+
+#[test]
+fn maps_and_sets_in_a_vector(rt: HostRuntime) {
+    appends(&rt, &pairs::<BTreeMap<String, i64>>(&rt), 4);
+    appends(&rt, &pairs::<HashMap<String, i64>>(&rt), 4);
+    appends(&rt, &members::<BTreeSet<i64>>(&rt), 2);
+    appends(&rt, &members::<HashSet<i64>>(&rt), 2);
 }
 
 /// The items of a slice, or of an iterator, one after another.

@@ -3,8 +3,8 @@
 use crate::heap::{Test, made, refuse, shows};
 use resp_core::{
     DoubleText, FlatReply, FromRedisValue, IncrexResult, Items, ParsingError, RedisError,
-    RedisResult, Reply, Role, Text, Value, ValueType, from_flat_reply, from_redis_value,
-    from_redis_value_by, from_redis_value_ref, parse_redis_value,
+    RedisResult, ReplicaInfo, Reply, Role, Text, Value, ValueType, from_flat_reply,
+    from_redis_value, from_redis_value_by, from_redis_value_ref, parse_redis_value,
 };
 use std::boxed::BoxedSlice;
 use std::collections::{BTreeMap, BTreeSet, HashMap, HashSet};
@@ -20,8 +20,9 @@ fn converted<T: Debug + Drop>(rt: &impl Test, answer: Result<T, ParsingError>, w
     shows(rt, answer.map_err(RedisError::from), wanted);
 }
 
-/// The reply converts to what shows like this, by value and by reference.
+/// The reply converts to what shows like this, by value, by reference, and in its flat form.
 fn converts<T: FromRedisValue + Debug>(rt: &impl Test, reply: &[u8], wanted: &str) {
+    converts_flat::<T>(rt, reply, wanted);
     converts_moved::<T>(rt, value_of(rt, reply), wanted);
     let borrowed = value_of(rt, reply);
     converts_borrowed::<T>(rt, &borrowed, wanted);
@@ -69,6 +70,8 @@ fn single_values(rt: HostRuntime) {
     converts::<Rc<String>>(&rt, ABC, "Ok(\"abc\")");
     converts::<RedisResult<String>>(&rt, b":12\r\n", "Ok(Ok(\"12\"))");
     converts::<RedisResult<i64>>(&rt, b"-MINE x\r\n", "Ok(Err(\"MINE\": x))");
+    converts::<()>(&rt, ABC, "Ok(())");
+    converts::<()>(&rt, b"-MINE x\r\n", "Err(Incompatible type - \"MINE\": x)");
 }
 
 #[test]
@@ -99,11 +102,16 @@ const MASTER: &[u8] = b"*3\r\n$6\r\nmaster\r\n:3129659\r\n\
 const IS_MASTER: &str = "Ok(Primary { replication_offset: 3129659, replicas: \
     [ReplicaInfo { ip: \"127.0.0.1\", port: 9001, replication_offset: 3129242 }] })";
 
+const REPLICA: &[u8] = b"*3\r\n$1\r\na\r\n$1\r\n5\r\n$1\r\n7\r\n";
+
+const IS_REPLICA: &str = "Ok(ReplicaInfo { ip: \"a\", port: 5, replication_offset: 7 })";
+
 const INCREASED: &str = "Ok(IncrexResult { value: int(5), actual_increment: int(2) })";
 
 #[test]
 fn replies_of_single_commands(rt: HostRuntime) {
     converts::<Role>(&rt, MASTER, IS_MASTER);
+    converts::<ReplicaInfo>(&rt, REPLICA, IS_REPLICA);
     converts::<ValueType>(&rt, b"+zset\r\n", "Ok(ZSet)");
     converts::<DoubleText>(&rt, b"$3\r\n1.5\r\n", "Ok(DoubleText(1.5))");
     converts::<IncrexResult>(&rt, b"*2\r\n:5\r\n:2\r\n", INCREASED);
@@ -113,14 +121,6 @@ fn replies_of_single_commands(rt: HostRuntime) {
 fn items_of(rt: &impl Test, reply: &[u8]) -> Vec<Value> {
     let items = value_of(rt, reply).into_sequence(rt.alloc());
     items.expect(rt, "an array")
-}
-
-#[test]
-fn flat_replies(rt: HostRuntime) {
-    converts_flat::<String>(&rt, ABC, "Ok(\"abc\")");
-    converts_flat::<Value>(&rt, ABC, "Ok(bulk-string('\"abc\"'))");
-    converts_flat::<Vec<String>>(&rt, TEXTS, "Ok([\"a\", \"12\", \"abc\"])");
-    converts_flat::<Vec<(i64, i64)>>(&rt, NUMBERS, "Ok([(1, 2), (3, 4)])");
 }
 
 #[test]

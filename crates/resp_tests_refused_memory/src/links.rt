@@ -2,7 +2,9 @@
 
 use crate::heap::{Test, equal, refuse, shows};
 use crate::made::{GET_K, get};
-use resp_core::{ByteLink, ConnectionLike, Reading, RedisResult, Value, Writing};
+use resp_core::{
+    ByteLink, ConnectionLike, Parser, PushInfo, Reading, RedisError, RedisResult, Value, Writing,
+};
 use std::fmt::Debug;
 use std::io::Cursor;
 
@@ -27,33 +29,101 @@ fn is_seven(rt: &impl Test, con: &mut Link) -> Option<bool> {
     Some(next == Value::Int(7))
 }
 
-/// The link after a request of so many bytes, whose replies are followed by `:7`: nothing was sent
-/// and it is usable; or all was, and it is broken; or all was, the replies are taken, and it is
-/// usable.
-fn stands(rt: &impl Test, mut con: Link, request: usize) {
+/// A call over a link: what comes in, which `:7` ends, and how many bytes its request has.
+#[derive(Clone, Copy)]
+pub struct Asked<'a> {
+    pub incoming: &'a [u8],
+    pub request: usize,
+}
+
+/// Where memory may run out.
+#[derive(Clone, Copy, PartialEq)]
+pub enum Until {
+    /// Before the last reply is taken.
+    Replies,
+    /// Later, too, in what the replies are made into.
+    Conversion,
+}
+
+/// What a call left.
+#[derive(Clone, Copy, PartialEq)]
+enum Left {
+    /// Nothing was sent.
+    Nothing,
+    /// The request was sent, and the link is broken.
+    Broken,
+    /// The request was sent, and its replies were taken.
+    Taken,
+}
+
+/// What the call left of the link, by what a next request over it does.
+fn what_is_left(rt: &impl Test, mut con: Link, asked: Asked<'_>) -> Left {
     let broken = con.is_broken();
     let is_seven = is_seven(rt, &mut con);
-    let wanted = match (broken, is_seven) {
-        (true, _) => request,
-        (false, Some(true)) => request.saturating_add(GET_K.len()),
-        (false, _) => GET_K.len(),
+    let (left, wanted) = match (broken, is_seven) {
+        (true, _) => (Left::Broken, asked.request),
+        (false, Some(true)) => (Left::Taken, asked.request.saturating_add(GET_K.len())),
+        (false, _) => (Left::Nothing, GET_K.len()),
     };
     assert!(rt; !broken || is_seven.is_none());
     equal(rt, sent(con).len(), wanted);
+    left
 }
 
-/// The call over the link, whose request has so many bytes, answered what shows like this, or
-/// memory ran out in it; the link stands as it should.
+/// The pushes among these bytes.
+fn pushes_in(rt: &impl Test, incoming: &[u8]) -> Vec<PushInfo> {
+    let mut parser = Parser::new(rt.alloc());
+    parser.feed(incoming).expect(rt, "no refusal");
+    let mut pushes = Vec::new(rt.alloc());
+    while let Some(value) = parser.take_value().expect(rt, "no fault") {
+        if let Value::Push { kind, payload } = value {
+            let push = PushInfo { kind, payload };
+            pushes.push(push).expect(rt, "no refusal");
+        }
+    }
+    pushes
+}
+
+/// Those that the link set aside are the first of these; how many there are.
+fn set_aside(rt: &impl Test, con: &Link, pushes: &[PushInfo]) -> usize {
+    for (came, wanted) in con.pushes().iter().zip(pushes) {
+        assert!(rt; came == wanted);
+    }
+    con.pushes().len()
+}
+
+/// As many pushes are set aside as a call that left this takes, of so many that come.
+fn are_aside(rt: &impl Test, left: Left, aside: usize, all: usize) {
+    let fits = match left {
+        Left::Nothing => aside == 0,
+        Left::Broken => aside <= all,
+        Left::Taken => aside == all,
+    };
+    assert!(rt; fits);
+}
+
+/// The call over the link answered what shows like this, or memory ran out in it; the link stands
+/// as it should, with the pushes that came.
 pub fn answered<T: Debug + Drop>(
     rt: &impl Test,
-    (con, request): (Link, usize),
+    (con, asked, until): (Link, Asked<'_>, Until),
     answer: RedisResult<T>,
     wanted: &str,
 ) {
-    let is_refused = answer.is_err();
+    let ran_out = matches!(&answer, Err(RedisError::OutOfMemory));
     shows(rt, answer, wanted);
-    assert!(rt; is_refused || !con.is_broken());
-    stands(rt, con, request);
+    let pushes = pushes_in(rt, asked.incoming);
+    let aside = set_aside(rt, &con, pushes.as_slice());
+    let left = what_is_left(rt, con, asked);
+    are_aside(rt, left, aside, pushes.len());
+    let may_be_taken = !ran_out || until == Until::Conversion;
+    assert!(rt;
+        if left == Left::Taken {
+            may_be_taken
+        } else {
+            ran_out
+        }
+    );
 }
 
 /// A reply, one with pushes before it, and one that is nested.
@@ -69,13 +139,21 @@ const INCOMING: &[(&[u8], &str)] = &[
     ),
 ];
 
+/// `GET k`, where these bytes come in.
+pub fn of_get(incoming: &[u8]) -> Asked<'_> {
+    Asked {
+        incoming,
+        request: GET_K.len(),
+    }
+}
+
 /// A command is answered like this.
 fn asks_command(rt: &impl Test, incoming: &[u8], wanted: &str) {
     let command = get(rt);
     let mut con = link(rt, incoming);
     refuse(rt.alloc());
     let answer = con.req_command(&command);
-    answered(rt, (con, GET_K.len()), answer, wanted);
+    answered(rt, (con, of_get(incoming), Until::Replies), answer, wanted);
 }
 
 /// A packed command is answered like this.
@@ -83,7 +161,7 @@ fn asks_packed(rt: &impl Test, incoming: &[u8], wanted: &str) {
     let mut con = link(rt, incoming);
     refuse(rt.alloc());
     let answer = con.req_packed_command(GET_K);
-    answered(rt, (con, GET_K.len()), answer, wanted);
+    answered(rt, (con, of_get(incoming), Until::Replies), answer, wanted);
 }
 
 #[test]
@@ -116,7 +194,7 @@ fn asks_several(rt: &impl Test, offset: usize, count: usize, wanted: &str) {
     let mut con = link(rt, TWO);
     refuse(rt.alloc());
     let answer = con.req_packed_commands(GET_K, offset, count);
-    answered(rt, (con, GET_K.len()), answer, wanted);
+    answered(rt, (con, of_get(TWO), Until::Replies), answer, wanted);
 }
 
 #[test]

@@ -2,7 +2,7 @@
 //! taken and the link is usable.
 
 use crate::heap::{Test, refuse};
-use crate::links::{answered, link};
+use crate::links::{Asked, Until, answered, link, of_get};
 use crate::made::{GET_K, get};
 use resp_core::{Attempt, Cmd, FromRedisValue, Pipeline, RedisError, RedisResult, pipe, retrying};
 use std::collections::BTreeMap;
@@ -14,7 +14,12 @@ fn asks<T: FromRedisValue + Debug>(rt: &impl Test, incoming: &[u8], wanted: &str
     let mut con = link(rt, incoming);
     refuse(rt.alloc());
     let answer = command.query::<T>(&mut con);
-    answered(rt, (con, GET_K.len()), answer, wanted);
+    answered(
+        rt,
+        (con, of_get(incoming), Until::Conversion),
+        answer,
+        wanted,
+    );
 }
 
 const TEXT: &[u8] = b"$3\r\nabc\r\n:7\r\n";
@@ -37,7 +42,12 @@ fn a_command_without_an_answer(rt: HostRuntime) {
     let mut con = link(&rt, LIST);
     refuse(rt.alloc());
     let answer = command.exec(&mut con);
-    answered(&rt, (con, GET_K.len()), answer, "Ok(())");
+    answered(
+        &rt,
+        (con, of_get(LIST), Until::Conversion),
+        answer,
+        "Ok(())",
+    );
 }
 
 fn never(_error: &RedisError) -> bool {
@@ -50,7 +60,12 @@ fn attempts(rt: HostRuntime) {
     let mut con = link(&rt, TEXT);
     refuse(rt.alloc());
     let answer: RedisResult<String> = command.attempt(&mut con);
-    answered(&rt, (con, GET_K.len()), answer, "Ok(\"abc\")");
+    answered(
+        &rt,
+        (con, of_get(TEXT), Until::Conversion),
+        answer,
+        "Ok(\"abc\")",
+    );
 }
 
 #[test]
@@ -59,7 +74,12 @@ fn commands_that_may_be_tried_again(rt: HostRuntime) {
     let mut con = link(&rt, TEXT);
     refuse(rt.alloc());
     let answer = retrying::<String, Cmd, _>(&mut con, 3, &command, &mut never);
-    answered(&rt, (con, GET_K.len()), answer, "Ok(\"abc\")");
+    answered(
+        &rt,
+        (con, of_get(TEXT), Until::Conversion),
+        answer,
+        "Ok(\"abc\")",
+    );
 }
 
 /// `SET k 1`, which may be ignored, and `GET k`; and how long they are when packed.
@@ -88,7 +108,12 @@ fn asks_two<T: FromRedisValue + Debug>(
     let mut con = link(rt, incoming);
     refuse(rt.alloc());
     let answer = pipeline.query::<T>(&mut con);
-    answered(rt, (con, request), answer, wanted);
+    answered(
+        rt,
+        (con, Asked { incoming, request }, Until::Conversion),
+        answer,
+        wanted,
+    );
 }
 
 const REPLIES: &[u8] = b"+OK\r\n$3\r\nabc\r\n:7\r\n";
@@ -110,16 +135,26 @@ fn pipelines(rt: HostRuntime) {
 
 #[test]
 fn a_pipeline_without_an_answer(rt: HostRuntime) {
-    let (whole, sent) = two(&rt, false, false);
-    let mut con = link(&rt, REPLIES);
+    let (whole, request) = two(&rt, false, false);
+    let incoming = REPLIES;
+    let mut con = link(&rt, incoming);
     refuse(rt.alloc());
     let answer = whole.exec(&mut con);
-    answered(&rt, (con, sent), answer, "Ok(())");
+    answered(
+        &rt,
+        (con, Asked { incoming, request }, Until::Conversion),
+        answer,
+        "Ok(())",
+    );
 }
+
+const ABORTED: &str = "Err(Transaction aborted: [(Index 0, error: \"MINE\": x)])";
 
 #[test]
 fn transactions(rt: HostRuntime) {
     let replies = b"+OK\r\n+QUEUED\r\n+QUEUED\r\n*2\r\n+OK\r\n$3\r\nabc\r\n:7\r\n";
     asks_two::<Vec<String>>(&rt, two(&rt, true, false), replies, "Ok([\"OK\", \"abc\"])");
     asks_two::<(String,)>(&rt, two(&rt, true, true), replies, "Ok((\"abc\",))");
+    let aborted = b"+OK\r\n-MINE x\r\n>1\r\n+own\r\n+QUEUED\r\n-EXECABORT y\r\n:7\r\n";
+    asks_two::<Vec<String>>(&rt, two(&rt, true, false), aborted, ABORTED);
 }

@@ -1,7 +1,7 @@
 //! Scans: want of memory is an item, and takes one of the budget.
 
 use crate::heap::{Test, refuse, was_refused};
-use crate::links::{Link, answered, link, sent};
+use crate::links::{Asked, Link, Until, answered, link, sent};
 use resp_core::{Cmd, ConnectionLike, ErrorKind, RedisResult, ScanProgress, cmd};
 use std::process::Abort;
 
@@ -23,6 +23,11 @@ pub fn scan_command(rt: &impl Test) -> Cmd {
 /// The last page, and what follows it.
 const LAST_PAGE: &[u8] = b"*2\r\n$1\r\n0\r\n*1\r\n$1\r\nb\r\n:7\r\n";
 
+const OF_SCAN: Asked<'static> = Asked {
+    incoming: LAST_PAGE,
+    request: REQUEST.len(),
+};
+
 /// The first item of a scan that is lent its connection.
 fn first_of(
     con: &mut Link,
@@ -40,7 +45,12 @@ fn first_requests(rt: HostRuntime) {
     refuse(rt.alloc());
     let started = command.start_scan(&mut con, 9);
     let answer = first_of(&mut con, started);
-    answered(&rt, (con, REQUEST.len()), answer, "Ok(Some(Ok(\"b\")))");
+    answered(
+        &rt,
+        (con, OF_SCAN, Until::Conversion),
+        answer,
+        "Ok(Some(Ok(\"b\")))",
+    );
 }
 
 /// The first item of a scan that holds its connection.
@@ -56,7 +66,12 @@ fn first_requests_of_iterators(rt: HostRuntime) {
     let mut con = link(&rt, LAST_PAGE);
     refuse(rt.alloc());
     let answer = first_item(command, &mut con);
-    answered(&rt, (con, REQUEST.len()), answer, "Ok(Some(Ok(\"b\")))");
+    answered(
+        &rt,
+        (con, OF_SCAN, Until::Conversion),
+        answer,
+        "Ok(Some(Ok(\"b\")))",
+    );
 }
 
 /// One letter for an answer: the item, memory, the budget, a broken link, or the end.
