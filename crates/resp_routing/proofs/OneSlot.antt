@@ -1,6 +1,6 @@
 -- Keys that are looked at one after another, and their slots.
 use Rattle.std.proofs.Common.{◌≡◌, ◌≢◌, ℕ, ◌+◌, ◌<◌, ◌≤◌, List, [], ◌∷◌, ◌++◌, length, get_or, take, drop, All, Contains, Option, None, Some}
-use Rattle.std.proofs.Common.{IsSomeAnd, MatchOption, slice_get, refl, sym, ap, ◌∙◌, arith}
+use Rattle.std.proofs.Common.{IsOkAnd, Ok, Err, true, IsSomeAnd, MatchOption, slice_get, refl, sym, ap, ◌∙◌, arith}
 use Rattle.std.proofs.Math.ListN.{take-append-drop}
 use Rattle.std.proofs.lemmas.List.{append-nil, get_or-map, length-map, take_more}
 use Rattle.std.proofs.lemmas.Option.{slice_get-get_or, slice_get_past}
@@ -8,8 +8,10 @@ use Rattle.std.specs.Bool.{⊤}
 use Rattle.std.specs.Borrow.{Bor}
 use Rattle.std.proofs.lemmas.List.Elements.{filter_map-append, Contains-append_left, Contains-append_right, All-append}
 use Rattle.resp_args.specs.Args.{Args}
-use Rattle.resp_routing.specs.Commands.{words}
-use Rattle.resp_routing.specs.Routes.{AreApart, InOneSlot, IsCommon, args_at}
+use Rattle.resp_routing.specs.Commands.{command_of, words}
+use Rattle.resp_routing.specs.Keys.{Positions, both, fits}
+use Rattle.resp_routing.specs.declared.commands.CommandInfo.{CommandInfo}
+use Rattle.resp_routing.specs.Routes.{AreApart, InOneSlot, IsCommon, args_at, hashed_args, hashed_in, hashed_of}
 use Rattle.resp_routing.specs.Slots.{IsSlot}
 
 pub at_more : (args : Args) (positions : List ℕ) (i : ℕ) (key : List ℕ) → i < length positions
@@ -111,3 +113,16 @@ pub passes : (args : List (Bor (List ℕ))) (positions : List ℕ) (i : ℕ) (co
 passes args positions i common lt gone held =
     let past : length (words args) ≤ get_or positions i 0 = rw (length-map args (λ a. a.now)) gone in
     rw (at_none (words args) positions i lt (slice_get_past (words args) (get_or positions i 0) past)) held
+
+-- what is known of the arguments at the positions that were found is known of what the command's slot is computed of
+pub hashed_is : (P : Args → Type 0) (args : List (Bor (List ℕ))) (row : CommandInfo) (none positions slice : List ℕ)
+    → Some row ≡ command_of (words args) → true ≡ fits row (length args) → none ≡ []
+    → both (Ok none) (hashed_in row.keys (words args)) ≡ Ok positions → slice ≡ positions → P (args_at (words args) slice)
+    → IsOkAnd (hashed_of (words args)) P
+hashed_is P args row none positions slice found fit empty held same known =
+    let fitting : fits row (length (words args)) ≡ true = rw (length-map args (λ a. a.now)) (sym fit) in
+    rw (sym found, fitting) (of_positions (hashed_in row.keys (words args)) (rw empty at held))
+  where
+    of_positions : (found : Positions) → both (Ok []) found ≡ Ok positions → IsOkAnd (hashed_args found (words args)) P
+    of_positions (Ok ps) joined = let all : ps ≡ slice = cc in rw all known
+    of_positions (Err e) joined = cc

@@ -1,5 +1,5 @@
 -- Which arguments of a command are keys, by their positions; the name is at 0.
-use Rattle.std.specs.Prelude.{◌≡◌, ◌≢◌, ℕ, ◌+◌, ◌-◌, ◌/◌, ◌%◌, Bool, ◌&&◌, ◌||◌, not, ◌==◌, nat_lt, nat_le, List, [], ◌∷◌, ◌++◌}
+use Rattle.std.specs.Prelude.{◌≡◌, ◌≢◌, ℕ, ◌+◌, ◌-◌, ◌/◌, ◌%◌, Bool, true, false, ◌&&◌, ◌||◌, not, ◌==◌, nat_lt, nat_le, List, [], ◌∷◌, ◌++◌}
 use Rattle.std.specs.Prelude.{length, take, drop, filter, slice_index, if◌then◌else◌, Option, None, Some, option_map}
 use Rattle.std.specs.Prelude.{Result, Ok, Err, MatchResult, codes}
 use Rattle.std.specs.List.{position_from, range_with_len}
@@ -100,10 +100,20 @@ keys_in (Channels a) args = Ok []
 keys_in Unspecified args = Err NotSpecified
 keys_in OfSubcommand args = Err UnknownCommand
 
+-- a command with such keys has some
+abbrev pub has_keys : Keys → Bool
+has_keys NoKeys = false
+has_keys (Channels a) = false
+has_keys keys = true
+
+-- the row fits so many arguments: that is asked of a command with keys alone
+abbrev pub fits : CommandInfo → ℕ → Bool
+fits row count = not (has_keys row.keys) || takes row.arity count
+
 -- of a command with this row
 abbrev pub keys_by : Option CommandInfo → Args → Positions
 keys_by None args = Err UnknownCommand
-keys_by (Some row) args = if takes row.arity (length args) then keys_in row.keys args else Err WrongArity
+keys_by (Some row) args = if fits row (length args) then keys_in row.keys args else Err WrongArity
 
 -- the positions of a command's keys
 abbrev pub keys_of : Args → Positions

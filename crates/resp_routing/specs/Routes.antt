@@ -4,8 +4,8 @@ use Rattle.std.specs.Prelude.{Result, Ok, Err, IsOkAnd, length, slice_get, if◌
 use Rattle.std.specs.List.{filter_map}
 use Rattle.std.specs.Option.{option_map_or}
 use Rattle.resp_args.specs.Args.{Args}
-use Rattle.resp_routing.specs.Commands.{command_of, takes}
-use Rattle.resp_routing.specs.Keys.{Positions, keys_in, named}
+use Rattle.resp_routing.specs.Commands.{command_of}
+use Rattle.resp_routing.specs.Keys.{Positions, fits, keys_in, named}
 use Rattle.resp_routing.specs.Slots.{IsSlot}
 use Rattle.resp_routing.specs.declared.commands.Access.{Access}
 use Rattle.resp_routing.specs.declared.commands.Access.TheVariants.{Reads, Writes, Neither}
@@ -35,7 +35,7 @@ hashed_args (Err e) args = Err e
 abbrev pub hashed_by : Option CommandInfo → Args → Result Args RoutingError
 hashed_by None args = Err UnknownCommand
 hashed_by (Some row) args =
-    if takes row.arity (length args) then hashed_args (hashed_in row.keys args) args else Err WrongArity
+    if fits row (length args) then hashed_args (hashed_in row.keys args) args else Err WrongArity
 
 -- what a command's slot is computed of
 abbrev pub hashed_of : Args → Result Args RoutingError

@@ -5,10 +5,10 @@ ghost use Rattle.std.specs.Prelude.{◌+◌, ◌<◌, ◌^◌, length, drop};
 ghost use Rattle.std.specs.Str.{all_ascii_digits, str_eq_ignore_ascii_case};
 ghost use Rattle.resp_routing.specs.Commands.{words};
 ghost use Rattle.resp_routing.specs.Keys.{after_word, beginning, both, counted, every_second, found};
-ghost use Rattle.resp_routing.specs.Keys.{is_number, keys_in, keys_of, named, number_of, numbered, word_text};
+ghost use Rattle.resp_routing.specs.Keys.{fits, has_keys, is_number, keys_in, keys_of, named, number_of, numbered, word_text};
 ghost use Rattle.resp_routing.specs.Keys.{Adds};
 
-use crate::commands::{BeginSearch, FindKeys, KeySpec, Keys, Keyword};
+use crate::commands::{BeginSearch, CommandInfo, FindKeys, KeySpec, Keys, Keyword};
 use crate::errors::RoutingError;
 use crate::lookup::command_info;
 use std::alloc::Global;
@@ -25,7 +25,7 @@ pub fn keys_of(alloc: Global, args: &[&[u8]]) -> Result<Vec<usize>, RoutingError
     let Some(command) = command_info(args) else {
         return Err(RoutingError::UnknownCommand);
     };
-    if !command.arity.takes(args.len()) {
+    if !command.fits(args.len()) {
         return Err(RoutingError::WrongArity);
     }
     let mut positions = Vec::new(alloc);
@@ -33,7 +33,27 @@ pub fn keys_of(alloc: Global, args: &[&[u8]]) -> Result<Vec<usize>, RoutingError
     Ok(positions)
 }
 
+impl CommandInfo {
+    /// Whether it may have so many arguments: that is asked of a command with keys alone.
+    pub(crate) fn fits(&self, count: usize) -> bool
+        ensures { result ≡ fits self.now count }
+    {
+        !self.keys.are_some() || self.arity.takes(count)
+    }
+}
+
 impl Keys {
+    /// Whether a command with such keys has some.
+    fn are_some(&self) -> bool
+        ensures { result ≡ has_keys self.now }
+    {
+        match self {
+            Keys::NoKeys | Keys::Channels(_) => false,
+            Keys::One(_) | Keys::Two(_, _) | Keys::Three(_, _, _) => true,
+            Keys::Unspecified | Keys::OfSubcommand => true,
+        }
+    }
+
     /// Appends the positions of the keys.
     #[tactic(auto, unfolding(crate::specs::Keys::keys_in))]
     pub(crate) fn push_keys(

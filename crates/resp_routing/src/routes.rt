@@ -34,7 +34,7 @@ pub fn route_of(alloc: Global, args: &[&[u8]]) -> Result<Route, RoutingError>
     let Some(command) = command_info(args) else {
         return Err(RoutingError::UnknownCommand);
     };
-    if !command.arity.takes(args.len()) {
+    if !command.fits(args.len()) {
         return Err(RoutingError::WrongArity);
     }
     let mut positions = Vec::new(alloc);
