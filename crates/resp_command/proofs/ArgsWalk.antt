@@ -6,7 +6,7 @@ use Rattle.resp_args.specs.Args.{Args}
 use Rattle.resp_command.specs.Cursors.{AscendWithin}
 use Rattle.resp_command.specs.ShownArgs.{shown_from}
 
-unequal : (a b : ℕ) → a ≢ b → nat_eq a b ≡ false
+pub unequal : (a b : ℕ) → a ≢ b → nat_eq a b ≡ false
 unequal a b apart = by_test (nat_eq a b) refl
   where
     by_test : (test : Bool) → nat_eq a b ≡ test → nat_eq a b ≡ false

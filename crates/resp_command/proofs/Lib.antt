@@ -1,6 +1,7 @@
 pub mod ArgsWalk
 pub mod CursorArgs
 pub mod DecimalReadsBack
+pub mod FirstArgument
 pub mod FramedArgs
 pub mod LastPieces
 pub mod LongerFrame

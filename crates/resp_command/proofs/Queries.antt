@@ -8,7 +8,7 @@ use Rattle.resp_errors.specs.declared.redis_error.RedisError.TheVariants.{Io, Pa
 use Rattle.resp_errors.specs.declared.kinds.IoKind.TheVariants.{UnexpectedEof}
 use Rattle.resp_errors.specs.declared.parsing_error.ParsingError.TheVariants.{Fault}
 use Rattle.resp_command.specs.Call.{Asks, Call, CommandCall, Reconnects, Refuses, AnswersReply, Answers, needed}
-use Rattle.resp_command.specs.Call.{broken_link, no_command, refused, replaced}
+use Rattle.resp_command.specs.Call.{broken_link, no_command, no_reply, refused, replaced}
 use Rattle.resp_command.specs.Command.{Command}
 use Rattle.resp_command.specs.CommandQuery.{CommandQuery}
 use Rattle.resp_command.specs.Connection.{push_room, Connection, Bytes, ExchangeOf, Exchange, replied}
@@ -120,19 +120,21 @@ module _ {A B : Type 0} (new : Connection) (q : List ℕ) (n : ℕ) (answers ans
   refuses_err : (e f : RedisError) → Refuses {A = A} old new f (Err e) → Refuses {A = B} old new f (Err e)
   refuses_err e f h = record { answer = (let i : e ≡ f = (let k = h.answer in cc) in ap Err i); same = h.same }
 
-  asks_err : (IsEmpty : Type 0) (e : RedisError) → ((replies : List Value) → answers replies → ⊥)
-      → Asks {A = A} old new IsEmpty q n (Err e) answers → Asks {A = B} old new IsEmpty q n (Err e) answers'
-  asks_err IsEmpty e none h = record {
+  asks_err : (IsEmpty IsUnanswered : Type 0) (e : RedisError) → ((replies : List Value) → answers replies → ⊥)
+      → Asks {A = A} old new IsEmpty IsUnanswered q n (Err e) answers → Asks {A = B} old new IsEmpty IsUnanswered q n (Err e) answers'
+  asks_err IsEmpty IsUnanswered e none h = record {
     when_empty = λ m. refuses_err e no_command (h.when_empty m);
-    otherwise = λ m. exchange_err e none (h.otherwise m);
+    when_unanswered = λ m. refuses_err e no_reply (h.when_unanswered m);
+    otherwise = λ m k. exchange_err e none (h.otherwise m k);
   }
 
-  asks_ok : (IsEmpty : Type 0) (a : A) (r : Result B RedisError)
+  asks_ok : (IsEmpty IsUnanswered : Type 0) (a : A) (r : Result B RedisError)
       → ((replies : List Value) → length replies ≡ n → answers replies → answers' replies)
-      → Asks {A = A} old new IsEmpty q n (Ok a) answers → Asks {A = B} old new IsEmpty q n r answers'
-  asks_ok IsEmpty a r turn h = record {
+      → Asks {A = A} old new IsEmpty IsUnanswered q n (Ok a) answers → Asks {A = B} old new IsEmpty IsUnanswered q n r answers'
+  asks_ok IsEmpty IsUnanswered a r turn h = record {
     when_empty = λ m. absurd (refuses_ok old new a no_command (h.when_empty m));
-    otherwise = λ m. exchange_ok a r turn (h.otherwise m);
+    when_unanswered = λ m. absurd (refuses_ok old new a no_reply (h.when_unanswered m));
+    otherwise = λ m k. exchange_ok a r turn (h.otherwise m k);
   }
 
 -- a connection that reconnects, by what is said of the call over the other in its place
@@ -156,24 +158,24 @@ reconnects_over old new r MadeOver MadeOver' turn (refused e h) = refused e h
 reconnects_over old new r MadeOver MadeOver' turn (replaced other works h) = replaced other works (turn other h)
 
 module _ {A B : Type 0} (old new : Connection) (q : List ℕ) (n : ℕ) (answers answers' : List Value → Type 0)
-    (IsEmpty : Type 0) where
+    (IsEmpty IsUnanswered : Type 0) where
   pub call_err : (e : RedisError) → ((replies : List Value) → answers replies → ⊥)
-      → Call {A = A} old new IsEmpty q n (Err e) answers → Call {A = B} old new IsEmpty q n (Err e) answers'
+      → Call {A = A} old new IsEmpty IsUnanswered q n (Err e) answers → Call {A = B} old new IsEmpty IsUnanswered q n (Err e) answers'
   call_err e none h = record {
     when_broken = λ b same. refuses_err new q n answers answers' old e broken_link (h.when_broken b same);
     when_lost = λ b again. reconnects_err old new _ _
-        (λ other. asks_err new q n answers answers' other IsEmpty e none) e (h.when_lost b again);
-    when_working = λ b. asks_err new q n answers answers' old IsEmpty e none (h.when_working b);
+        (λ other. asks_err new q n answers answers' other IsEmpty IsUnanswered e none) e (h.when_lost b again);
+    when_working = λ b. asks_err new q n answers answers' old IsEmpty IsUnanswered e none (h.when_working b);
   }
 
   pub call_ok : (a : A) (r : Result B RedisError)
       → ((replies : List Value) → length replies ≡ n → answers replies → answers' replies)
-      → Call {A = A} old new IsEmpty q n (Ok a) answers → Call {A = B} old new IsEmpty q n r answers'
+      → Call {A = A} old new IsEmpty IsUnanswered q n (Ok a) answers → Call {A = B} old new IsEmpty IsUnanswered q n r answers'
   call_ok a r turn h = record {
     when_broken = λ b same. absurd (refuses_ok old new a broken_link (h.when_broken b same));
     when_lost = λ b again. reconnects_ok old new _ _
-        (λ other. asks_ok new q n answers answers' other IsEmpty a r turn) a r (h.when_lost b again);
-    when_working = λ b. asks_ok new q n answers answers' old IsEmpty a r turn (h.when_working b);
+        (λ other. asks_ok new q n answers answers' other IsEmpty IsUnanswered a r turn) a r (h.when_lost b again);
+    when_working = λ b. asks_ok new q n answers answers' old IsEmpty IsUnanswered a r turn (h.when_working b);
   }
 
 -- an exchange in which nothing came and nothing was sent
@@ -234,7 +236,7 @@ module _ {X : Type 0} (old new : Connection) (c : Command) (Of : Value → X →
   command_refused sent e is h = record {
     reads_only = packed_reads_only c.args;
     takes_one = λ arrived. takes_one_thing old.limits (push_room old) (needed c) (old.received ++ arrived);
-    call = call_err old new (packed c.args) (needed c) (ReplyIs (Err e)) _ _ e (none_answered e) (rw is at h);
+    call = call_err old new (packed c.args) (needed c) (ReplyIs (Err e)) _ _ _ e (none_answered e) (rw is at h);
   }
 
   pub command_answered : (sent : Result Value RedisError) (v : Value) (r : Result X RedisError) → sent ≡ Ok v
@@ -242,6 +244,6 @@ module _ {X : Type 0} (old new : Connection) (c : Command) (Of : Value → X →
   command_answered sent v r is answer h = record {
     reads_only = packed_reads_only c.args;
     takes_one = λ arrived. takes_one_thing old.limits (push_room old) (needed c) (old.received ++ arrived);
-    call = call_ok old new (packed c.args) (needed c) (ReplyIs (Ok v)) _ _ v r
+    call = call_ok old new (packed c.args) (needed c) (ReplyIs (Ok v)) _ _ _ v r
         (λ replies _. reply_answered Of v r answer replies) (rw is at h);
   }

@@ -10,6 +10,7 @@ use Rattle.resp_from.specs.Conversion.{ConvertsCall}
 use Rattle.resp_command.specs.Packed.{packed}
 use Rattle.resp_command.specs.Command.{Command}
 use Rattle.resp_command.specs.Connection.{Connection, Exchange}
+use Rattle.resp_command.specs.Subscriptions.{IsUnanswered}
 
 -- what a connection answers that broke before
 abbrev pub broken_link : RedisError
@@ -18,6 +19,11 @@ broken_link = General kind.Io (codes "link is broken") None
 -- what an empty command is refused with
 abbrev pub no_command : RedisError
 no_command = General kind.Client (codes "empty command") None
+
+-- what a command is refused with that would get no reply
+abbrev pub no_reply : RedisError
+no_reply = General kind.Client
+    (codes "a subscription has no reply: set_no_response, then next_push") None
 
 -- the call is refused, and nothing changes
 pub record Refuses {A : Type 0} (old new : Connection) (e : RedisError)
@@ -34,20 +40,22 @@ pub data Reconnects {A : Type 0} (old new : Connection) (r : Result A RedisError
   replaced : (other : Connection) → other.broken ≡ false → MadeOver other
       → Reconnects old new r MadeOver
 
--- a call over a connection that works: refused where the command is empty, and else an exchange
-pub record Asks {A : Type 0} (old new : Connection) (IsEmpty : Type 0) (q : List ℕ) (n : ℕ)
-    (r : Result A RedisError) (answers : List Value → Type 0) : Type 0 where
+-- a call over a connection that works: refused where the command is empty, or where no reply would
+-- come to it, and else an exchange
+pub record Asks {A : Type 0} (old new : Connection) (IsEmpty IsUnanswered : Type 0)
+    (q : List ℕ) (n : ℕ) (r : Result A RedisError) (answers : List Value → Type 0) : Type 0 where
   pub when_empty : IsEmpty → Refuses old new no_command r
-  pub otherwise : (IsEmpty → ⊥) → Exchange old new q n r answers
+  pub when_unanswered : IsUnanswered → Refuses old new no_reply r
+  pub otherwise : (IsEmpty → ⊥) → (IsUnanswered → ⊥) → Exchange old new q n r answers
 
 -- the contract of a call that sends q and needs n replies: refused of a connection that broke, if
 -- it doesn't reconnect
-pub record Call {A : Type 0} (old new : Connection) (IsEmpty : Type 0) (q : List ℕ) (n : ℕ)
-    (r : Result A RedisError) (answers : List Value → Type 0) : Type 0 where
+pub record Call {A : Type 0} (old new : Connection) (IsEmpty IsUnanswered : Type 0)
+    (q : List ℕ) (n : ℕ) (r : Result A RedisError) (answers : List Value → Type 0) : Type 0 where
   pub when_broken : old.broken ≡ true → old.reconnects ≡ false → Refuses old new broken_link r
   pub when_lost : old.broken ≡ true → old.reconnects ≡ true →
-      Reconnects old new r (λ other. Asks other new IsEmpty q n r answers)
-  pub when_working : old.broken ≡ false → Asks old new IsEmpty q n r answers
+      Reconnects old new r (λ other. Asks other new IsEmpty IsUnanswered q n r answers)
+  pub when_working : old.broken ≡ false → Asks old new IsEmpty IsUnanswered q n r answers
 
 -- how many replies a command needs
 abbrev pub needed : Command → ℕ
@@ -63,11 +71,11 @@ AnswersReply answers (reply ∷ next ∷ more) = ⊥
 abbrev pub CommandCall : {A : Type 0} → Connection → Connection → Command →
     Result A RedisError → (Value → Type 0) → Type 0
 CommandCall old new c r answers =
-    Call old new (c.args ≡ []) (packed c.args) (needed c) r (AnswersReply answers)
+    Call old new (c.args ≡ []) (IsUnanswered c) (packed c.args) (needed c) r (AnswersReply answers)
 
 -- a call that sends a packed command and answers its reply
 abbrev pub PackedCall : Connection → Connection → List ℕ → Result Value RedisError → Type 0
-PackedCall old new q r = Call old new (q ≡ []) q 1 r (AnswersReply (λ reply. r ≡ Ok reply))
+PackedCall old new q r = Call old new (q ≡ []) ⊥ q 1 r (AnswersReply (λ reply. r ≡ Ok reply))
 
 -- the replies after the first of them are answered
 abbrev pub AnswersFrom : {V : Type 0} → (V → List Value) → ℕ → Result V RedisError →

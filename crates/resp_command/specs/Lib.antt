@@ -4,6 +4,7 @@ pub mod CommandQuery
 pub mod Connection
 pub mod Cursors
 pub mod EncodedArgs
+pub mod NextPush
 pub mod Packed
 pub mod PackingLaw
 pub mod PageParts
@@ -14,4 +15,5 @@ pub mod ScanStates
 pub mod Scans
 pub mod Fetching
 pub mod ShownArgs
+pub mod Subscriptions
 pub mod Taken

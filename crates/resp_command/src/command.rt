@@ -15,13 +15,15 @@ ghost use Rattle.resp_command.specs.Call.{Answers};
 ghost use Rattle.resp_command.specs.CommandQuery.{CommandQuery};
 ghost use Rattle.resp_command.specs.Scans.{CannotStart, FirstRequest, Starts, scan_request};
 ghost use Rattle.resp_command.specs.ScanStates.{borrowed, scan_state, state_of};
+ghost use Rattle.resp_command.specs.Subscriptions.{IsUnanswered, is_subscription};
 
-use crate::args_iter::ArgsIter;
+use crate::args_iter::{Arg, ArgsIter};
 use crate::connection::ConnectionLike;
 use crate::encoded_args::EncodedArgs;
 use crate::packing::{append_frames, append_pieces};
 use crate::progress::ScanProgress;
 use crate::scan::{Iter, Scan};
+use crate::subscriptions::is_subscription_name;
 use itoa::Buffer;
 use resp_args::{RedisWrite, ToRedisArgs};
 use resp_from::FromRedisValue;
@@ -315,6 +317,26 @@ impl Cmd {
         ensures { result ≡ self.now.no_response }
     {
         self.no_response
+    }
+
+    /// Whether a reply is waited for that wouldn't come: the command is `SUBSCRIBE`, `UNSUBSCRIBE`,
+    /// or one of these after `P` or `S`, in letters of either case, which a server answers by
+    /// messages alone, and [`Cmd::set_no_response`] wasn't called. Takes no memory.
+    pub fn is_unanswered(&self) -> bool
+        ensures { IsTrue result ↔ IsUnanswered self.now }
+    {
+        !self.no_response && self.is_subscription()
+    }
+
+    /// Whether the first argument is the name of a subscription.
+    #[tactic(auto, using(crate::proofs::FirstArgument::cursor_first))]
+    fn is_subscription(&self) -> bool
+        ensures { result ≡ is_subscription self.now.args }
+    {
+        match self.args_iter().next() {
+            Some(Arg::Simple(name)) => is_subscription_name(name),
+            Some(Arg::Cursor) | None => false,
+        }
     }
 
     /// Sends the command and converts its reply.

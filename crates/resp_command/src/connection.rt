@@ -13,8 +13,9 @@ use resp_value::{RedisResult, Value};
 /// A connection to a server: something that takes requests and answers replies.
 ///
 /// Each request is refused, in this order: where the connection broke before; for an empty
-/// command, but several packed commands may be none; for a fault of sending or flushing; for a
-/// fault of receiving; for an early end; for bytes that are no reply. `OutOfMemory` may come at any
+/// command, but several packed commands may be none; for a command that subscribes or unsubscribes
+/// and whose reply is waited for, since none comes; for a fault of sending or flushing; for a fault
+/// of receiving; for an early end; for bytes that are no reply. `OutOfMemory` may come at any
 /// place. After a refusal of the last four, and on `OutOfMemory` once sending was begun, the
 /// connection is broken: permanently, unless it is one that reconnects. That has another take its
 /// place before it sends the next request, and sends none twice.
@@ -25,6 +26,10 @@ pub trait ConnectionLike {
     ghost connection: { Self → Connection };
 
     /// Sends a command and answers its reply, or `Nil` at once where none is waited for.
+    ///
+    /// `SUBSCRIBE`, `UNSUBSCRIBE` and these after `P` or `S` are answered by messages alone. Where a
+    /// reply to one is waited for, it isn't sent, and refused with kind `Client`, `a subscription has
+    /// no reply: set_no_response, then next_push`. Packed commands aren't looked into.
     fn req_command(&mut self, cmd: &Cmd) -> RedisResult<Value>
         ensures { CommandCall (connection self.old) (connection self.new) cmd.now result
             (λ reply. result ≡ Ok reply) };
@@ -41,8 +46,8 @@ pub trait ConnectionLike {
         offset: usize,
         count: usize,
     ) -> RedisResult<Vec<Value>>
-        ensures call { Call (connection self.old) (connection self.new) ⊥ bytes.now (offset + count)
-            result (AnswersFrom (λ vs. vs.items) offset result) }
+        ensures call { Call (connection self.old) (connection self.new) ⊥ ⊥ bytes.now
+            (offset + count) result (AnswersFrom (λ vs. vs.items) offset result) }
         ensures counted { IfOk result (λ vs. length vs.items ≡ count) };
 
     /// Whether several commands may be sent at once.

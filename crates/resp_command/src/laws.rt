@@ -12,6 +12,7 @@ ghost use Rattle.resp_args.specs.Args.{Args};
 ghost use Rattle.resp_parse.specs.declared.limits.Limits.{Limits};
 ghost use Rattle.resp_command.specs.PackingLaw.{LawOfPacking, LawOfRequests};
 ghost use Rattle.resp_command.specs.ScanLaw.{LawOfScans};
+ghost use Rattle.resp_command.specs.Subscriptions.{IsUnanswered};
 ghost use Rattle.resp_command.specs.Taken.{TakesOneThing};
 
 use crate::args_iter::Arg;
@@ -44,12 +45,13 @@ pub fn law_of_scans<T: FromRedisValue>()
     ensures { LawOfScans T.WIDTH T.of_value }
 {}
 
-/// Over a source that tells its bytes, as memory does, a query takes its reply from all bytes that
-/// are incoming: what is said of those that came holds of them all.
+/// Over a source that tells its bytes, as memory does, a query that is sent takes its reply from all
+/// bytes that are incoming: what is said of those that came holds of them all.
 pub fn law_of_commands_in_memory<T: FromRedisValue>()
     ensures { (old new : Connection) (c : Command) (r : Result T RedisError) (later : List ℕ)
         → CommandQuery old new c T.of_value r → old.broken ≡ false → c.args ≢ []
-        → old.to_come ≡ Some later → KnownExchange old new later (packed c.args) (needed c) r
+        → (IsUnanswered c → ⊥) → old.to_come ≡ Some later
+        → KnownExchange old new later (packed c.args) (needed c) r
         (AnswersReply (Answers T.of_value r)) }
 {}
 

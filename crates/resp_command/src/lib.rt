@@ -13,13 +13,16 @@ pub mod laws;
 mod packing;
 mod pages;
 mod progress;
+mod push_source;
 mod scan;
 mod start;
+mod subscriptions;
 
 pub use args_iter::{Arg, ArgsIter};
 pub use command::Cmd;
 pub use connection::ConnectionLike;
 pub use packing::pack_command;
 pub use progress::ScanProgress;
+pub use push_source::PushSource;
 pub use scan::{Iter, Scan};
 pub use start::cmd;

@@ -74,7 +74,7 @@ module _ {A : Type 0} (old new : Connection) (said : List Said) (done : A) (work
     where
       by_replies : (replies : Result (List Value) RedisError) → h.replies ≡ replies → Sent old new said
       by_replies (Ok all) is =
-          let call = rw is at h.call in exchanged old new said _ all _ ((call.when_working works).otherwise (λ k. k))
+          let call = rw is at h.call in exchanged old new said _ all _ ((call.when_working works).otherwise (λ k. k) (λ k. k))
       by_replies (Err e) is = absurd (not_failed e (rw is at h.answer))
 
 -- one exchange after another

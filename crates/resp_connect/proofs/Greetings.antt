@@ -47,8 +47,8 @@ steps-length (x ∷ xs) = ap (λ n. suc n) (steps-length xs)
 -- what the call of the connection answered
 module _ {A V : Type 0} (items : V → List Value) (old new : Connection) (bytes : List ℕ) (steps : List GreetingStep)
     (said : List Said) (holds : Holds bytes steps said) (sent : Result V RedisError)
-    (h : Call old new ⊥ bytes (0 + length steps) sent (AnswersFrom items 0 sent)) (done : A) where
-  asked : Call old new ⊥ (request said) (length said) sent (AnswersFrom items 0 sent)
+    (h : Call old new ⊥ ⊥ bytes (0 + length steps) sent (AnswersFrom items 0 sent)) (done : A) where
+  asked : Call old new ⊥ ⊥ (request said) (length said) sent (AnswersFrom items 0 sent)
   asked =
       let count : 0 + length steps ≡ length said =
       (let len = ap length holds.1 ∙ steps-length said in omega (arith, len)) in
@@ -57,7 +57,7 @@ module _ {A V : Type 0} (items : V → List Value) (old new : Connection) (bytes
   pub says_failed : (e : RedisError) → sent ≡ Err e → Says old new said done (Err (Failed e))
   says_failed e is = record {
     replies = Err e;
-    call = call_err {A = V} {B = List Value} old new (request said) (length said) (AnswersFrom items 0 (Err e)) _ ⊥ e
+    call = call_err {A = V} {B = List Value} old new (request said) (length said) (AnswersFrom items 0 (Err e)) _ ⊥ ⊥ e
         (λ replies k. k) (rw is at asked);
     answer = refl;
   }
@@ -65,7 +65,7 @@ module _ {A V : Type 0} (items : V → List Value) (old new : Connection) (bytes
   pub says_answered : (v : V) → sent ≡ Ok v → Says old new said done (verdict done (refusals steps (items v)))
   says_answered v is = record {
     replies = Ok (items v);
-    call = call_ok {A = V} {B = List Value} old new (request said) (length said) (AnswersFrom items 0 (Ok v)) _ ⊥ v
+    call = call_ok {A = V} {B = List Value} old new (request said) (length said) (AnswersFrom items 0 (Ok v)) _ ⊥ ⊥ v
         (Ok (items v)) (λ replies _ all. ap Ok all) (rw is at asked);
     answer = ap (λ s. verdict done (refusals s (items v))) holds.1;
   }

@@ -119,37 +119,42 @@ module _ {A : Type 0} (old new : Connection) (q : List ℕ) (n : ℕ) (r : Resul
     of = exchange_of _ h.of;
   }
 
-  asks : (IsEmpty : Type 0) → Asks old new IsEmpty q n r answers → Asks old' new' IsEmpty q n r answers
-  asks IsEmpty h = record {
+  asks : (IsEmpty IsUnanswered : Type 0) → Asks old new IsEmpty IsUnanswered q n r answers
+      → Asks old' new' IsEmpty IsUnanswered q n r answers
+  asks IsEmpty IsUnanswered h = record {
     when_empty = λ none. record { answer = (h.when_empty none).answer; same = ap replaceable (h.when_empty none).same };
-    otherwise = λ some. exchange (h.otherwise some);
+    when_unanswered = λ none. record {
+      answer = (h.when_unanswered none).answer;
+      same = ap replaceable (h.when_unanswered none).same;
+    };
+    otherwise = λ some answered. exchange (h.otherwise some answered);
   }
 
 -- ---- calls
 
-module _ {A : Type 0} (IsEmpty : Type 0) (q : List ℕ) (n : ℕ) (r : Result A RedisError)
+module _ {A : Type 0} (IsEmpty IsUnanswered : Type 0) (q : List ℕ) (n : ℕ) (r : Result A RedisError)
     (answers : List Value → Type 0) where
   -- over a link that works
-  over_link : (old new : Connection) → old.broken ≡ false → Call old new IsEmpty q n r answers
-      → Call (replaceable old) (replaceable new) IsEmpty q n r answers
+  over_link : (old new : Connection) → old.broken ≡ false → Call old new IsEmpty IsUnanswered q n r answers
+      → Call (replaceable old) (replaceable new) IsEmpty IsUnanswered q n r answers
   over_link old new works h = record {
     when_broken = λ b _. absurd (let k : true ≡ false = sym b ∙ works in cc);
     when_lost = λ b _. absurd (let k : true ≡ false = sym b ∙ works in cc);
-    when_working = λ _. asks old new q n r answers IsEmpty (h.when_working works);
+    when_working = λ _. asks old new q n r answers IsEmpty IsUnanswered (h.when_working works);
   }
 
   -- over another that works, in place of one that is lost
   over_other : (lost old new : Connection) → lost.broken ≡ true → lost.reconnects ≡ true → old.broken ≡ false
-      → Call old new IsEmpty q n r answers → Call lost (replaceable new) IsEmpty q n r answers
+      → Call old new IsEmpty IsUnanswered q n r answers → Call lost (replaceable new) IsEmpty IsUnanswered q n r answers
   over_other lost old new broken again works h = record {
     when_broken = λ _ never. absurd (let k : true ≡ false = sym again ∙ never in cc);
-    when_lost = λ _ _. replaced (replaceable old) works (asks old new q n r answers IsEmpty (h.when_working works));
+    when_lost = λ _ _. replaced (replaceable old) works (asks old new q n r answers IsEmpty IsUnanswered (h.when_working works));
     when_working = λ w. absurd (let k : true ≡ false = sym broken ∙ w in cc);
   }
 
   -- none was had
   not_reached : (lost : Connection) (e : RedisError) → lost.broken ≡ true → lost.reconnects ≡ true → r ≡ Err e
-      → Call lost lost IsEmpty q n r answers
+      → Call lost lost IsEmpty IsUnanswered q n r answers
   not_reached lost e broken again is = record {
     when_broken = λ _ never. absurd (let k : true ≡ false = sym again ∙ never in cc);
     when_lost = λ _ _. refused e (record { answer = is; same = refl });
@@ -163,25 +168,25 @@ module _ {A : Type 0} (IsEmpty : Type 0) (q : List ℕ) (n : ℕ) (r : Result A 
 
     -- a link was had, and the call was made over it
     pub called : (old : Option L) (before after : L) → Reaches of_link old (Some before) (Ok tt)
-        → Call (of_link before) (of_link after) IsEmpty q n r answers
-        → Call (reconnecting of_link old) (reconnecting of_link (Some after)) IsEmpty q n r answers
+        → Call (of_link before) (of_link after) IsEmpty IsUnanswered q n r answers
+        → Call (reconnecting of_link old) (reconnecting of_link (Some after)) IsEmpty IsUnanswered q n r answers
     called old before after h call = by_old (reconnecting of_link old).broken refl
       where
         works : (of_link before).broken ≡ false
         works = h.reached tt refl
 
         by_old : (b : Bool) → (reconnecting of_link old).broken ≡ b
-            → Call (reconnecting of_link old) (reconnecting of_link (Some after)) IsEmpty q n r answers
+            → Call (reconnecting of_link old) (reconnecting of_link (Some after)) IsEmpty IsUnanswered q n r answers
         by_old false w = rw (sym (h.kept w).0) (over_link (of_link before) (of_link after) works call)
         by_old true broken = over_other (reconnecting of_link old) (of_link before) (of_link after) broken (always old)
             works call
 
     -- none was had, and the call is refused
     pub unreached : (old new : Option L) (e : RedisError) → Reaches of_link old new (Err e) → r ≡ Err e
-        → Call (reconnecting of_link old) (reconnecting of_link new) IsEmpty q n r answers
+        → Call (reconnecting of_link old) (reconnecting of_link new) IsEmpty IsUnanswered q n r answers
     unreached old new e h is = by_old (reconnecting of_link old).broken refl
       where
         by_old : (b : Bool) → (reconnecting of_link old).broken ≡ b
-            → Call (reconnecting of_link old) (reconnecting of_link new) IsEmpty q n r answers
+            → Call (reconnecting of_link old) (reconnecting of_link new) IsEmpty IsUnanswered q n r answers
         by_old false w = absurd (let k = (h.kept w).1 in cc)
         by_old true broken = rw (h.refused e refl) (not_reached (reconnecting of_link old) e broken (always old) is)

@@ -1,6 +1,8 @@
 -- Lists of links that all work.
 use Rattle.std.proofs.Common.{◌≡◌, ◌∙◌, sym, ap, arith, ℕ, ◌-◌, Bool, true, false, List, [], ◌∷◌, ◌++◌, length, refl, if◌then◌else◌}
 use Rattle.std.proofs.Common.{append-nil, length-append, not}
+use Rattle.std.specs.List.{All}
+use Rattle.std.proofs.lemmas.List.Elements.{All-head, All-tail}
 use Rattle.resp_command.specs.Connection.{Connection}
 use Rattle.resp_connect.specs.Pools.{AllWork, IsPool}
 
@@ -20,6 +22,11 @@ module _ {L : Type 0} (of_link : L → Connection) where
       → (of_link link).broken ≡ false
   last_works [] link all = all.0
   last_works (first ∷ links) link all = last_works links link all.1
+
+-- what is known of all is known of the one at the end
+pub last_has : {L : Type 0} (Known : L → Type 0) (links : List L) (link : L) → All Known (links ++ link ∷ []) → Known link
+last_has Known [] link all = All-head Known link [] all
+last_has Known (first ∷ links) link all = last_has Known links link (All-tail Known first _ all)
 
 -- a list from which nothing could be taken
 pub no_elements : {L : Type 0} (links : List L) → length links ≡ 0 → links ≡ []

@@ -122,7 +122,7 @@ IsVerdict said done (Err e) r = r ≡ Err (Failed e)
 pub record Says {A : Type 0} (old new : Connection) (said : List Said) (done : A)
     (r : Result A GreetingError) : Type 0 where
   pub replies : Result (List Value) RedisError
-  pub call : Call old new ⊥ (request said) (length said) replies (λ all. replies ≡ Ok all)
+  pub call : Call old new ⊥ ⊥ (request said) (length said) replies (λ all. replies ≡ Ok all)
   pub answer : IsVerdict said done replies r
 
 -- as an error of the crate

@@ -27,19 +27,22 @@ pub record IsPool {L : Type 0} (of_link : L → Connection) (idle : List L) (len
 abbrev pub used_up : RedisError
 used_up = General Client (codes "every link of the pool is lent") None
 
--- a link is handed out
-pub data Gets {L : Type 0} (old new : Links L) (r : Result L RedisError) : Type 0 where
+-- a link is handed out; of one that is dialled this is known
+pub data Gets {L : Type 0} (Greeted : L → Type 0) (old new : Links L) (r : Result L RedisError) :
+    Type 0 where
   -- the last that was given back
   reused : (link : L) → old.idle ≡ new.idle ++ link ∷ []
-      → new ≡ record old { idle = new.idle; lent = old.lent + 1 } → r ≡ Ok link → Gets old new r
+      → new ≡ record old { idle = new.idle; lent = old.lent + 1 } → r ≡ Ok link
+      → Gets Greeted old new r
   -- none waits, and another is dialled
-  dialled : (link : L) → old.idle ≡ [] → old.lent < old.most
-      → new ≡ record old { lent = old.lent + 1 } → r ≡ Ok link → Gets old new r
+  dialled : (link : L) → Greeted link → old.idle ≡ [] → old.lent < old.most
+      → new ≡ record old { lent = old.lent + 1 } → r ≡ Ok link → Gets Greeted old new r
   -- that was refused
   refused : (e : RedisError) → old.idle ≡ [] → old.lent < old.most → new ≡ old → r ≡ Err e
-      → Gets old new r
+      → Gets Greeted old new r
   -- none waits, and all are lent
-  all_lent : old.idle ≡ [] → old.lent ≡ old.most → new ≡ old → r ≡ Err used_up → Gets old new r
+  all_lent : old.idle ≡ [] → old.lent ≡ old.most → new ≡ old → r ≡ Err used_up
+      → Gets Greeted old new r
 
 -- a link is given back: it waits, or it is dropped, for lack of memory, too
 pub record Puts {L : Type 0} (of_link : L → Connection) (link : L) (old new : Links L) : Type 0 where

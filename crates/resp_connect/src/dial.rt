@@ -1,6 +1,6 @@
 //! Where a connection comes from.
 
-ghost use Rattle.std.specs.Prelude.{◌≡◌, false, IfOk};
+ghost use Rattle.std.specs.Prelude.{◌≡◌, false, IfOk, ⊤};
 
 use resp_command::ConnectionLike;
 use resp_value::RedisResult;
@@ -14,8 +14,13 @@ pub trait Dial {
     /// The connections that it opens.
     type Link: ConnectionLike + Drop;
 
+    /// What is known of a link when it was opened: how it was greeted, say. It is nothing where an
+    /// implementation doesn't say it.
+    ghost greeted: { Self.Link → Type 0 } = { λ link. ⊤ };
+
     /// Opens a connection and greets it, as by [`greet`](crate::greet). Fails where the server
     /// isn't reached, or refuses the greeting.
     fn dial(&mut self) -> RedisResult<Self::Link>
-        ensures works { IfOk result (λ link. (Self.Link.connection link).broken ≡ false) };
+        ensures works { IfOk result (λ link. (Self.Link.connection link).broken ≡ false) }
+        ensures greeted { IfOk result greeted };
 }

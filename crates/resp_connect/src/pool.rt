@@ -1,6 +1,7 @@
 //! Links that are used again.
 
 ghost use Rattle.std.specs.Prelude.{◌≡◌, false, IfOk, length};
+ghost use Rattle.std.specs.List.{All};
 ghost use Rattle.resp_connect.specs.Pools.{Gets, Puts, new_pool};
 
 use crate::dial::Dial;
@@ -11,9 +12,10 @@ use std::marker::Model;
 
 /// Links that one user after another takes and gives back, in one thread.
 ///
-/// A link that it hands out was dialled by it, works, and owes no reply. Each is handed out by move,
-/// so no two users have one at a time. A broken link that is given back is dropped. A link that
-/// isn't given back counts as lent for ever.
+/// A link that it hands out works, and owes no reply. It is a new one, as `dial` opened and greeted
+/// it, or one that was given back, as it was then. So where users give back none that isn't greeted,
+/// none is handed out. Each is handed out by move, so no two users have one at a time. A broken link
+/// that is given back is dropped. A link that isn't given back counts as lent for ever.
 ///
 /// A server may have closed a link that waits here: then its next request fails, as on any link.
 pub struct Pool<D: Dial> {
@@ -66,7 +68,8 @@ impl<D: Dial> Pool<D> {
     /// as many are lent as there may be.
     pub fn get(&mut self) -> RedisResult<D::Link>
         ensures works { IfOk result (λ link. (D.Link.connection link).broken ≡ false) }
-        ensures gets { Gets self.old self.new result }
+        ensures gets { Gets D.greeted self.old self.new result }
+        ensures greeted { All D.greeted self.old.idle → IfOk result D.greeted }
     {
         if let Some(link) = self.idle.pop() {
             self.lent += 1;

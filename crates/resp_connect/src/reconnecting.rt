@@ -4,8 +4,8 @@ ghost use Rattle.std.specs.Prelude.{◌≡◌, MatchOption};
 ghost use Rattle.resp_connect.specs.Reconnecting.{never_dialled, reconnecting, replaceable};
 
 use crate::dial::Dial;
-use resp_command::{Cmd, ConnectionLike};
-use resp_value::{RedisResult, Value};
+use resp_command::{Cmd, ConnectionLike, PushSource};
+use resp_value::{ErrorKind, PushInfo, RedisError, RedisResult, Value};
 
 /// A connection over the links that a [`Dial`] opens, one after another.
 ///
@@ -17,7 +17,8 @@ use resp_value::{RedisResult, Value};
 ///
 /// A reply always comes over the link that its command went out on. What a lost link received and
 /// didn't hand out, pushes among it, is dropped with it; so are the states that the server keeps for
-/// a link: `WATCH` and `MULTI`, subscriptions, the tracking of a cache.
+/// a link: `WATCH` and `MULTI`, subscriptions, the tracking of a cache. Waiting for a push goes over
+/// the last link, and dials none.
 #[derive(Drop)]
 pub struct Reconnecting<D: Dial> {
     dial: D,
@@ -111,6 +112,20 @@ impl<D: Dial> ConnectionLike for Reconnecting<D> {
         match &self.link {
             Some(link) => link.is_open(),
             None => false,
+        }
+    }
+}
+
+impl<D: Dial> PushSource for Reconnecting<D>
+where
+    D::Link: PushSource,
+{
+    /// Waits for a push over the last link, and dials none: where that broke, or where none was
+    /// dialled, no subscription is left, and the call is refused with `link is broken`.
+    fn next_push(&mut self) -> RedisResult<PushInfo> {
+        match &mut self.link {
+            Some(link) => link.next_push(),
+            None => Err(RedisError::from((ErrorKind::Io, "link is broken"))),
         }
     }
 }

@@ -9,6 +9,7 @@ pub use Rattle.resp_command.specs.Connection.{replied, malformed, early_end, sin
 pub use Rattle.resp_command.specs.Connection.{source_failed, out_of_memory}
 pub use Rattle.resp_command.specs.Cursors.{HoldsCursor, with_cursor, with_cursor_arg}
 pub use Rattle.resp_command.specs.Cursors.{with_extended_arg}
+pub use Rattle.resp_command.specs.NextPush.{IsMessage, IsReply, IsServerError, NextPush}
 pub use Rattle.resp_command.specs.Packed.{as_value, packed}
 pub use Rattle.resp_command.specs.ScanLaw.{Calls, LawOfScans, WholeScan}
 pub use Rattle.resp_command.specs.ScanReplies.{Given, Gives, GivesFirst, IsBatch, IsPage, IsFirstPage}
@@ -18,6 +19,7 @@ pub use Rattle.resp_command.specs.ScanStates.{borrowed, scan_state, state_of}
 pub use Rattle.resp_command.specs.Scans.{Asked, CannotStart, FirstRequest, LaterRequest, Next}
 pub use Rattle.resp_command.specs.Scans.{Requests, ScanState, Starts}
 pub use Rattle.resp_command.specs.ShownArgs.{args_left, referent, shown_args}
+pub use Rattle.resp_command.specs.Subscriptions.{IsUnanswered, is_subscription, is_subscription_name}
 pub use Rattle.resp_command.specs.Taken.{ArrivedAsNeeded, IsShort, Taken, Taking, TakesOneThing}
 pub use Rattle.resp_command.specs.Taken.{took, met_fault, ended_early, PrefixReads, ListsPushes}
 pub use Rattle.resp_command.specs.Taken.{Aside, Frame, MeetsFault, PushPasses, aside_of}

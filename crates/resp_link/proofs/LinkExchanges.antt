@@ -21,6 +21,7 @@ use Rattle.resp_link.proofs.Receiving.{needed-none, consumed-nothing}
 use Rattle.resp_command.specs.Call.{Call, needed}
 use Rattle.resp_command.specs.Command.{Command}
 use Rattle.resp_command.specs.Packed.{packed}
+use Rattle.resp_command.specs.Subscriptions.{IsUnanswered}
 use Rattle.resp_command.specs.Connection as connection
 use Rattle.resp_command.specs.Connection.{Connection, SameKind, Moves, Bytes, Sent, ExchangeOf, Exchange, TookTooFew}
 use Rattle.resp_command.specs.Connection.{TookSome, BrokenMidway, SetsAside}
@@ -253,10 +254,15 @@ unanswered i i' k k' b q n e answers sending r = record {
 
 -- the call of a command that isn't refused
 pub commanded : {A : Type 0} (old new : Connection) (c : Command) (q : List ℕ) (n : ℕ) (r : Result A RedisError)
-    (answers : List Value → Type 0) → old.broken ≡ false → (c.args ≡ [] → ⊥) → q ≡ packed c.args → n ≡ needed c →
-    Exchange old new q n r answers → Call old new (c.args ≡ []) (packed c.args) (needed c) r answers
-commanded old new c q n r answers works some is count h = record {
+    (answers : List Value → Type 0) → old.broken ≡ false → (c.args ≡ [] → ⊥) → (IsUnanswered c → ⊥)
+    → q ≡ packed c.args → n ≡ needed c → Exchange old new q n r answers
+    → Call old new (c.args ≡ []) (IsUnanswered c) (packed c.args) (needed c) r answers
+commanded old new c q n r answers works some answered is count h = record {
   when_broken = λ b _. absurd (let k : true ≡ false = sym b ∙ works in cc);
   when_lost = λ b _. absurd (let k : true ≡ false = sym b ∙ works in cc);
-  when_working = λ _. record { when_empty = λ none. absurd (some none); otherwise = λ _. rw (is, count) at h };
+  when_working = λ _. record {
+    when_empty = λ none. absurd (some none);
+    when_unanswered = λ none. absurd (answered none);
+    otherwise = λ _ _. rw (is, count) at h;
+  };
 }

@@ -1,14 +1,17 @@
 -- Which values are messages, and which are none.
 use Rattle.std.proofs.Common.{◌≡◌, ◌∙◌, ap, sym, refl, true, false, Bool, List, [], ◌∷◌, ℕ, Some, None, Option, rules}
 use Rattle.std.proofs.Common.{MatchOption}
+use Rattle.resp_value.specs.declared.value.Value as value
 use Rattle.resp_value.specs.declared.value.Value.{Value, Array, BulkString, Push, out-Value, the_lemmas}
 use Rattle.resp_value.specs.declared.value.Value.TheOpen.{Value-F}
 use Rattle.resp_value.specs.declared.value.PushInfo.{PushInfo}
+use Rattle.resp_errors.specs.declared.server_error.ServerError.{ServerError}
 use Rattle.resp_value.specs.declared.names.PushKind.{PushKind}
 use Rattle.resp_value.specs.declared.names.PushKind.TheVariants as kinds
 use Rattle.resp_value.specs.Names.{name_of_push_kind, kind_named}
-use Rattle.resp_link.specs.NextPush.{is_message_kind, NamesMessage, NamesNone, IsArrayOf, IsMessage, IsNoMessage}
-use Rattle.resp_link.specs.NextPush as next
+use Rattle.resp_command.specs.NextPush.{is_message_kind, NamesMessage, NamesNone, IsArrayOf, IsMessage, IsNoMessage}
+use Rattle.resp_command.specs.NextPush.{IsReply}
+use Rattle.resp_command.specs.NextPush as next
 
 -- ---- names of messages
 
@@ -38,6 +41,9 @@ elements_of v = elim (out-Value v) [ Value-F.Array elements ↦ Some elements | 
 abbrev is_push : Value → Bool
 is_push v = elim (out-Value v) [ Value-F.Push kind payload ↦ true | _ ↦ false ]
 
+abbrev is_error : Value → Bool
+is_error v = elim (out-Value v) [ Value-F.ServerError error ↦ true | _ ↦ false ]
+
 text : (bytes : List ℕ) → text_of (BulkString bytes) ≡ Some bytes
 text bytes = search (rules, the_lemmas)
 
@@ -49,6 +55,12 @@ no_push vs = search (rules, the_lemmas)
 
 pushed : (k : PushKind) (vs : List Value) → is_push (Push k vs) ≡ true
 pushed k vs = search (rules, the_lemmas)
+
+no_error : (vs : List Value) → is_error (Array vs) ≡ false
+no_error vs = search (rules, the_lemmas)
+
+failed : (e : ServerError) → is_error (value.ServerError e) ≡ true
+failed e = search (rules, the_lemmas)
 
 -- ---- what names no message
 
@@ -78,12 +90,18 @@ array-none vs none m (next.push is) =
     let e : true ≡ false = sym (pushed _ _) ∙ ap is_push (sym is) ∙ no_push vs in cc
 array-none vs none m (next.array h) = none m h
 
-pub none_empty : IsNoMessage (Array [])
-none_empty = array-none [] (λ m h. let e : Some [] ≡ Some (h.first ∷ m.payload) = sym (elements []) ∙ ap elements_of
+array-reply : (vs : List Value) → ((m : PushInfo) → IsArrayOf (Array vs) m → ⊥) → IsReply (Array vs)
+array-reply vs none = (
+  array-none vs none,
+  λ e is. let k : true ≡ false = sym (failed e) ∙ ap is_error (sym is) ∙ no_error vs in cc,
+)
+
+pub none_empty : IsReply (Array [])
+none_empty = array-reply [] (λ m h. let e : Some [] ≡ Some (h.first ∷ m.payload) = sym (elements []) ∙ ap elements_of
     h.whole ∙ elements _ in cc)
 
-pub none_named : (first : Value) (payload : List Value) → NamesNone first → IsNoMessage (Array (first ∷ payload))
-none_named first payload none = array-none (first ∷ payload) (λ m h.
+pub none_named : (first : Value) (payload : List Value) → NamesNone first → IsReply (Array (first ∷ payload))
+none_named first payload none = array-reply (first ∷ payload) (λ m h.
     let e : Some (first ∷ payload) ≡ Some (h.first ∷ m.payload) = sym (elements (first ∷ payload)) ∙ ap elements_of
     h.whole ∙ elements _ in
     let same : first ≡ h.first = cc in

@@ -1,10 +1,11 @@
 -- A value that comes where nothing was asked.
 use Rattle.std.proofs.Common.{◌≡◌, ℕ, Bool, true, false, List, [], ◌++◌, refl, sym, ap, append-nil, arith}
-use Rattle.std.proofs.Common.{Result, Ok, Err, IfOk, IfErr, is_err}
+use Rattle.std.proofs.Common.{Result, Ok, Err, IfOk, IfErr, MatchResult, is_err}
 use Rattle.std.specs.Io.KnownBytes.{Consumes}
 use Rattle.resp_value.specs.declared.value.Value.{Value}
 use Rattle.resp_value.specs.declared.value.PushInfo.{PushInfo}
 use Rattle.resp_errors.specs.declared.redis_error.RedisError.{RedisError}
+use Rattle.resp_errors.specs.declared.server_error.ServerError.{ServerError}
 use Rattle.resp_parse.specs.Source.{Source}
 use Rattle.resp_parse.specs.State.{State}
 use Rattle.resp_parse.specs.Calls as calls
@@ -14,9 +15,11 @@ use Rattle.resp_command.specs.Connection.{Connection}
 use Rattle.resp_command.proofs.Values.{reads_nothing, reads_one}
 use Rattle.resp_link.specs.Receiving.{inflow_of}
 use Rattle.resp_link.specs.Linking.{connection_of}
+use Rattle.resp_link.specs.Messages.{as_one_result}
 use Rattle.resp_link.specs.Sink.{Sink}
-use Rattle.resp_link.specs.NextPush.{IsMessage, CannotBeMessage, other_value, no_memory, Arrives, ReadsMessage, answered}
-use Rattle.resp_link.specs.NextPush.{unasked, malformed, early_end, source_failed, out_of_memory}
+use Rattle.resp_command.specs.NextPush.{IsMessage, IsServerError, CannotBeMessage, other_value, no_memory}
+use Rattle.resp_command.specs.NextPush.{Arrives, ReadsMessage, answered, server_error}
+use Rattle.resp_command.specs.NextPush.{unasked, malformed, early_end, source_failed, out_of_memory}
 use Rattle.resp_link.proofs.Receiving.{value_since}
 use Rattle.resp_link.proofs.SentSoFar.{grown-nothing}
 
@@ -46,10 +49,25 @@ module _ (s t : Source) (was new : State) (p : List PushInfo) (n : ℕ) (k : Sin
         push_bytes = refl;
       }
 
-  -- a value came: a message, or another
-  pub came_value : (v : Value) (r : Result PushInfo RedisError) → Parses was.since was new s t (Ok v)
-      → IfOk r (IsMessage v) → IfErr r (CannotBeMessage v) → ReadsMessage before (after (is_err r)) r
-  came_value v (Ok m) parsed message error = record {
+  -- a value came: a message, a server's error, or another
+  pub came_value : (v : Value) (r : Result (Result PushInfo ServerError) RedisError)
+      → Parses was.since was new s t (Ok v)
+      → IfOk r (λ found. MatchResult found (IsMessage v) (IsServerError v)) → IfErr r (CannotBeMessage v)
+      → ReadsMessage before (after (is_err r)) (as_one_result r)
+  came_value v (Ok (Err e)) parsed is_error error = record {
+    arrived = parsed.filled;
+    arrives = arrives false parsed.filled parsed.source_gave.came parsed.source_gave.to_come parsed.needed;
+    of = server_error (record {
+      value = v;
+      error = e;
+      first = value_since s t was new v same parsed;
+      is_error = is_error;
+      answer = refl;
+      works = refl;
+      no_failure = record { source = parsed.failures; sink = refl };
+    });
+  }
+  came_value v (Ok (Ok m)) parsed message error = record {
     arrived = parsed.filled;
     arrives = arrives false parsed.filled parsed.source_gave.came parsed.source_gave.to_come parsed.needed;
     of = answered (record {
@@ -68,7 +86,7 @@ module _ (s t : Source) (was new : State) (p : List PushInfo) (n : ℕ) (k : Sin
     of = unasked (record {
       value = v;
       first = value_since s t was new v same parsed;
-      no_message = none;
+      is_reply = none;
       breaks = record { answer = ap Err is; broken = refl };
       no_failure = record { source = parsed.failures; sink = refl };
     });

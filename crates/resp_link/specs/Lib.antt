@@ -1,5 +1,5 @@
 pub mod Linking
 pub mod LinkStates
-pub mod NextPush
+pub mod Messages
 pub mod Receiving
 pub mod Sink

@@ -5,13 +5,14 @@ ghost use Rattle.resp_parse.specs.State.{IsBetweenValues};
 ghost use Rattle.resp_link.specs.LinkStates.{inflow_at};
 ghost use Rattle.resp_link.specs.Receiving.{Receives, CannotReceive, Skips};
 ghost use Rattle.resp_link.specs.Linking.{connection_of};
-ghost use Rattle.resp_link.specs.NextPush.{ReadsMessage};
+ghost use Rattle.resp_link.specs.Messages.{as_one_result};
+ghost use Rattle.resp_command.specs.NextPush.{ReadsMessage};
 ghost use Rattle.resp_link.specs.Sink.{Sink};
 
 use crate::messages::message_of;
 use crate::pushes::Pushes;
 use resp_parse::{Parser, ReplySource};
-use resp_value::{PushInfo, RedisResult, Value};
+use resp_value::{PushInfo, RedisResult, ServerError, Value};
 use std::alloc::Global;
 
 /// A source of replies, the parser of its bytes, and the pushes that were set aside.
@@ -71,13 +72,15 @@ impl<S: ReplySource> Inbox<S> {
         }
         Ok(replies)
     }
-    /// The next value, which is to be a message. It is as for a link that breaks on a refusal, over
-    /// any sink.
-    pub(crate) fn next_message(&mut self) -> RedisResult<PushInfo>
+
+    /// The next value, which is to be a message or a server's error. It is as for a link that breaks
+    /// on a refusal, over any sink.
+    pub(crate) fn next_message(&mut self) -> RedisResult<Result<PushInfo, ServerError>>
         requires { IsBetweenValues self.old.parser }
         ensures message { (sink : Sink) → ReadsMessage
             (connection_of (inflow_at S.source self.old) sink false)
-            (connection_of (inflow_at S.source self.new) sink (is_err result)) result }
+            (connection_of (inflow_at S.source self.new) sink (is_err result))
+            (as_one_result result) }
         ensures rest { OnOk result (IsBetweenValues self.new.parser) }
     {
         message_of(self.parser.parse_from(&mut self.source)?)

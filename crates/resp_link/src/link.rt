@@ -8,16 +8,18 @@ ghost use Rattle.resp_parse.specs.Limits.{depth_refused};
 ghost use Rattle.resp_parse.specs.Source.{fresh_source};
 ghost use Rattle.resp_link.specs.Sink.{fresh_sink};
 ghost use Rattle.resp_command.specs.Call.{AnswersReply, AnswersFrom, broken_link, no_command};
+ghost use Rattle.resp_command.specs.Call.{no_reply};
 ghost use Rattle.resp_link.specs.Receiving.{unread};
 ghost use Rattle.resp_link.specs.Linking.{BetweenUnless, connection_of};
-ghost use Rattle.resp_link.specs.NextPush.{NextPush};
+ghost use Rattle.resp_command.specs.NextPush.{NextPush};
 ghost use Rattle.resp_command.specs.Connection.{Exchange};
 
 use crate::inbox::Inbox;
+use crate::messages::as_one_result;
 use crate::pushes::Pushes;
 use crate::sink::{CommandSink, send_all};
 use crate::writer_sink::Writing;
-use resp_command::{Cmd, ConnectionLike};
+use resp_command::{Cmd, ConnectionLike, PushSource};
 use resp_parse::{Limits, Parser, Reading, ReplySource};
 use resp_value::{ErrorKind, PushInfo, RedisError, RedisResult, Value};
 use std::alloc::Global;
@@ -219,21 +221,8 @@ impl<S: ReplySource, K: CommandSink> ByteLink<S, K> {
         self.inbox.pushes.take(self.alloc)
     }
 
-    /// Waits for a push: hands out the oldest that was set aside, or else reads the next value.
-    /// Sends nothing.
-    ///
-    /// Under RESP2 a subscriber is sent arrays in place of pushes. While nothing is asked, an array
-    /// whose first element is the bulk string `message`, `subscribe` or `unsubscribe`, or one of
-    /// these after `p` or `s`, is answered as the push of that kind would be.
-    ///
-    /// Any other value is a reply that nobody asked for: it is refused with kind `Io`, `reply
-    /// without a request`, and the link is then broken, since a later command might take such a
-    /// reply for its own. Bytes that are no value, an early end and a failure of the source are
-    /// refused as after a command, and break the link too; so does `OutOfMemory`. A broken link is
-    /// refused with `link is broken`, once no push is left.
-    ///
-    /// The bytes of pushes that were set aside count for the limit on them until the last of them
-    /// is handed out. A push that is read here counts for nothing.
+    /// Waits for a push: hands out the oldest that was set aside, or else reads the next value, as
+    /// [`PushSource::next_push`] says. It is that method, for callers who don't name the trait.
     pub fn next_push(&mut self) -> RedisResult<PushInfo>
         ensures { NextPush (⟦<ByteLink<S, K> as ConnectionLike>⟧.connection self.old)
             (⟦<ByteLink<S, K> as ConnectionLike>⟧.connection self.new) result }
@@ -244,10 +233,9 @@ impl<S: ReplySource, K: CommandSink> ByteLink<S, K> {
         if self.broken {
             return Err(link_is_broken());
         }
-        self.broken = true;
-        let push = self.inbox.next_message()?;
-        self.broken = false;
-        Ok(push)
+        let message = self.inbox.next_message();
+        self.broken = message.is_err();
+        as_one_result(message)
     }
 
     /// Whether the link is broken: it still hands out the pushes that were set aside, and refuses
@@ -377,6 +365,9 @@ impl<S: ReplySource, K: CommandSink> ConnectionLike for ByteLink<S, K> {
         if cmd.is_empty() {
             return Err(empty_command());
         }
+        if cmd.is_unanswered() {
+            return Err(subscription());
+        }
         let mut bytes = mem::replace(&mut self.room, Vec::new(self.alloc));
         bytes.clear();
         cmd.write_packed_command(&mut bytes)?;
@@ -414,6 +405,12 @@ impl<S: ReplySource, K: CommandSink> ConnectionLike for ByteLink<S, K> {
     }
 }
 
+impl<S: ReplySource, K: CommandSink> PushSource for ByteLink<S, K> {
+    fn next_push(&mut self) -> RedisResult<PushInfo> {
+        ByteLink::next_push(self)
+    }
+}
+
 /// What a connection answers that broke before.
 fn link_is_broken() -> RedisError
     ensures { result ≡ broken_link }
@@ -426,4 +423,12 @@ fn empty_command() -> RedisError
     ensures { result ≡ no_command }
 {
     RedisError::from((ErrorKind::Client, "empty command"))
+}
+
+/// What a subscription is refused with whose reply is waited for.
+fn subscription() -> RedisError
+    ensures { result ≡ no_reply }
+{
+    let text = "a subscription has no reply: set_no_response, then next_push";
+    RedisError::from((ErrorKind::Client, text))
 }

@@ -1,22 +1,40 @@
 //! Messages: pushes, and the arrays that RESP2 has in their place.
 
-ghost use Rattle.std.specs.Prelude.{◌≡◌, true, false, IfErr, IfOk, MatchOption};
+ghost use Rattle.std.specs.Prelude.{◌≡◌, true, false, IfErr, IfOk, MatchOption, MatchResult};
 ghost use Rattle.resp_value.specs.declared.value.Value.{Array};
-ghost use Rattle.resp_link.specs.NextPush.{CannotBeMessage, IsMessage, NamesMessage, NamesNone};
-ghost use Rattle.resp_link.specs.NextPush.{is_message_kind, unasked_reply};
+ghost use Rattle.resp_command.specs.NextPush.{CannotBeMessage, IsMessage, NamesMessage, NamesNone};
+ghost use Rattle.resp_command.specs.NextPush.{IsServerError, is_message_kind};
+ghost use Rattle.resp_command.specs.NextPush.{unasked_reply};
+ghost use Rattle.resp_link.specs.Messages.{as_one_result};
 
-use resp_value::{ErrorKind, PushInfo, PushKind, RedisError, RedisResult, Value, get_push_kind};
+use resp_value::{
+    ErrorKind, PushInfo, PushKind, RedisError, RedisResult, ServerError, Value, get_push_kind,
+};
 use std::alloc::AllocError;
 
-/// The message that a value is. A value that is none answers no request.
-pub(crate) fn message_of(value: Value) -> RedisResult<PushInfo>
-    ensures message { IfOk result (IsMessage value) }
+/// The message or the server's error that a value is. Any other value answers a request.
+pub(crate) fn message_of(value: Value) -> RedisResult<Result<PushInfo, ServerError>>
+    ensures message { IfOk result (λ found. MatchResult found (IsMessage value)
+        (IsServerError value)) }
     ensures error { IfErr result (CannotBeMessage value) }
 {
     match value {
-        Value::Push { kind, payload } => Ok(PushInfo { kind, payload }),
-        Value::Array(elements) => message_in(elements.into_vec()),
+        Value::Push { kind, payload } => Ok(Ok(PushInfo { kind, payload })),
+        Value::Array(elements) => message_in(elements.into_vec()).map(Ok),
+        Value::ServerError(error) => Ok(Err(error)),
         _ => Err(reply_without_request()),
+    }
+}
+
+/// A server's error that was read is an error, as one of reading.
+pub(crate) fn as_one_result(
+    message: RedisResult<Result<PushInfo, ServerError>>,
+) -> RedisResult<PushInfo>
+    ensures { result ≡ as_one_result message }
+{
+    match message? {
+        Ok(message) => Ok(message),
+        Err(error) => Err(RedisError::Server(error)),
     }
 }
 

@@ -2,7 +2,7 @@
 
 ghost use Rattle.std.specs.Prelude.{◌≡◌, [], ◌∷◌, IfNone, OnErr, MatchOption, MatchResult};
 ghost use Rattle.resp_link.specs.Receiving.{CannotSetAside, SetsAside};
-ghost use Rattle.resp_link.specs.NextPush.{still_counted};
+ghost use Rattle.resp_command.specs.NextPush.{still_counted};
 
 use resp_value::{FrameFault, ParsingError, PushInfo, RedisError, RedisResult};
 use std::alloc::Global;

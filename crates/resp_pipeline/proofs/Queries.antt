@@ -45,34 +45,34 @@ module _ {X : Type 0} (old new : Connection) (p : Plan) (Of : Value → X → Ty
 module _ {X V : Type 0} (items : V → List Value) (old new : Connection) (p : Plan) (Of : Value → X → Type 0)
     (q : List ℕ) (count : ℕ) (sent : Result V RedisError)
     (same_request : q ≡ request p) (same_count : count ≡ replies_needed p) (several : old.pipelines ≡ true)
-    (h : Call old new ⊥ q (0 + count) sent (AnswersFrom items 0 sent)) where
-  asked : Call old new ⊥ (request p) (replies_needed p) sent (AnswersFrom items 0 sent)
+    (h : Call old new ⊥ ⊥ q (0 + count) sent (AnswersFrom items 0 sent)) where
+  asked : Call old new ⊥ ⊥ (request p) (replies_needed p) sent (AnswersFrom items 0 sent)
   asked = let all : 0 + count ≡ count = omega arith in rw (same_request, all, same_count) at h
 
   pub pipeline_refused : (e : RedisError) → sent ≡ Err e → PipelineQuery old new p Of (Err e)
   pipeline_refused e is =
       let call = call_err {A = V} {B = X} old new (request p) (replies_needed p) (AnswersFrom items 0 (Err e))
-      (Outcome p Of (Err e)) ⊥ e (λ replies k. k) (rw is at asked) in
+      (Outcome p Of (Err e)) ⊥ ⊥ e (λ replies k. k) (rw is at asked) in
       record {
         reads_only = pipeline_reads_only p;
         takes_one = λ arrived. takes_one_thing old.limits (push_room old) (replies_needed p) (old.received ++ arrived);
         unsupported = λ t. absurd (let k : true ≡ false = sym several ∙ t in cc);
         when_broken = λ _ b same. inl (call.when_broken b same);
-        when_lost = λ _ b again. reconnects_over _ _ _ _ _ (λ other asks. asks.otherwise (λ k. k)) (call.when_lost b again);
-        when_working = λ _ b. (call.when_working b).otherwise (λ k. k);
+        when_lost = λ _ b again. reconnects_over _ _ _ _ _ (λ other asks. asks.otherwise (λ k. k) (λ k. k)) (call.when_lost b again);
+        when_working = λ _ b. (call.when_working b).otherwise (λ k. k) (λ k. k);
       }
 
   pub pipeline_answered : (v : V) (r : Result X RedisError) → sent ≡ Ok v → Outcome p Of r (items v)
       → PipelineQuery old new p Of r
   pipeline_answered v r is answer =
       let call = call_ok {A = V} {B = X} old new (request p) (replies_needed p) (AnswersFrom items 0 (Ok v))
-      (Outcome p Of r) ⊥ v r
+      (Outcome p Of r) ⊥ ⊥ v r
       (λ replies len all. subst (λ (vs : List Value). Outcome p Of r vs) all answer) (rw is at asked) in
       record {
         reads_only = pipeline_reads_only p;
         takes_one = λ arrived. takes_one_thing old.limits (push_room old) (replies_needed p) (old.received ++ arrived);
         unsupported = λ t. absurd (let k : true ≡ false = sym several ∙ t in cc);
         when_broken = λ _ b same. inl (call.when_broken b same);
-        when_lost = λ _ b again. reconnects_over _ _ _ _ _ (λ other asks. asks.otherwise (λ k. k)) (call.when_lost b again);
-        when_working = λ _ b. (call.when_working b).otherwise (λ k. k);
+        when_lost = λ _ b again. reconnects_over _ _ _ _ _ (λ other asks. asks.otherwise (λ k. k) (λ k. k)) (call.when_lost b again);
+        when_working = λ _ b. (call.when_working b).otherwise (λ k. k) (λ k. k);
       }

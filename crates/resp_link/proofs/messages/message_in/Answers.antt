@@ -1,6 +1,6 @@
 use Rattle.std.proofs.Common.{rules, ◌≡◌, [], ◌∷◌}
 use Rattle.std.proofs.lemmas.List.{nil_from_length}
-use Rattle.resp_link.specs.NextPush.{other_value}
+use Rattle.resp_command.specs.NextPush.{other_value}
 use Rattle.resp_link.proofs.NamedMessages.{none_empty, none_named}
 use Rattle.resp_link.proofs.messages.message_in.Goals as goal
 

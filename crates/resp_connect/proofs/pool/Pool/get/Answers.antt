@@ -1,7 +1,7 @@
 use Rattle.std.proofs.Common.{arith, rules, refl, ◌≡◌, length}
 use Rattle.std.proofs.lemmas.Result.{err_from_is_err_and}
 use Rattle.resp_connect.specs.Pools.{reused, dialled, refused}
-use Rattle.resp_connect.proofs.Working.{before_last, last_works, none_waited}
+use Rattle.resp_connect.proofs.Working.{before_last, last_has, last_works, none_waited}
 use Rattle.resp_connect.proofs.pool.Pool.get.Goals as goal
 
 pub invariant_of-self : goal.invariant_of-self
@@ -33,4 +33,8 @@ returns-clause-gets g c =
     let none = none_waited _ _ c.in_default.ensures.items empty in
     let within = c.self.invariant.within in
     let others = c.if-self.false in
-    rw (← c.self.view_is) (dialled c.in_ok-link.link none.0 (omega (arith, within, others)) (rw none.1 refl) refl)
+    rw (← c.self.view_is) (dialled c.in_ok-link.link (search rules) none.0 (omega (arith, within, others)) (rw none.1 refl) refl)
+
+pub returns-in-Some-clause-greeted : goal.returns-in-Some-clause-greeted
+returns-in-Some-clause-greeted g c = rw (← c.self.view_is) (λ all. last_has g.D.Dial.greeted _ c.in-Some.link
+    (rw c.in-Some.ensures.items at all))

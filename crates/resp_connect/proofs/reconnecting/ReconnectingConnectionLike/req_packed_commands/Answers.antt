@@ -6,8 +6,8 @@ use Rattle.resp_connect.proofs.reconnecting.ReconnectingConnectionLike.req_packe
 pub returns-in_err-reach-clause-call : goal.returns-in_err-reach-clause-call
 returns-in_err-reach-clause-call g c =
     let p = err_from_is_err_and c.from_residual.result c.from_residual.ensures.1 in
-    rw (p.1, p.2) (unreached _ _ _ _ _ _ _ _ _ (rw c.in_err-reach.was at c.reach.ensures) refl)
+    rw (p.1, p.2) (unreached _ _ _ _ _ _ _ _ _ _ (rw c.in_err-reach.was at c.reach.ensures) refl)
 
 pub returns-clause-call : goal.returns-clause-call
 returns-clause-call g c =
-    called _ _ _ _ _ _ _ c.in-Some.link _ (rw (c.in_ok-reach.was, c.in-Some.is) at c.reach.ensures) c.req_packed_commands.ensures.call
+    called _ _ _ _ _ _ _ _ c.in-Some.link _ (rw (c.in_ok-reach.was, c.in-Some.is) at c.reach.ensures) c.req_packed_commands.ensures.call

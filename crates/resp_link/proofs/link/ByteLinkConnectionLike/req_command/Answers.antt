@@ -8,6 +8,7 @@ returns g c =
     let args = c.args.cmd.now.args in
     commanded _ _ c.args.cmd.now _ _ _ _ c.if-self.false
     (λ none. let e : true ≡ false = sym (c.is_empty.ensures.1 none) ∙ c.if-is_empty.false in cc)
+    (λ none. let e : true ≡ false = sym (c.is_unanswered.ensures.1 none) ∙ c.if-is_unanswered.false in cc)
     (c.in_ok-write_packed_command.ensures.written ∙ ap (λ z. z ++ packed args) c.clear.ensures.items)
     (ap (λ b. if b then 0 else 1) c.is_no_response.ensures)
     c.exchange.ensures.exchanged

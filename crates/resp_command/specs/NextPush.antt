@@ -1,7 +1,8 @@
 -- What waiting for a push does: it hands out the oldest one that was set aside, or else reads the
--- next value, which is to be a message.
+-- next value, which is to be a message or a server's error.
 use Rattle.std.specs.Prelude.{◌≡◌, ℕ, ◌≤◌, Bool, true, false, List, [], ◌∷◌, ◌++◌, length, None, codes, Result, Ok, Err}
 use Rattle.std.specs.Io.KnownBytes.{IsAtEnd}
+use Rattle.resp_value.specs.declared.value.Value as value
 use Rattle.resp_value.specs.declared.value.Value.{Value, Array, BulkString, Push}
 use Rattle.resp_value.specs.declared.value.PushInfo.{PushInfo}
 use Rattle.resp_value.specs.declared.names.PushKind.{PushKind}
@@ -13,7 +14,8 @@ use Rattle.resp_errors.specs.declared.kinds.IoKind.{IoKind}
 use Rattle.resp_errors.specs.declared.kinds.IoKind.TheVariants.{UnexpectedEof}
 use Rattle.resp_errors.specs.declared.parsing_error.ParsingError.TheVariants.{Fault}
 use Rattle.resp_errors.specs.declared.redis_error.RedisError.{RedisError}
-use Rattle.resp_errors.specs.declared.redis_error.RedisError.TheVariants.{General, Io, Parse, OutOfMemory}
+use Rattle.resp_errors.specs.declared.redis_error.RedisError.TheVariants.{General, Io, Parse, OutOfMemory, Server}
+use Rattle.resp_errors.specs.declared.server_error.ServerError.{ServerError}
 use Rattle.resp_parse.specs.Calls.{AsNeeded}
 use Rattle.resp_parse.specs.Limited.{HasValue, HasFault, Awaits}
 use Rattle.resp_parse.specs.Source.{FailureCounted}
@@ -53,13 +55,21 @@ pub data IsMessage (v : Value) (message : PushInfo) : Type 0 where
 abbrev pub IsNoMessage : Value → Type 0
 IsNoMessage v = (message : PushInfo) → IsMessage v message → ⊥
 
+-- a server's error, as it answers a request whose reply isn't waited for
+abbrev pub IsServerError : Value → ServerError → Type 0
+IsServerError v error = v ≡ value.ServerError error
+
+-- a value that answers a request
+abbrev pub IsReply : Value → Type 0
+IsReply v = IsNoMessage v × ((error : ServerError) → IsServerError v error → ⊥)
+
 -- what a reply is refused with that nobody asked for
 abbrev pub unasked_reply : RedisError
 unasked_reply = General kind.Io (codes "reply without a request") None
 
--- why a value gives no message: it is none, or memory ran out
+-- why a value is neither a message nor a server's error: it is a reply, or memory ran out
 pub data CannotBeMessage (v : Value) (e : RedisError) : Type 0 where
-  other_value : e ≡ unasked_reply → IsNoMessage v → CannotBeMessage v e
+  other_value : e ≡ unasked_reply → IsReply v → CannotBeMessage v e
   no_memory : e ≡ OutOfMemory → CannotBeMessage v e
 
 -- Pushes that were set aside.
@@ -104,12 +114,23 @@ pub record Answered (incoming : List ℕ) (old new : Connection)
   pub works : new.broken ≡ false
   pub no_failure : NoFailure old new
 
--- a value stands first that is none: a reply that nobody asked for
+-- a server's error stands first: it is answered, and the connection works
+pub record Refused (incoming : List ℕ) (old new : Connection)
+    (r : Result PushInfo RedisError) : Type 0 where
+  pub value : Value
+  pub error : ServerError
+  pub first : HasValue old.limits incoming value new.received
+  pub is_error : IsServerError value error
+  pub answer : r ≡ Err (Server error)
+  pub works : new.broken ≡ false
+  pub no_failure : NoFailure old new
+
+-- any other value stands first: a reply that nobody asked for
 pub record Unasked (incoming : List ℕ) (old new : Connection)
     (r : Result PushInfo RedisError) : Type 0 where
   pub value : Value
   pub first : HasValue old.limits incoming value new.received
-  pub no_message : IsNoMessage value
+  pub is_reply : IsReply value
   pub breaks : Breaks new unasked_reply r
   pub no_failure : NoFailure old new
 
@@ -152,6 +173,7 @@ pub record RanOutOfMemory (incoming : List ℕ) (old new : Connection)
 pub data ReadsOf (incoming : List ℕ) (old new : Connection)
     (r : Result PushInfo RedisError) : Type 0 where
   answered : Answered incoming old new r → ReadsOf incoming old new r
+  server_error : Refused incoming old new r → ReadsOf incoming old new r
   unasked : Unasked incoming old new r → ReadsOf incoming old new r
   malformed : FaultMet incoming old new r → ReadsOf incoming old new r
   early_end : EndedEarly incoming old new r → ReadsOf incoming old new r
