@@ -3,7 +3,8 @@
 use crate::rows::{Row, malformed};
 use crate::texts::escaped;
 use crate::{
-    commands, connecting, conversions, encodings, errors, names, program, queries, replies, scans,
+    commands, connecting, conversions, encodings, errors, names, program, queries, replies,
+    routing, scans,
 };
 use resp_core::RedisResult;
 use std::alloc::Global;
@@ -46,6 +47,16 @@ fn other_answer(alloc: Global, row: &Row) -> RedisResult<String> {
         "format" => names::format(alloc, row),
         "digest" => names::digest(alloc, row),
         "resp" => program::resp(alloc, row),
+        _ => routing_answer(alloc, row),
+    }
+}
+
+fn routing_answer(alloc: Global, row: &Row) -> RedisResult<String> {
+    match row.task() {
+        "checksum" => routing::checksum(alloc, row),
+        "keys" => routing::keys(alloc, row),
+        "route" => routing::route(alloc, row),
+        "slot" => routing::slot(alloc, row),
         _ => Err(malformed()),
     }
 }

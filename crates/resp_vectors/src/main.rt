@@ -16,6 +16,7 @@ mod names;
 mod program;
 mod queries;
 mod replies;
+mod routing;
 mod rows;
 mod scans;
 mod tally;

@@ -77,9 +77,8 @@ fn refused(alloc: Global, error: RoutingError) -> RedisResult<String> {
     let text = match error {
         RoutingError::UnknownCommand => "unknown command",
         RoutingError::WrongArity => "number of arguments",
-        RoutingError::MissingKeyword
-        | RoutingError::BadKeyCount
-        | RoutingError::TooFewArguments => "arguments",
+        RoutingError::MissingKeyword | RoutingError::BadKeyCount | RoutingError::TooFewArguments =>
+            "arguments",
         RoutingError::Unspecified => "unspecified",
         RoutingError::CrossSlot => "several slots",
         RoutingError::OutOfMemory => return Err(resp_core::RedisError::OutOfMemory),
