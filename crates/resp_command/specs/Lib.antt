@@ -1,5 +1,6 @@
 pub mod Call
 pub mod Command
+pub mod CommandErrors
 pub mod CommandQuery
 pub mod Connection
 pub mod Cursors

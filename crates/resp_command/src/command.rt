@@ -40,7 +40,7 @@ use std::mem;
 ///
 /// In `crates/example_counter/src/main.rt`.
 pub struct Cmd {
-    alloc: Global,
+    pub(crate) alloc: Global,
     encoded_args: EncodedArgs,
     cursor: Option<u64>,
     cursors: Vec<usize>,

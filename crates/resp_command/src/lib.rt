@@ -4,6 +4,7 @@
 mod args_iter;
 mod batch;
 mod command;
+mod command_error;
 mod connection;
 mod copies;
 mod encoded_args;
@@ -20,6 +21,7 @@ mod subscriptions;
 
 pub use args_iter::{Arg, ArgsIter};
 pub use command::Cmd;
+pub use command_error::CommandError;
 pub use connection::ConnectionLike;
 pub use packing::pack_command;
 pub use progress::ScanProgress;

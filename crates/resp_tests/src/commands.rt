@@ -1,9 +1,9 @@
 //! Commands and their cursor arguments, between calls.
 
-use crate::checks::{Test, assert_answer, assert_packed, assert_text};
+use crate::checks::{Test, assert_answer, assert_display, assert_packed, assert_text, link};
 use crate::testing::{bytes_text, command, listed_text};
 use crate::writing::{WIDE, wide_pairs};
-use resp_core::{Arg, Cmd, RedisWrite, cmd, pack_command};
+use resp_core::{Arg, Cmd, RedisError, RedisWrite, cmd, pack_command};
 use std::collections::BTreeMap;
 
 #[test]
@@ -159,4 +159,16 @@ fn an_extended_cursor_is_an_ordinary_argument(rt: HostRuntime) {
     command.set_cursor(4);
     assert_packed(&rt, &command, "*2\r\n$1\r\nA\r\n$2\r\n3x\r\n");
     lists(&rt, &command, "A 3x ");
+}
+
+#[test]
+fn an_error_tells_its_command(rt: HostRuntime) {
+    let mut link = link(&rt, b"-ERR x\r\n:7\r\n");
+    let get = command(rt.alloc(), &["GET", "k"]).expect(&rt, "memory");
+    match get.query_named::<i64>(&mut link) {
+        Ok(_) => assert_eq!(rt; "answered", "refused"),
+        Err(error) => assert_display(&rt, &error, "GET: ResponseError: x"),
+    }
+    let answer = get.query_named::<i64>(&mut link).map_err(RedisError::from);
+    assert_answer(&rt, answer, "7");
 }

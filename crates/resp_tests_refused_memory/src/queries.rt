@@ -37,6 +37,23 @@ fn commands(rt: HostRuntime) {
 }
 
 #[test]
+fn errors_that_tell_their_command(rt: HostRuntime) {
+    let command = get(&rt);
+    let incoming = b"-MINE x y\r\n:7\r\n";
+    let mut con = link(&rt, incoming);
+    refuse(rt.alloc());
+    let answer = command
+        .query_named::<i64>(&mut con)
+        .map_err(RedisError::from);
+    answered(
+        &rt,
+        (con, of_get(incoming), Until::Conversion),
+        answer,
+        "Err(\"MINE\": x y)",
+    );
+}
+
+#[test]
 fn a_command_without_an_answer(rt: HostRuntime) {
     let command = get(&rt);
     let mut con = link(&rt, LIST);
