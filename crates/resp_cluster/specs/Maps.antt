@@ -1,0 +1,16 @@
+-- Which nodes serve which slots.
+use Rattle.std.specs.Prelude.{ℕ, Bool, ◌&&◌, nat_le, List, [], Option, Some, find}
+use Rattle.resp_cluster.specs.declared.node.NodeAddr.{NodeAddr}
+use Rattle.resp_cluster.specs.declared.node.SlotRange.{SlotRange}
+
+-- the range has this slot
+abbrev pub covers : ℕ → SlotRange → Bool
+covers slot range = nat_le range.first slot && nat_le slot range.last
+
+-- the first range that has this slot, of a map
+abbrev pub range_at : List SlotRange → ℕ → Option SlotRange
+range_at ranges slot = find (covers slot) ranges
+
+-- the range of a slot that moved: its new primary, and no replica that is known
+abbrev pub moved : ℕ → NodeAddr → SlotRange
+moved slot node = record { first = slot; last = slot; primary = Some node; replicas = [] }

@@ -1,0 +1,64 @@
+//! Nodes, and the slots that they serve.
+
+ghost use Rattle.std.specs.Prelude.{◌≡◌, IfOk};
+
+use resp_containers::{Items, Text};
+use std::alloc::{AllocError, Global};
+
+/// Where a node listens.
+#[derive(PartialEq, Eq, Debug, Drop)]
+pub struct NodeAddr {
+    /// Its host name or address.
+    pub host: Text,
+    /// Its port.
+    pub port: u16,
+}
+
+/// Slots in a row, and the nodes that serve them.
+#[derive(Debug, Drop)]
+pub struct SlotRange {
+    /// The first slot.
+    pub first: u16,
+    /// The last slot.
+    pub last: u16,
+    /// The primary; None where its host isn't known.
+    pub primary: Option<NodeAddr>,
+    /// Its replicas, but for those whose host isn't known.
+    pub replicas: Items<NodeAddr>,
+}
+
+/// Why a reply gives no map.
+#[derive(Debug, Drop)]
+pub enum TopologyError {
+    /// It, or an entry, isn't an array of what has to be there.
+    BadShape,
+    /// The first and the last slot aren't numbers below 16384 in this order.
+    BadSlots,
+    /// A node has no host that is text, or no port of 16 bits.
+    BadNode,
+    /// There was no memory.
+    OutOfMemory,
+}
+
+impl From<AllocError> for TopologyError {
+    ghost use Rattle.std.specs.Prelude.{◌≡◌};
+    ghost use Rattle.resp_cluster.specs.declared.node.TopologyError.TheVariants.{OutOfMemory};
+
+    ghost from_gives = { λ _ e. e ≡ OutOfMemory };
+
+    fn from(_error: AllocError) -> TopologyError {
+        TopologyError::OutOfMemory
+    }
+}
+
+impl NodeAddr {
+    /// An equal address. Fails only when out of memory.
+    pub fn try_clone(&self, alloc: Global) -> Result<NodeAddr, AllocError>
+        ensures { IfOk result (λ node. node ≡ self.now) }
+    {
+        Ok(NodeAddr {
+            host: self.host.try_clone(alloc)?,
+            port: self.port,
+        })
+    }
+}

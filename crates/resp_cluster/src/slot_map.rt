@@ -1,0 +1,101 @@
+//! The map of slots.
+
+ghost use Rattle.std.specs.Prelude.{◌≡◌, ◌∷◌, [], OnErr, OnOk};
+ghost use Rattle.std.specs.Option.{option_copied};
+
+use crate::node::{NodeAddr, SlotRange, TopologyError};
+use crate::slots_reply::ranges_of;
+use resp_containers::Items;
+use resp_value::Value;
+use std::alloc::{AllocError, Global};
+use std::marker::Model;
+
+/// Which nodes serve which slots: ranges of slots, of which the first that has a slot says where it
+/// is. A slot that none has isn't served.
+///
+/// Contracts see the list of its ranges.
+#[derive(Debug, Drop)]
+pub struct SlotMap {
+    alloc: Global,
+    ranges: Vec<SlotRange>,
+}
+
+impl Model for SlotMap {
+    ghost use Rattle.std.specs.Prelude.{List};
+    ghost use Rattle.resp_cluster.specs.declared.node.SlotRange.{SlotRange};
+
+    ghost Value = { List SlotRange };
+
+    ghost view = { λ map. map.ranges.items };
+}
+
+impl SlotMap {
+    ghost use Rattle.resp_cluster.specs.Maps.{moved, range_at};
+    ghost use Rattle.resp_cluster.specs.Replies.{Gives, map_in};
+
+    /// A map without ranges; takes no memory.
+    pub fn new(alloc: Global) -> SlotMap
+        ensures { result ≡ [] }
+    {
+        SlotMap {
+            alloc,
+            ranges: Vec::new(alloc),
+        }
+    }
+
+    /// The map that a reply to `CLUSTER SLOTS` gives: the ranges of its entries, in order. The node
+    /// that was asked has this host: it stands for a host that is null or empty. A host `?` isn't
+    /// known.
+    ///
+    /// Fails where the reply isn't as [`TopologyError`] says, and with `OutOfMemory`.
+    pub fn from_slots_reply(
+        alloc: Global,
+        reply: &Value,
+        asked: &str,
+    ) -> Result<SlotMap, TopologyError>
+        ensures { Gives (map_in asked.now reply.now) result }
+    {
+        match reply {
+            Value::Array(entries) => Ok(SlotMap {
+                alloc,
+                ranges: ranges_of(alloc, asked, entries.as_slice())?.into_vec(),
+            }),
+            _ => Err(TopologyError::BadShape),
+        }
+    }
+
+    /// The ranges, in order.
+    pub fn ranges(&self) -> &[SlotRange]
+        ensures { result.now ≡ self.now }
+    {
+        self.ranges.as_slice()
+    }
+
+    /// The range that says where a slot is: the first that has it.
+    pub fn range_at(&self, slot: u16) -> Option<&SlotRange>
+        ensures { option_copied result ≡ range_at self.now slot }
+    {
+        for range in &self.ranges {
+            if range.covers(slot) {
+                return Some(range);
+            }
+        }
+        None
+    }
+
+    /// Says that a slot is now at this node, as a server does by `MOVED`: a range of this slot alone
+    /// comes before the others. On `AllocError` the map is as it was.
+    pub fn set_primary(&mut self, slot: u16, node: NodeAddr) -> Result<(), AllocError>
+        ensures set { OnOk result (self.new ≡ moved slot node ∷ self.old) }
+        ensures unchanged { OnErr result (self.new ≡ self.old) }
+    {
+        let range = SlotRange {
+            first: slot,
+            last: slot,
+            primary: Some(node),
+            replicas: Items::new(self.alloc),
+        };
+        self.ranges.insert(0, range)?;
+        Ok(())
+    }
+}
