@@ -18,6 +18,8 @@ macro_rules! makes {
 #[cfg(test)]
 mod changes;
 #[cfg(test)]
+mod connecting;
+#[cfg(test)]
 mod conversions;
 #[cfg(test)]
 mod copies;
@@ -33,6 +35,8 @@ mod links;
 mod made;
 #[cfg(test)]
 mod no_memory;
+#[cfg(test)]
+mod no_memory_connecting;
 #[cfg(test)]
 mod no_memory_errors;
 #[cfg(test)]

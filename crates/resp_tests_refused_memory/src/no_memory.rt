@@ -39,6 +39,7 @@ fn commands(rt: HostRuntime) {
     refuse_all(rt.alloc());
     let _ = command.set_no_response(true);
     assert!(rt; command.is_no_response() && !command.is_empty() && !command.in_scan_mode());
+    assert!(rt; !command.is_unanswered());
     equal(&rt, command.args_iter().len(), 2);
     equal(&rt, command.framed().len(), 24);
     took_none(&rt);

@@ -4,8 +4,8 @@ use crate::checks::{Test, assert_answer, assert_debug, link};
 use crate::devices::checks::assert_ping;
 use crate::testing::{Device, MemoryLink, command};
 use resp_core::{
-    ByteLink, CommandSink, Limits, Parser, PushInfo, PushKind, Reading, RedisResult, ReplySource,
-    Writing,
+    ByteLink, CommandSink, ConnectionLike, Limits, Parser, PushInfo, PushKind, PushSource, Reading,
+    RedisResult, ReplySource, Value, Writing,
 };
 use std::io::{Cursor, ErrorKind};
 
@@ -182,7 +182,6 @@ const REPLIES: &[&[u8]] = &[
     b":7\r\n",
     b"+message\r\n",
     b"$7\r\nmessage\r\n",
-    b"-ERR x\r\n",
     b"*0\r\n",
     b"*-1\r\n",
     b"*1\r\n+message\r\n",
@@ -191,6 +190,8 @@ const REPLIES: &[&[u8]] = &[
     b"*1\r\n$1\r\n\xFF\r\n",
     b"~1\r\n$7\r\nmessage\r\n",
     b"|1\r\n+a\r\n+b\r\n>1\r\n+x\r\n",
+    b"|1\r\n+a\r\n+b\r\n-ERR x\r\n",
+    b"*1\r\n-ERR x\r\n",
 ];
 
 #[test]
@@ -203,6 +204,67 @@ fn replies_without_a_request(rt: HostRuntime) {
     assert_next(&rt, &mut link, &[X, refused]);
     assert_ping(&rt, &mut link, BROKEN);
     assert!(rt; link.is_broken());
+}
+
+/// What a server answers a subscription that its user may not make, and one that it may.
+const REFUSED: &[u8] = b"-NOPERM this user has no permissions to run the 'subscribe' command\r\n\
+    >3\r\n$9\r\nsubscribe\r\n$4\r\nnews\r\n:1\r\n:7\r\n";
+
+const SUBSCRIBED: &str = "PushInfo { kind: Subscribe, payload: [bulk-string('\"news\"'), int(1)] }";
+
+#[test]
+fn a_subscription_that_a_server_refuses(rt: HostRuntime) {
+    let mut link = link(&rt, REFUSED);
+    let refused = "NoPerm: this user has no permissions to run the 'subscribe' command";
+    assert_next(&rt, &mut link, &[refused, SUBSCRIBED]);
+    assert_ping(&rt, &mut link, "7");
+    assert!(rt; link.is_open());
+    assert_unasked(
+        &rt,
+        b"-ERR x\r\n?",
+        &["ResponseError: x", "UnknownType", BROKEN],
+    );
+}
+
+/// The commands that are answered by messages alone.
+const SUBSCRIPTIONS: &[&str] = &[
+    "SUBSCRIBE",
+    "psubscribe",
+    "SSubscribe",
+    "Unsubscribe",
+    "PUNSUBSCRIBE",
+    "sunsubscribE",
+];
+
+#[test]
+fn a_subscription_whose_reply_is_waited_for(rt: HostRuntime) {
+    let refused = "a subscription has no reply: set_no_response, then next_push - Client";
+    for name in SUBSCRIPTIONS {
+        let subscription = command(rt.alloc(), &[*name, "news"]).expect(&rt, "memory");
+        assert!(rt; subscription.is_unanswered());
+        let mut link = link(&rt, b":7\r\n");
+        assert_answer(&rt, subscription.query::<Value>(&mut link), refused);
+        assert_answer(&rt, link.req_command(&subscription), refused);
+        assert_ping(&rt, &mut link, "7");
+        let (_source, sink) = link.into_ends();
+        assert!(rt; sink.into_inner().as_slice() == b"*1\r\n$4\r\nPING\r\n".as_slice());
+    }
+}
+
+#[test]
+fn a_subscription_whose_reply_is_not_waited_for(rt: HostRuntime) {
+    let mut subscription = command(rt.alloc(), &["SUBSCRIBE", "news"]).expect(&rt, "memory");
+    let _ = subscription.set_no_response(true);
+    assert!(rt; !subscription.is_unanswered());
+    let mut link = link(&rt, b">3\r\n$9\r\nsubscribe\r\n$4\r\nnews\r\n:1\r\n:7\r\n");
+    assert_answer(&rt, subscription.query::<Value>(&mut link), "nil");
+    assert_answer(&rt, waits(&mut link), SUBSCRIBED);
+    assert_ping(&rt, &mut link, "7");
+}
+
+/// Waits over any connection that hands out pushes.
+fn waits<C: PushSource>(con: &mut C) -> RedisResult<PushInfo> {
+    con.next_push()
 }
 
 const X: &str = "PushInfo { kind: Other(\"x\"), payload: [] }";

@@ -39,6 +39,10 @@ impl ConnectionLike for OneByOne {
         if cmd.is_empty() {
             return Err(RedisError::from((ErrorKind::Client, "empty command")));
         }
+        if cmd.is_unanswered() {
+            let refusal = "a subscription has no reply: set_no_response, then next_push";
+            return Err(RedisError::from((ErrorKind::Client, refusal)));
+        }
         Err(RedisError::OutOfMemory)
     }
 
