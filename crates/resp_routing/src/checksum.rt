@@ -30,11 +30,8 @@ static REMAINDERS: [u16; 256] = [
 ];
 
 /// The checksum CRC-16/XMODEM: the remainder of the bytes, followed by sixteen zero bits, as a
-/// polynomial over the field of two elements, divided by x^16 + x^12 + x^5 + 1.
-///
-/// ```text
-/// crc16(b"123456789") == 0x31c3
-/// ```
+/// polynomial over the field of two elements, divided by x^16 + x^12 + x^5 + 1. That of `123456789`
+/// is 0x31c3.
 pub fn crc16(bytes: &[u8]) -> u16
     ensures { result ≡ remainder bytes.now }
 {

@@ -10,12 +10,7 @@ use memchr::memchr;
 pub const SLOT_COUNT: u16 = 16384;
 
 /// The bytes of a key that its slot is computed of: those between the first `{` and the first `}`
-/// after it, where there are any; else the whole key.
-///
-/// ```text
-/// hash_tag(b"{user:7}:visits") == b"user:7"
-/// hash_tag(b"{}:visits") == b"{}:visits"
-/// ```
+/// after it, where there are any; else the whole key. Of `{user:7}:visits` they are `user:7`.
 pub fn hash_tag(key: &[u8]) -> &[u8]
     ensures { IsHashTag key.now result.now }
 {
@@ -30,12 +25,7 @@ pub fn hash_tag(key: &[u8]) -> &[u8]
 }
 
 /// The slot of a key, below [`SLOT_COUNT`]: the checksum of its hash tag, modulo the number of
-/// slots.
-///
-/// ```text
-/// get_slot(b"foo") == 12182
-/// get_slot(b"{foo}new") == 12182
-/// ```
+/// slots. `foo` and `{foo}new` are in slot 12182.
 pub fn get_slot(key: &[u8]) -> u16
     ensures slot { IsSlot key.now result }
     ensures range { result < SLOT_COUNT }
