@@ -11,7 +11,7 @@ mod pieces;
 mod stored_replies;
 
 pub use counted::{Counted, MemoryLink};
-pub use counters::{count_call, is_of_wrong_type, visits_when_ready};
+pub use counters::{count_call, is_of_wrong_type, visits_read_again, visits_when_ready};
 pub use ends::{visit, visit_between, visit_over};
 pub use own_types::{Point, Scored};
 pub use pieces::InPieces;

@@ -1,5 +1,5 @@
-//! Counters: one that lasts a minute, and what it comes to where its key holds something else; and
-//! one that is asked again where the server isn't ready.
+//! Counters: one that lasts a minute, and what it comes to where its key holds something else; one
+//! that is asked again where the server isn't ready, and one where the reply was lost.
 //!
 //! The error of a wrong key is told by the server's code, which is none that [`ServerErrorKind`]
 //! names. No proof file is needed.
@@ -10,6 +10,7 @@ ghost use Rattle.std.specs.Prelude.{◌≡◌, ◌↔◌, IsTrue, IsSomeAnd, cod
 ghost use Rattle.resp_core.specs.Replies.{first_server_error_of, server_code_of};
 
 use resp_core::{ConnectionLike, RedisError, RedisResult, RetryMethod, cmd, pipe, retrying};
+use resp_routing::is_readonly_cmd;
 use std::alloc::Global;
 
 /// Counts a call in a transaction, and answers the count of its minute; `None` where the key holds
@@ -58,4 +59,16 @@ pub fn visits_when_ready(
 ) -> RedisResult<i64> {
     let mut asks_to_wait = |error: &RedisError| error.retry_method() == RetryMethod::WaitAndRetry;
     retrying(con, 3, cmd(alloc, "INCR")?.arg(page)?, &mut asks_to_wait)
+}
+
+/// The visits of a page. Where the reply is lost the command is sent once more, since it only reads:
+/// over a connection that reconnects, by another link.
+pub fn visits_read_again(
+    alloc: Global,
+    con: &mut dyn ConnectionLike,
+    page: &str,
+) -> RedisResult<Option<i64>> {
+    let reads = is_readonly_cmd(&[b"GET".as_slice()]);
+    let mut was_lost = |error: &RedisError| reads && error.is_io_error();
+    retrying(con, 1, cmd(alloc, "GET")?.arg(page)?, &mut was_lost)
 }

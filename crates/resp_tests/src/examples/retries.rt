@@ -4,7 +4,7 @@
 use crate::checks::{Test, assert_answer, link};
 use crate::examples::connections::stored;
 use crate::testing::{MemoryLink, command, pipeline};
-use example_snippets::replies::visits_when_ready;
+use example_snippets::replies::{visits_read_again, visits_when_ready};
 use resp_core::{Cmd, Pipeline, RedisError, RetryMethod, retrying};
 
 const LOADING: &str = "-LOADING Redis is loading the dataset in memory\r\n";
@@ -69,6 +69,18 @@ fn each_error_is_judged_once(rt: HostRuntime) {
     assert_eq!(rt; judged, 0);
     let visits = visits_when_ready(rt.alloc(), &mut con, "home");
     assert_answer(&rt, visits, "1");
+}
+
+#[test]
+fn a_command_that_only_reads_is_sent_again(rt: HostRuntime) {
+    let mut con = stored(&rt, &["+7\r\n"]);
+    let first = visits_read_again(rt.alloc(), &mut con, "home");
+    assert_answer(&rt, first, "Some(7)");
+    let lost = visits_read_again(rt.alloc(), &mut con, "home");
+    assert_answer(&rt, lost, "link is broken - Io");
+    let mut con = stored(&rt, &[]);
+    let lost = visits_when_ready(rt.alloc(), &mut con, "home");
+    assert_answer(&rt, lost, "UnexpectedEof");
 }
 
 #[test]
