@@ -3,8 +3,9 @@
 
 mod equality;
 mod node;
+mod shards_reply;
 mod slot_map;
 mod slots_reply;
 
-pub use node::{NodeAddr, SlotRange, TopologyError};
+pub use node::{NodeAddr, PortKind, SlotRange, TopologyError};
 pub use slot_map::SlotMap;

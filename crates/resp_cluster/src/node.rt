@@ -27,6 +27,15 @@ pub struct SlotRange {
     pub replicas: Items<NodeAddr>,
 }
 
+/// Which port of a node is meant, where it has two.
+#[derive(Debug, Drop)]
+pub enum PortKind {
+    /// That without TLS.
+    Plain,
+    /// That with TLS.
+    Tls,
+}
+
 /// Why a reply gives no map.
 #[derive(Debug, Drop)]
 pub enum TopologyError {

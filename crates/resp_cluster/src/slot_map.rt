@@ -3,7 +3,8 @@
 ghost use Rattle.std.specs.Prelude.{◌≡◌, ◌∷◌, [], OnErr, OnOk};
 ghost use Rattle.std.specs.Option.{option_copied};
 
-use crate::node::{NodeAddr, SlotRange, TopologyError};
+use crate::node::{NodeAddr, PortKind, SlotRange, TopologyError};
+use crate::shards_reply::ranges_of_shards;
 use crate::slots_reply::ranges_of;
 use resp_containers::Items;
 use resp_value::Value;
@@ -32,6 +33,7 @@ impl Model for SlotMap {
 impl SlotMap {
     ghost use Rattle.resp_cluster.specs.Maps.{moved, range_at};
     ghost use Rattle.resp_cluster.specs.Replies.{Gives, map_in};
+    ghost use Rattle.resp_cluster.specs.Shards.{map_of_shards};
 
     /// A map without ranges; takes no memory.
     pub fn new(alloc: Global) -> SlotMap
@@ -59,6 +61,29 @@ impl SlotMap {
             Value::Array(entries) => Ok(SlotMap {
                 alloc,
                 ranges: ranges_of(alloc, asked, entries.as_slice())?.into_vec(),
+            }),
+            _ => Err(TopologyError::BadShape),
+        }
+    }
+
+    /// The map that a reply to `CLUSTER SHARDS` gives: for each shard, in order, its ranges of slots
+    /// with the first of its nodes that is a primary, and the others as replicas, whatever their
+    /// health. A node has the host of its `endpoint`, as in
+    /// [`from_slots_reply`](SlotMap::from_slots_reply), and the port of this kind.
+    ///
+    /// Fails where the reply isn't as [`TopologyError`] says, and with `OutOfMemory`.
+    pub fn from_shards_reply(
+        alloc: Global,
+        reply: &Value,
+        asked: &str,
+        kind: &PortKind,
+    ) -> Result<SlotMap, TopologyError>
+        ensures { Gives (map_of_shards asked.now kind.now reply.now) result }
+    {
+        match reply {
+            Value::Array(shards) => Ok(SlotMap {
+                alloc,
+                ranges: ranges_of_shards(alloc, asked, kind, shards.as_slice())?.into_vec(),
             }),
             _ => Err(TopologyError::BadShape),
         }

@@ -70,7 +70,7 @@ fn range_over(
 }
 
 /// The first and the last slot of a range.
-fn slots_of(first: &Value, last: &Value) -> Result<(u16, u16), TopologyError>
+pub(crate) fn slots_of(first: &Value, last: &Value) -> Result<(u16, u16), TopologyError>
     ensures { result ≡ slots_in (number_below 16384 first.now) (number_below 16384 last.now) }
 {
     match (slot_of(first), slot_of(last)) {
@@ -90,7 +90,7 @@ fn slot_of(value: &Value) -> Option<u16>
 }
 
 /// A number that is a port.
-fn port_of(value: &Value) -> Option<u16>
+pub(crate) fn port_of(value: &Value) -> Option<u16>
     ensures { result ≡ number_below 65536 value.now }
 {
     match value {
@@ -137,7 +137,7 @@ fn node_of_parts(
 }
 
 /// The address of this host and port, if both are known.
-fn address(
+pub(crate) fn address(
     alloc: Global,
     host: Option<&str>,
     port: Option<u16>,
@@ -155,7 +155,7 @@ fn address(
 }
 
 /// The host that a value names, if it is known.
-fn host_of<'a>(asked: &'a str, host: &'a Value) -> Result<Option<&'a str>, TopologyError>
+pub(crate) fn host_of<'a>(asked: &'a str, host: &'a Value) -> Result<Option<&'a str>, TopologyError>
     ensures { IsHost (host_in asked.now host.now) result }
 {
     match host {
