@@ -10,7 +10,8 @@ use memchr::memchr;
 pub const SLOT_COUNT: u16 = 16384;
 
 /// The bytes of a key that its slot is computed of: those between the first `{` and the first `}`
-/// after it, where there are any; else the whole key. Of `{user:7}:visits` they are `user:7`.
+/// after it, where there are any; else the whole key. The tag of `{user:7}:visits` is `user:7`, and
+/// that of `{}:visits` is the whole.
 pub fn hash_tag(key: &[u8]) -> &[u8]
     ensures { IsHashTag key.now result.now }
 {
@@ -25,7 +26,7 @@ pub fn hash_tag(key: &[u8]) -> &[u8]
 }
 
 /// The slot of a key, below [`SLOT_COUNT`]: the checksum of its hash tag, modulo the number of
-/// slots. `foo` and `{foo}new` are in slot 12182.
+/// slots. Those of `foo` and `{foo}new` are 12182.
 pub fn get_slot(key: &[u8]) -> u16
     ensures slot { IsSlot key.now result }
     ensures range { result < SLOT_COUNT }

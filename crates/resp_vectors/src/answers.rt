@@ -4,7 +4,7 @@ use crate::rows::{Row, malformed};
 use crate::texts::escaped;
 use crate::{
     commands, connecting, conversions, encodings, errors, names, program, queries, replies,
-    routing, scans,
+    routing, scans, topology,
 };
 use resp_core::RedisResult;
 use std::alloc::Global;
@@ -57,6 +57,8 @@ fn routing_answer(alloc: Global, row: &Row) -> RedisResult<String> {
         "keys" => routing::keys(alloc, row),
         "route" => routing::route(alloc, row),
         "slot" => routing::slot(alloc, row),
+        "shards-map" => topology::of_shards(alloc, row),
+        "slots-map" => topology::of_slots(alloc, row),
         _ => Err(malformed()),
     }
 }

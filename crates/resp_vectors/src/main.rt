@@ -21,6 +21,7 @@ mod rows;
 mod scans;
 mod tally;
 mod texts;
+mod topology;
 mod types;
 mod words;
 
