@@ -1,3 +1,4 @@
 pub mod Appending
 pub mod OneSlot
 pub mod Remainders
+pub mod Within

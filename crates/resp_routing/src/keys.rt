@@ -1,6 +1,6 @@
 //! The keys of a command.
 
-ghost use Rattle.std.specs.Prelude.{◌≡◌, ◌≢◌, Ok, Err, IfOk, IfErr};
+ghost use Rattle.std.specs.Prelude.{◌≡◌, ◌≢◌, All, Ok, Err, IfOk, IfErr};
 ghost use Rattle.std.specs.Prelude.{◌+◌, ◌<◌, ◌^◌, length, drop};
 ghost use Rattle.std.specs.Str.{all_ascii_digits, str_eq_ignore_ascii_case};
 ghost use Rattle.resp_routing.specs.Commands.{words};
@@ -20,6 +20,8 @@ use std::alloc::Global;
 /// [`RoutingError`] says, but not with `CrossSlot`.
 pub fn keys_of(alloc: Global, args: &[&[u8]]) -> Result<Vec<usize>, RoutingError>
     ensures found { IfOk result (λ positions. keys_of (words args.now) ≡ Ok positions.items) }
+    ensures within { IfOk result (λ positions. All (λ place. place < length args.now)
+        positions.items) }
     ensures refused { IfErr result (λ e. e ≢ RoutingError.OutOfMemory → keys_of (words args.now) ≡ Err e) }
 {
     let Some(command) = command_info(args) else {

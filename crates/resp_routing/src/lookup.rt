@@ -1,8 +1,9 @@
 //! Finding a command in the table.
 
-ghost use Rattle.std.specs.Prelude.{◌≡◌};
+ghost use Rattle.std.specs.Prelude.{◌≡◌, IsTrue, false, not};
 ghost use Rattle.std.specs.List.{find};
 ghost use Rattle.std.specs.Option.{option_copied};
+ghost use Rattle.std.specs.Str.{str_eq_ignore_ascii_case};
 ghost use Rattle.resp_routing.specs.Commands.{command_in, command_of, is_named, takes, unpadded};
 ghost use Rattle.resp_routing.specs.Commands.{words};
 
@@ -55,8 +56,19 @@ impl CommandInfo {
     fn is_named(&self, name: &[u8], subcommand: &[u8]) -> bool
         ensures { result ≡ is_named name.now subcommand.now self.now }
     {
-        without_padding(&self.name).eq_ignore_ascii_case(name)
+        may_be(&self.name, name)
+            && without_padding(&self.name).eq_ignore_ascii_case(name)
             && without_padding(&self.subcommand).eq_ignore_ascii_case(subcommand)
+    }
+}
+
+/// Whether the padded name may be this one, by its first byte: most rows are passed over by that.
+fn may_be(padded: &[u8], name: &[u8]) -> bool
+    ensures { IsTrue (not result) → str_eq_ignore_ascii_case (unpadded padded.now) name.now ≡ false }
+{
+    match (padded.first(), name.first()) {
+        (Some(one), Some(other)) => one.eq_ignore_ascii_case(other),
+        _ => true,
     }
 }
 
