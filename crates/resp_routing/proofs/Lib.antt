@@ -1,4 +1,5 @@
 pub mod Appending
 pub mod OneSlot
+pub mod OneTag
 pub mod Remainders
 pub mod Within

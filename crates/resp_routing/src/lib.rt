@@ -6,6 +6,7 @@ mod commands;
 mod equality;
 mod errors;
 mod keys;
+pub mod laws;
 mod lookup;
 mod routes;
 mod slots;
