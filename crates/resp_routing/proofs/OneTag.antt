@@ -1,19 +1,19 @@
 -- A key has one hash tag, and so one slot.
-use Rattle.std.proofs.Common.{◌≡◌, ℕ, ◌+◌, ◌<◌, ◌≤◌, ◌%◌, List, drop, take, length, All, Contains, Some, refl, sym, ap, ◌∙◌, inl, inr, arith}
+use Rattle.std.proofs.Common.{◌≡◌, ℕ, ◌+◌, ◌%◌, List, drop, take, Contains, Some, sym, ap, ◌∙◌, inl, inr, arith}
 use Rattle.std.proofs.lemmas.Bool.{cases_order}
 use Rattle.memchr.specs.Find.{IsFirstByte, is_byte}
 use Rattle.resp_args.specs.Args.{Args}
 use Rattle.resp_routing.specs.Checksums.{remainder}
 use Rattle.resp_routing.specs.Routes.{AreApart, InOneSlot}
-use Rattle.resp_routing.specs.Slots.{Braces, IsHashTag, IsSlot}
+use Rattle.resp_routing.specs.Slots.{IsHashTag, IsSlot}
 
 one_first : (c : ℕ) (bs : List ℕ) (i j : ℕ) → IsFirstByte (is_byte c) bs (Some i) → IsFirstByte (is_byte c) bs (Some j) → i ≡ j
 one_first c bs i j one other =
     elim (cases_order i j) [
-      inl same ↦ same
-    | inr apart ↦ elim apart [
-        inl before ↦ absurd (other.0.before i (omega arith) before one.1)
-      | inr after ↦ absurd (one.0.before j (omega arith) after other.1)
+      | inl same ↦ same
+      | inr apart ↦ elim apart [
+        | inl before ↦ absurd (other.0.before i (omega arith) before one.1)
+        | inr after ↦ absurd (one.0.before j (omega arith) after other.1)
       ]
     ]
 
@@ -34,6 +34,6 @@ one_slot key s t one other =
 pub not_apart : (keys : Args) (s : ℕ) → InOneSlot keys s → AreApart keys → ⊥
 not_apart keys s held apart =
     let slot_at : (key : List ℕ) (t : ℕ) → Contains keys key → IsSlot key t → s ≡ t
-        = λ key t there is. one_slot key s t (rw there.2 at (held.all there.0 key there.1)) is in
+    = λ key t there is. one_slot key s t (rw there.2 at (held.all there.0 key there.1)) is in
     apart.differ (sym (slot_at apart.one apart.slot apart.one_there apart.one_slot)
     ∙ slot_at apart.other apart.elsewhere apart.other_there apart.other_slot)

@@ -1,4 +1,5 @@
 pub mod Checksums
+pub mod CommandArgs
 pub mod Commands
 pub mod Keys
 pub mod Refusals

@@ -2,6 +2,7 @@
 #![tactic(auto)]
 
 mod checksum;
+mod command_args;
 mod commands;
 mod equality;
 mod errors;
@@ -13,6 +14,7 @@ mod slots;
 mod table;
 
 pub use checksum::crc16;
+pub use command_args::args_of;
 pub use commands::{
     Access, Arity, BeginSearch, CommandInfo, FindKeys, KeySpec, Keys, Keyword, RequestPolicy,
     ResponsePolicy,
