@@ -35,7 +35,7 @@ nothing_open None [] e = record { no_body = refl; no_frame = refl }
 nothing_open None (f ∷ fs) e = absurd (cc)
 nothing_open (Some b) fs e = absurd (cc)
 
-resume-fresh : {B : Type 0} (m : Machine B) → fresh_of m.body m.open_aggregates ≡ true → (bs : List ℕ) → read m.depth bs
+pub resume-fresh : {B : Type 0} (m : Machine B) → fresh_of m.body m.open_aggregates ≡ true → (bs : List ℕ) → read m.depth bs
     ≡ resume m bs
 resume-fresh m e bs =
     let n = nothing_open m.body m.open_aggregates e in

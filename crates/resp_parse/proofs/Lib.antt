@@ -6,6 +6,9 @@ pub mod BuiltOf
 pub mod ByteTests
 pub mod ElementReads
 pub mod BodiesInPieces
+pub mod BulkBodies
+pub mod OtherValues
+pub mod Skipping
 pub mod Completions
 pub mod Counting
 pub mod Running

@@ -111,7 +111,7 @@ module _ (R : List ℕ → ReadOutcome Value) (G : List ℕ → Value → Type 0
       { prefix = []; whole = (let k : bs ≡ rest = cc in k); is = (refl, (let k : f ≡ g = cc in k)) }
 
 -- a header, and what follows it
-header-reads : (d : ℕ) (b text tail rest : List ℕ) (kind : TypeByte) → Header b kind text tail
+pub header-reads : (d : ℕ) (b text tail rest : List ℕ) (kind : TypeByte) → Header b kind text tail
     → read (suc d) (b ++ rest) ≡ read_line (read d) kind text (tail ++ rest)
 header-reads d b text tail rest kind h =
     let e : b ++ rest ≡ byte_of kind ∷ (text ++ (crlf ++ (tail ++ rest))) = ap (λ s. s ++ rest) h.bytes

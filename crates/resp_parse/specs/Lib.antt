@@ -27,3 +27,4 @@ pub mod FlatBuilders
 pub mod Invariant
 pub mod Source
 pub mod Calls
+pub mod BulkBodies

@@ -1,7 +1,7 @@
 //! A decoder of replies whose bytes come in pieces, whatever it builds of them.
 
 ghost use Rattle.std.specs.Prelude.{◌≡◌, ◌≢◌, ◌↔◌, ◌++◌, ◌+◌, ◌≤◌, ◌⊎◌, [], true, false, Err, List, ℕ};
-ghost use Rattle.std.specs.Prelude.{length, IsTrue, OnOk, IfSome, None};
+ghost use Rattle.std.specs.Prelude.{length, drop, IsTrue, OnOk, IfSome, None};
 ghost use Rattle.std.specs.Vec.{vec_capacity};
 ghost use Rattle.resp_parse.specs.State.{StandsAfter, FailedAfter, IsBetweenValues, has_failed};
 ghost use Rattle.resp_parse.specs.State.{KeepsFaultOffset, refusal_of, answered};
@@ -22,9 +22,12 @@ use resp_value::{FrameFault, IoKind, ParsingError, RedisError, RedisResult};
 use std::alloc::{AllocError, Global};
 use std::marker::Model;
 
+mod bulk_header;
 mod counter;
 mod prefix;
 
+pub use bulk_header::BulkHeader;
+pub(crate) use bulk_header::{Start, start_of};
 pub(crate) use counter::Counter;
 pub use prefix::parse_redis_value;
 
@@ -268,6 +271,30 @@ impl<B: Builder> Decoder<B> {
         self.buffer[self.consumed..].len()
     }
 
+    /// The bytes that are held and weren't parsed.
+    pub(crate) fn unparsed(&self) -> &[u8]
+        ensures unparsed { result.now ≡ self.now.unparsed }
+        ensures bounds { Bounded self.now }
+    {
+        &self.buffer[self.consumed..]
+    }
+
+    /// Drops the first n bytes that are held, between values.
+    pub(crate) fn skip(&mut self, n: usize)
+        requires rest { IsBetweenValues self.old }
+        requires within { n ≤ length self.old.unparsed }
+        ensures unparsed { self.new.unparsed ≡ drop n self.old.unparsed }
+        ensures rest { IsBetweenValues self.new }
+        ensures limits { self.new.limits ≡ self.old.limits }
+        ensures bounds { Bounded self.new }
+    {
+        let looked = self.machine.scanned;
+        self.counts.examine(n.saturating_sub(looked));
+        self.machine.scanned = looked.saturating_sub(n);
+        self.consumed += n;
+        self.since.restart(&self.buffer[self.consumed..]);
+    }
+
     /// Whether bytes stand after the last value that was handed out. A parser that has failed
     /// answers as it would have at its failure, the bytes that it was filled with included.
     pub(crate) fn in_progress(&self) -> bool
@@ -282,6 +309,7 @@ impl<B: Builder> Decoder<B> {
     pub(crate) fn ask<S: ReplySource>(&mut self, source: &mut S) -> RedisResult<()>
         ensures asks { (b : List ℕ) → StandsAfter self.old b →
             Asks b self.old self.new (S.source source.old) (S.source source.new) result }
+        ensures rest { OnOk result (IsBetweenValues self.old → IsBetweenValues self.new) }
         ensures offset { self.new.fault_offset ≡ self.old.fault_offset }
         ensures limits { self.new.limits ≡ self.old.limits }
         ensures bounds { Bounded self.new }

@@ -25,7 +25,7 @@ mod tree_builder;
 mod type_byte;
 mod value_of;
 
-pub use decoder::parse_redis_value;
+pub use decoder::{BulkHeader, parse_redis_value};
 pub use double::is_double_text;
 pub use flat_parser::FlatParser;
 pub use history::History;

@@ -1,17 +1,18 @@
 //! A parser of bytes that come in pieces.
 
-ghost use Rattle.std.specs.Prelude.{◌≡◌, ◌≢◌, ◌↔◌, ◌⊎◌, [], true, false, Err, List, ℕ};
-ghost use Rattle.std.specs.Prelude.{length, IsTrue, IfErr, IfOk, IsOk, OnOk, IfSome, None};
+ghost use Rattle.std.specs.Prelude.{◌≡◌, ◌≢◌, ◌↔◌, ◌⊎◌, ◌≤◌, [], true, false, Err, List, ℕ};
+ghost use Rattle.std.specs.Prelude.{length, drop, IsTrue, IfErr, IfOk, IsOk, OnOk, IfSome, None};
 ghost use Rattle.resp_parse.specs.State.{StandsAfter, FailedAfter, IsBetweenValues, has_failed};
 ghost use Rattle.resp_parse.specs.State.{KeepsFaultOffset, answered};
 ghost use Rattle.resp_parse.specs.Limits.{AreLimits, IsDepthLimit, RefusesLimits};
 ghost use Rattle.resp_parse.specs.Limits.{depth_refused, of_depth, usual};
 ghost use Rattle.resp_parse.specs.Limited.{FaultShownAt};
 ghost use Rattle.resp_parse.specs.Calls.{Feeds, Takes, TakesInto, Asks, Parses, ParsesReader};
+ghost use Rattle.resp_parse.specs.BulkBodies.{Looks};
 ghost use Rattle.resp_parse.specs.Bounds.{Bounded, FedBy, OneCall, CallsWithin, AskedFor};
 ghost use Rattle.resp_parse.specs.Counts.{nothing_done};
 
-use crate::decoder::{Decoder, failed_before, refusal};
+use crate::decoder::{BulkHeader, Decoder, Start, failed_before, refusal, start_of};
 use crate::limits::Limits;
 use crate::read_error::ReadError;
 use crate::reader_source::Reading;
@@ -300,10 +301,87 @@ impl Parser {
         self.decoder.in_progress()
     }
 
+    /// The bytes that are held and weren't parsed. Between values, these are the bytes that follow
+    /// the last one.
+    pub fn unparsed(&self) -> &[u8]
+        ensures unparsed { result.now ≡ self.now.unparsed }
+        ensures bounds { Bounded self.now }
+    {
+        self.decoder.unparsed()
+    }
+
+    /// Drops the first n bytes that are held, between values. The parser then stands as if it had
+    /// never been fed them.
+    pub fn skip(&mut self, n: usize)
+        requires rest { IsBetweenValues self.old }
+        requires within { n ≤ length self.old.unparsed }
+        ensures unparsed { self.new.unparsed ≡ drop n self.old.unparsed }
+        ensures rest { IsBetweenValues self.new }
+        ensures limits { self.new.limits ≡ self.old.limits }
+        ensures bounds { Bounded self.new }
+    {
+        self.decoder.skip(n);
+    }
+
+    /// Asks the source once, for at most 4,096 bytes, and holds what it gives. No value is taken.
+    ///
+    /// An end of the source is refused as [`IoKind::UnexpectedEof`], and the parser has failed. A
+    /// failure of the source is refused as [`RedisError::Io`] with its kind; the parser stays as it
+    /// was.
+    pub fn fill_from<S: ReplySource>(&mut self, source: &mut S) -> RedisResult<()>
+        ensures failed { self.old.failed ≡ true → (result ≡ Err has_failed) × (self.new ≡ self.old)
+            × (S.source source.new ≡ S.source source.old) }
+        ensures asks { (b : List ℕ) → StandsAfter self.old b →
+            Asks b self.old self.new (S.source source.old) (S.source source.new) result }
+        ensures rest { OnOk result (IsBetweenValues self.old → IsBetweenValues self.new) }
+        ensures limits { self.new.limits ≡ self.old.limits }
+        ensures bounds { Bounded self.new }
+        ensures asked { AskedFor self.old.counts self.new.counts result }
+    {
+        if self.decoder.is_failed() {
+            return Err(failed_before());
+        }
+        self.ask(source)
+    }
+
+    /// Asks the source until it is known whether the next value is a bulk string with a body, and
+    /// answers its header. No byte is taken: the header and what follows it are the first of
+    /// [`Parser::unparsed`].
+    ///
+    /// None where another value comes, or a fault, which [`Parser::parse_from`] then says; so it is
+    /// where the line that began takes more bytes than a value may have. An end or a failure of the
+    /// source before that is refused as there.
+    pub fn find_bulk<S: ReplySource>(&mut self, source: &mut S) -> RedisResult<Option<BulkHeader>>
+        requires rest { IsBetweenValues self.old }
+        ensures looks { (b : List ℕ) → StandsAfter self.old b →
+            Looks b self.old self.new (S.source source.old) (S.source source.new) result }
+        ensures limits { self.new.limits ≡ self.old.limits }
+        ensures bounds { Bounded self.new }
+    {
+        let most = self.limits().bytes;
+        let mut looked = 0;
+        for _ in 0..u64::MAX {
+            let bytes = self.unparsed();
+            match start_of(bytes, looked) {
+                Start::Bulk(header) => return Ok(Some(header)),
+                Start::Other => return Ok(None),
+                Start::Unknown => {}
+            }
+            if bytes.len() > most {
+                return Ok(None);
+            }
+            looked = bytes.len().saturating_sub(1);
+            self.ask(source)?;
+        }
+        self.fail();
+        Err(RedisError::OutOfMemory)
+    }
+
     /// Asks the source once, for at most 4,096 bytes, and holds what it gives.
     fn ask<S: ReplySource>(&mut self, source: &mut S) -> RedisResult<()>
         ensures asks { (b : List ℕ) → StandsAfter self.old b →
             Asks b self.old self.new (S.source source.old) (S.source source.new) result }
+        ensures rest { OnOk result (IsBetweenValues self.old → IsBetweenValues self.new) }
         ensures offset { self.new.fault_offset ≡ self.old.fault_offset }
         ensures limits { self.new.limits ≡ self.old.limits }
         ensures bounds { Bounded self.new }

@@ -10,9 +10,9 @@ use Rattle.resp_parse.proofs.BodiesInPieces.{drop-all}
 use Rattle.resp_parse.proofs.CountingTaken.{CountsTaken-fed, within-limit}
 use Rattle.resp_parse.proofs.Counting.{Bounded-from_kept}
 use Rattle.resp_parse.proofs.FaultOffsets.{Placed-working}
-use Rattle.resp_parse.proofs.FilledBodies.{apart-taken, apart-none, fed-holds, fed-counted}
+use Rattle.resp_parse.proofs.FilledBodies.{apart-taken, apart-none, fed-holds, fed-counted, fed-between}
 use Rattle.resp_parse.proofs.Holding.{fed-fits, fed-unparsed}
-use Rattle.resp_parse.proofs.ParserStates.{StandsAfter-not_failed}
+use Rattle.resp_parse.proofs.ParserStates.{StandsAfter-not_failed, IsBetweenValues-from_same, IsBetweenValues-same}
 use Rattle.resp_parse.proofs.decoder.Decoder.ask.Goals as goal
 use Rattle.resp_parse.proofs.decoder.Decoder.ask.Goals.{then-taken_all, else-taken_all}
 
@@ -127,6 +127,54 @@ invariant_of-self-in-Ok g c =
           (kept.taken w) fills fits joined (fed-unparsed buffer buffer' rest p.consumed kept.consumed items)
           c.append.ensures one);
     }
+
+pub returns-in_ok-extend_from_slice-in-Ok-clause-rest : goal.returns-in_ok-extend_from_slice-in-Ok-clause-rest
+returns-in_ok-extend_from_slice-in-Ok-clause-rest g c = λ h.
+    let p = c.self-2.inside in
+    let kept = c.self-2.invariant in
+    let buffer = p.buffer.items in
+    let buffer' = c.extend_from_slice.new.self.items in
+    let n = c.fill_front-direct.result in
+    let bytes = take c.in-Ok.n c.deref.result.now in
+    let direct = take n bytes in
+    let rest = drop n bytes in
+    let fills = c.fill_front-direct.ensures.fills in
+    let w : p.failed ≡ false = ap (λ (s : State). s.failed)
+    (c.self-2.view_is ∙ c.compact.ensures.same ∙ sym c.self.view_is) ∙ c.if-self.false in
+    let items : buffer' ≡ buffer ++ rest = grind (arith, common_steps) in
+    let joined : direct ++ rest ≡ bytes = grind (arith, common_steps) in
+    let one : (drop p.consumed buffer ≡ []) ⊎ (direct ≡ []) = elim c.if-taken_all.branch [
+      | then-taken_all u ↦ inl
+          (drop-all p.consumed buffer
+          (grind (arith, nat_tests, u.if-taken_all.true, c.len.ensures, c.make_room.ensures.same)))
+      | else-taken_all u ↦ inr
+          (let z : n ≡ 0 = omega (arith, c.fill_front-direct.ensures.most, u.room-is) in ap (λ k. take k bytes) z)
+    ] in
+    let apart : (more : List ℕ) → drop p.consumed buffer ++ (direct ++ more) ≡ direct
+    ++ (drop p.consumed buffer ++ more) = elim one [
+      | inl e ↦ apart-taken (drop p.consumed buffer) direct e
+      | inr e ↦ apart-none (drop p.consumed buffer) direct e
+    ] in
+    let came : c.deref.result.now ≡ c.fill.new.buf = grind (arith, common_steps) in
+    let l : length bytes ≡ c.in-Ok.n = grind (arith, common_steps, came) in
+    let none : c.fill_front-direct.new.counts.calls + 0 ≡ c.fill_front-direct.new.counts.calls = omega arith in
+    let received : c.receive.new.self ≡ record c.fill_front-direct.new.counts {
+      received = c.fill_front-direct.new.counts.received + length bytes;
+      calls =
+          c.fill_front-direct.new.counts.calls + 0;
+    } =
+    c.receive.ensures ∙ ap (λ (k : ℕ). record c.fill_front-direct.new.counts {
+      received =
+          c.fill_front-direct.new.counts.received + k;
+    }) (sym l)
+    ∙ ap (λ (k : ℕ). record c.fill_front-direct.new.counts
+    { received = c.fill_front-direct.new.counts.received + length bytes; calls = k }) (sym none) in
+    let e = c.self-2.view_is ∙ c.compact.ensures.same in
+    IsBetweenValues-from_same _ w
+    (fed-between 0 p.machine c.fill_front-direct.new.self p.counts c.fill_front-direct.new.counts c.receive.new.self
+    buffer buffer' p.since c.append.new.self bytes direct rest p.consumed p.failed kept.consumed w kept.holds
+    kept.counted fills apart joined items c.append.ensures received
+    (ap (λ (s : State). s.since) e ∙ IsBetweenValues-same c.args.self.now h ∙ sym (ap (λ (s : State). s.unparsed) e)))
 
 pub returns-in_ok-extend_from_slice-in-Ok-clause-bounds : goal.returns-in_ok-extend_from_slice-in-Ok-clause-bounds
 returns-in_ok-extend_from_slice-in-Ok-clause-bounds g c =
