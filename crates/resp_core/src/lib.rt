@@ -32,9 +32,10 @@ pub use resp_from::{
     FromRedisValue, Reply, from_flat_reply, from_redis_value, from_redis_value_by,
     from_redis_value_ref,
 };
-pub use resp_link::{ByteLink, CommandSink, Writing, send_all};
+pub use resp_link::{ByteLink, CommandSink, Streamed, Writing, send_all};
 pub use resp_parse::{
-    FlatParser, History, Limits, Parser, Reading, ReplySource, is_double_text, parse_redis_value,
+    BulkHeader, FlatParser, History, Limits, Parser, Reading, ReplySource, is_double_text,
+    parse_redis_value,
 };
 pub use resp_pipeline::{Attempt, Pipeline, pipe, retrying};
 pub use resp_types::{

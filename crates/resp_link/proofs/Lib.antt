@@ -1,5 +1,12 @@
+pub mod BulkReadings
+pub mod Incoming
 pub mod LinkExchanges
 pub mod NamedMessages
 pub mod ReadsMessages
+pub mod TakenParts
 pub mod Receiving
+pub mod RequestsWithBodies
+pub mod SentExchanges
 pub mod SentSoFar
+pub mod StreamedExchanges
+pub mod StreamedReplies

@@ -74,7 +74,7 @@ needed-for l room m n b arrived within h = record {
 }
 
 -- a value was read, or is awaited still
-needed-value : (l : Limits) (room n : ℕ) (b filled : List ℕ) → 0 < n → AsNeeded l b filled
+pub needed-value : (l : Limits) (room n : ℕ) (b filled : List ℕ) → 0 < n → AsNeeded l b filled
     → ArrivedAsNeeded l room read_size n b filled
 needed-value l room n b filled some h = record {
   before = h.before;
@@ -87,7 +87,7 @@ needed-value l room n b filled some h = record {
 }
 
 -- bytes that came first and made frames, and then others
-needed-both : (l : Limits) (room left k m n : ℕ) (b c first second : List ℕ) (fs : List Frame)
+pub needed-both : (l : Limits) (room left k m n : ℕ) (b c first second : List ℕ) (fs : List Frame)
     → PrefixReads l (b ++ first) fs c → k ≤ n → length (replies_in fs) + m ≤ n → push_bytes fs + left ≤ room →
     ArrivedAsNeeded l room read_size k b first → ArrivedAsNeeded l left read_size m c second
     → ArrivedAsNeeded l room read_size n b (first ++ second)
@@ -115,7 +115,7 @@ pub consumed-nothing : (known : Option (List ℕ)) → Consumes known known []
 consumed-nothing None = tt
 consumed-nothing (Some xs) = refl
 
-consumed-both : (s t u : Option (List ℕ)) (a b : List ℕ) → Consumes s t a → Consumes t u b → Consumes s u (a ++ b)
+pub consumed-both : (s t u : Option (List ℕ)) (a b : List ℕ) → Consumes s t a → Consumes t u b → Consumes s u (a ++ b)
 consumed-both None t u a b h k = tt
 consumed-both (Some x) None u a b h k = absurd h
 consumed-both (Some x) (Some y) None a b h k = k
@@ -218,7 +218,7 @@ reads-value s t was new p p' n n' v same parsed listed counted fits = record {
 -- none was, after bytes that came
 module _ (s t : Source) (was new : State) (p : List PushInfo) (n : ℕ) (same : new.limits ≡ was.limits) (filled : List ℕ)
   where
-    reads-no_value : t.came ≡ s.came ++ filled → Consumes s.to_come t.to_come filled
+    pub reads-no_value : t.came ≡ s.came ++ filled → Consumes s.to_come t.to_come filled
         → AsNeeded new.limits was.since filled
         → Reads 1 (inflow_of was s p n) (inflow_of new t p n) [] (was.since ++ filled)
     reads-no_value came to_come needed = record {

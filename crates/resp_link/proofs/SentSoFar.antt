@@ -20,7 +20,7 @@ pub grown-nothing : (known : Option (List ℕ)) → Appends known known []
 grown-nothing None = tt
 grown-nothing (Some xs) = sym (append-nil xs)
 
-grown-both : (s t u : Option (List ℕ)) (a b : List ℕ) → Appends s t a → Appends t u b → Appends s u (a ++ b)
+pub grown-both : (s t u : Option (List ℕ)) (a b : List ℕ) → Appends s t a → Appends t u b → Appends s u (a ++ b)
 grown-both None t u a b h k = tt
 grown-both (Some x) None u a b h k = absurd h
 grown-both (Some x) (Some y) None a b h k = k

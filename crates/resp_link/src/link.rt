@@ -27,6 +27,8 @@ use std::collections::VecDeque;
 use std::io::{Read, Write};
 use std::mem;
 
+mod streaming;
+
 /// Room of at most so many bytes is kept from request to request.
 const KEPT: usize = 4096;
 
