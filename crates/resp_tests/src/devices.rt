@@ -6,4 +6,6 @@ mod checks;
 mod links;
 mod parsers;
 mod scans;
+mod sending;
 mod sessions;
+mod streaming;

@@ -204,6 +204,36 @@ fn packed_commands(rt: HostRuntime) {
     }
 }
 
+/// The body of a reply is handed on, or another reply is answered, like this.
+fn hands_on(rt: &impl Test, incoming: &[u8], wanted: &str) {
+    let command = get(rt);
+    let mut con = link(rt, incoming);
+    let taken = Vec::with_capacity(rt.alloc(), 1000).expect(rt, "no refusal");
+    let mut taker = Writing::new(taken);
+    refuse(rt.alloc());
+    let answer = con.req_command_into(&command, &mut taker);
+    answered(rt, (con, GET_K.len()), answer, wanted);
+}
+
+#[test]
+fn a_body_that_is_handed_on(rt: HostRuntime) {
+    hands_on(&rt, b"$3\r\nabc\r\n:7\r\n", "Ok(Body(3))");
+    hands_on(&rt, b">1\r\n+x\r\n$3\r\nabc\r\n:7\r\n", "Ok(Body(3))");
+    let array = b"*1\r\n$1\r\na\r\n:7\r\n";
+    hands_on(&rt, array, "Ok(Reply(array([bulk-string('\"a\"')])))");
+}
+
+#[test]
+fn a_body_that_is_read(rt: HostRuntime) {
+    let command = get(&rt);
+    let mut con = link(&rt, b"+a\r\n:7\r\n");
+    let mut body = Reading::new(b"abc".as_slice());
+    let request = GET_K.len().saturating_add(b"$3\r\nabc\r\n".len());
+    refuse(rt.alloc());
+    let answer = con.req_command_from(&command, 3, &mut body);
+    answered(&rt, (con, request), answer, "Ok(simple-string(\"a\"))");
+}
+
 /// Messages: a push, and the array that RESP2 has in its place; `:7` follows.
 const MESSAGES: &[(&[u8], &str)] = &[
     (

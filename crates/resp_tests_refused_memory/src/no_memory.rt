@@ -181,6 +181,18 @@ fn parsers(rt: HostRuntime) {
     took_none(&rt);
 }
 
+#[test]
+fn bytes_that_a_parser_holds(rt: HostRuntime) {
+    let mut parser = Parser::new(rt.alloc());
+    parser.feed(b":7\r\n").expect(&rt, "no refusal");
+    refuse_all(rt.alloc());
+    let held = parser.unparsed().len();
+    equal(&rt, held, 4);
+    parser.skip(held);
+    assert!(rt; parser.unparsed().is_empty());
+    took_none(&rt);
+}
+
 /// The parser gives six values more.
 fn gives_six(rt: &impl Test, parser: &mut Parser) {
     for _ in 0..6 {

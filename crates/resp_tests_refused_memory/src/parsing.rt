@@ -124,6 +124,39 @@ fn reads_source(rt: &impl Test, bytes: &[u8], wanted: &Value) {
     answered(rt, parser, answer, wanted);
 }
 
+/// Whether a source of these bytes begins with a bulk string that has a body.
+fn finds(rt: &impl Test, bytes: &[u8], wanted: bool) {
+    let mut parser = Parser::new(rt.alloc());
+    let mut source = Reading::new(bytes);
+    refuse(rt.alloc());
+    let found = parser.find_bulk(&mut source);
+    if ran_out(rt, &found) {
+        has_failed(rt, parser);
+    } else {
+        equal(rt, found.expect(rt, "no refusal").is_some(), wanted);
+    }
+}
+
+/// A source of these bytes gives all of them at once.
+fn fills(rt: &impl Test, bytes: &[u8]) {
+    let mut parser = Parser::new(rt.alloc());
+    let mut source = Reading::new(bytes);
+    refuse(rt.alloc());
+    let filled = parser.fill_from(&mut source);
+    if ran_out(rt, &filled) {
+        has_failed(rt, parser);
+    } else {
+        equal(rt, parser.unparsed_len(), bytes.len());
+    }
+}
+
+#[test]
+fn bytes_before_a_value(rt: HostRuntime) {
+    finds(&rt, b"$3\r\nabc\r\n", true);
+    finds(&rt, b":7\r\n", false);
+    fills(&rt, b"$3\r\nabc\r\n");
+}
+
 /// The bytes give their value, however they come in.
 fn gives_value(rt: &impl Test, bytes: &[u8]) {
     let value = parse_redis_value(rt.alloc(), bytes).expect(rt, "no refusal");
