@@ -9,6 +9,7 @@ use Rattle.resp_parse.specs.Lines.{crlf}
 use Rattle.resp_parse.specs.Source.{Source}
 use Rattle.resp_command.specs.Call.{needed}
 use Rattle.resp_command.specs.Command.{Command}
+use Rattle.resp_command.specs.Subscriptions.{IsUnanswered}
 use Rattle.resp_command.specs.Connection.{Connection, IsPrefix}
 use Rattle.resp_command.specs.Packed.{packed}
 use Rattle.resp_link.specs.Linking.{connection_of}
@@ -103,15 +104,16 @@ module _ (i : Inflow) (k k' : Sink) (broken : Bool) (head : List ℕ) (args : Ar
 
 -- a call that isn't refused
 pub from-called : (old new : Connection) (c : Command) (n m : ℕ) (s t : Source) (r : Result Value RedisError)
-    → old.broken ≡ false → (c.args ≡ [] → ⊥) → m ≡ needed c → SendsWith old new c.args n m s t r
+    → old.broken ≡ false → (c.args ≡ [] → ⊥) → (IsUnanswered c → ⊥) → m ≡ needed c → SendsWith old new c.args n m s t r
     → SendsFrom old new c n s t r
-from-called old new c n m s t r works some count h = record {
+from-called old new c n m s t r works some waits count h = record {
   when_broken = λ e. absurd (let k : true ≡ false = sym e ∙ works in cc);
   when_empty = λ _ none. absurd (some none);
-  otherwise = λ _ _. rw count at h;
+  when_unanswered = λ _ none. absurd (waits none);
+  otherwise = λ _ _ _. rw count at h;
 }
 
 pub from-nothing : (old : Connection) (c : Command) (n : ℕ) (s : Source) (e : RedisError)
-    → old.broken ≡ false → (c.args ≡ [] → ⊥) → e ≡ OutOfMemory → SendsFrom old old c n s s (Err e)
-from-nothing old c n s e works some is =
-    from-called old old c n (needed c) s s (Err e) works some refl (SendsWith.no_memory (ap Err is) refl refl)
+    → old.broken ≡ false → (c.args ≡ [] → ⊥) → (IsUnanswered c → ⊥) → e ≡ OutOfMemory → SendsFrom old old c n s s (Err e)
+from-nothing old c n s e works some waits is =
+    from-called old old c n (needed c) s s (Err e) works some waits refl (SendsWith.no_memory (ap Err is) refl refl)

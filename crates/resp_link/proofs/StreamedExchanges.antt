@@ -8,6 +8,7 @@ use Rattle.resp_errors.specs.declared.redis_error.RedisError.TheVariants.{Io, Ou
 use Rattle.resp_command.specs.Connection as connection
 use Rattle.resp_command.specs.Call.{needed}
 use Rattle.resp_command.specs.Command.{Command}
+use Rattle.resp_command.specs.Subscriptions.{IsUnanswered}
 use Rattle.resp_command.specs.Connection.{Connection}
 use Rattle.resp_args.specs.Args.{Args}
 use Rattle.resp_command.specs.Packed.{packed, packed_or_none}
@@ -100,10 +101,11 @@ packed-some (arg ∷ args) some = refl
 
 -- a call that isn't refused
 pub into-called : (old new : Connection) (c : Command) (b b' : Sink) (q : List ℕ) (n : ℕ) (r : Result Streamed RedisError)
-    → old.broken ≡ false → (c.args ≡ [] → ⊥) → q ≡ packed_or_none c.args → n ≡ needed c → HandsOn old new b b' q n r
-    → HandsOnReply old new c b b' r
-into-called old new c b b' q n r works some is count h = record {
+    → old.broken ≡ false → (c.args ≡ [] → ⊥) → (IsUnanswered c → ⊥) → q ≡ packed_or_none c.args → n ≡ needed c
+    → HandsOn old new b b' q n r → HandsOnReply old new c b b' r
+into-called old new c b b' q n r works some waits is count h = record {
   when_broken = λ e. absurd (let k : true ≡ false = sym e ∙ works in cc);
   when_empty = λ _ none. absurd (some none);
-  otherwise = λ _ _. rw (is ∙ packed-some c.args some, count) at h;
+  when_unanswered = λ _ none. absurd (waits none);
+  otherwise = λ _ _ _. rw (is ∙ packed-some c.args some, count) at h;
 }

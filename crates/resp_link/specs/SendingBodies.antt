@@ -14,10 +14,11 @@ use Rattle.resp_parse.specs.declared.type_byte.TypeByte.TheVariants as type_byte
 use Rattle.resp_parse.specs.Lines.{crlf}
 use Rattle.resp_parse.specs.Source.{Source, SourceGave, FailureCounted}
 use Rattle.resp_parse.specs.TypeBytes.{byte_of}
-use Rattle.resp_command.specs.Call.{broken_link, no_command, needed, AnswersReply, Refuses}
+use Rattle.resp_command.specs.Call.{broken_link, no_command, no_reply, needed, AnswersReply, Refuses}
 use Rattle.resp_command.specs.Command.{Command}
 use Rattle.resp_command.specs.Connection.{Connection, SameKind, Moves, Exchange, IsPrefix, ReceivedNothing}
 use Rattle.resp_command.specs.Packed.{packed, bulk, length_line}
+use Rattle.resp_command.specs.Subscriptions.{IsUnanswered}
 use Rattle.resp_link.specs.Sink.{Sink, SendsAll}
 use Rattle.resp_link.specs.Streaming.{TakesIn}
 
@@ -147,4 +148,6 @@ pub record SendsFrom (old new : Connection) (c : Command) (n : ℕ) (s t : Sourc
     (r : Result Value RedisError) : Type 0 where
   pub when_broken : old.broken ≡ true → RefusesToSend old new s t broken_link r
   pub when_empty : old.broken ≡ false → c.args ≡ [] → RefusesToSend old new s t no_command r
-  pub otherwise : old.broken ≡ false → (c.args ≡ [] → ⊥) → SendsWith old new c.args n (needed c) s t r
+  pub when_unanswered : old.broken ≡ false → IsUnanswered c → RefusesToSend old new s t no_reply r
+  pub otherwise : old.broken ≡ false → (c.args ≡ [] → ⊥) → (IsUnanswered c → ⊥) →
+      SendsWith old new c.args n (needed c) s t r

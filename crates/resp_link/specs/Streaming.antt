@@ -16,10 +16,11 @@ use Rattle.resp_parse.specs.BulkBodies.{OpensBulk}
 use Rattle.resp_parse.specs.Limited.{HasFault, Awaits}
 use Rattle.resp_parse.specs.PlainReading.{incomplete, read_body}
 use Rattle.resp_parse.specs.Source.{FailureCounted}
-use Rattle.resp_command.specs.Call.{broken_link, no_command, needed, AnswersReply, Refuses}
+use Rattle.resp_command.specs.Call.{broken_link, no_command, no_reply, needed, AnswersReply, Refuses}
 use Rattle.resp_command.specs.Command.{Command}
 use Rattle.resp_command.specs.Connection.{Connection, SameKind, Moves, Exchange, IsPrefix, SetsAside, push_room}
 use Rattle.resp_command.specs.Packed.{packed}
+use Rattle.resp_command.specs.Subscriptions.{IsUnanswered}
 use Rattle.resp_command.specs.Taken.{ArrivedAsNeeded, Frame, PrefixReads, aside_of, replies_in, push_bytes}
 use Rattle.resp_link.specs.declared.streamed.Streamed.{Streamed}
 use Rattle.resp_link.specs.declared.streamed.Streamed.TheVariants.{Body, Reply}
@@ -279,5 +280,6 @@ pub record HandsOnReply (old new : Connection) (c : Command) (b b' : Sink)
     (r : Result Streamed RedisError) : Type 0 where
   pub when_broken : old.broken ≡ true → RefusesBoth old new b b' broken_link r
   pub when_empty : old.broken ≡ false → c.args ≡ [] → RefusesBoth old new b b' no_command r
-  pub otherwise : old.broken ≡ false → (c.args ≡ [] → ⊥) →
+  pub when_unanswered : old.broken ≡ false → IsUnanswered c → RefusesBoth old new b b' no_reply r
+  pub otherwise : old.broken ≡ false → (c.args ≡ [] → ⊥) → (IsUnanswered c → ⊥) →
       HandsOn old new b b' (packed c.args) (needed c) r

@@ -6,7 +6,7 @@ ghost use Rattle.resp_link.specs.SendingBodies.{before_body, SendsFrom, SendsWit
 ghost use Rattle.resp_link.specs.Sink.{Sink};
 ghost use Rattle.resp_link.specs.Streaming.{HandsOn, HandsOnReply};
 
-use super::{ByteLink, KEPT, empty_command, link_is_broken};
+use super::{ByteLink, KEPT, empty_command, link_is_broken, subscription};
 use crate::request_body::{request_head, send_with_body};
 use crate::sink::{CommandSink, send_all};
 use crate::streamed::Streamed;
@@ -44,6 +44,9 @@ impl<S: ReplySource, K: CommandSink> ByteLink<S, K> {
         if cmd.is_empty() {
             return Err(empty_command());
         }
+        if cmd.is_unanswered() {
+            return Err(subscription());
+        }
         let bytes = cmd.get_packed_command()?;
         if cmd.is_no_response() {
             return self.send_alone(bytes.as_slice());
@@ -77,6 +80,9 @@ impl<S: ReplySource, K: CommandSink> ByteLink<S, K> {
         }
         if cmd.is_empty() {
             return Err(empty_command());
+        }
+        if cmd.is_unanswered() {
+            return Err(subscription());
         }
         let head = request_head(cmd, len)?;
         let mut chunk = Vec::new(self.alloc);
