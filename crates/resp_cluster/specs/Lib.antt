@@ -1,3 +1,4 @@
 pub mod Maps
 pub mod Replies
 pub mod Shards
+pub mod Routed

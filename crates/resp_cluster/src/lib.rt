@@ -3,9 +3,11 @@
 
 mod equality;
 mod node;
+mod router;
 mod shards_reply;
 mod slot_map;
 mod slots_reply;
 
 pub use node::{NodeAddr, PortKind, SlotRange, TopologyError};
+pub use router::{Nodes, Redirect, Reply, RouteError, route};
 pub use slot_map::SlotMap;

@@ -31,7 +31,7 @@ impl Model for SlotMap {
 }
 
 impl SlotMap {
-    ghost use Rattle.resp_cluster.specs.Maps.{moved, range_at};
+    ghost use Rattle.resp_cluster.specs.Maps.{moved, primary_at, range_at};
     ghost use Rattle.resp_cluster.specs.Replies.{Gives, map_in};
     ghost use Rattle.resp_cluster.specs.Shards.{map_of_shards};
 
@@ -106,6 +106,13 @@ impl SlotMap {
             }
         }
         None
+    }
+
+    /// The primary of a slot, if the range that says where it is knows one.
+    pub fn primary_at(&self, slot: u16) -> Option<&NodeAddr>
+        ensures { option_copied result ≡ primary_at self.now slot }
+    {
+        self.range_at(slot)?.primary.as_ref()
     }
 
     /// Says that a slot is now at this node, as a server does by `MOVED`: a range of this slot alone

@@ -1,0 +1,18 @@
+use Rattle.std.proofs.Common.{sym, ◌∙◌, arith}
+use Rattle.resp_cluster.proofs.SoFar.{ended, one_more, used_up}
+use Rattle.resp_cluster.proofs.router.follow.Goals as goal
+
+pub returns-in_default-clause-followed : goal.returns-in_default-clause-followed
+returns-in_default-clause-followed g c =
+    ended _ _ _ _ _ _ _ _ _ _ _ c.loop-reply.invariant c.send-reply.ensures c.in_ok-next.ensures.learnt
+    c.into_answer-answer.ensures (sym c.in_default.is ∙ c.in_ok-next.ensures.next)
+
+pub returns-then-left-eq0-clause-followed : goal.returns-then-left-eq0-clause-followed
+returns-then-left-eq0-clause-followed g c =
+    used_up _ _ _ _ _ _ _ _ _ _ _ c.loop-reply.invariant c.if-left-eq0.true c.send-reply.ensures
+    c.in_ok-next.ensures.learnt c.into_answer-answer.ensures
+
+pub loop-reply-preserved : goal.loop-reply-preserved
+loop-reply-preserved g c =
+    one_more _ _ _ _ _ _ _ _ _ c.loop-reply.invariant (omega (arith, c.if-left-eq0.false)) c.send-reply.ensures
+    c.in_ok-next.ensures.learnt (sym c.in-Some.is ∙ c.in_ok-next.ensures.next)
