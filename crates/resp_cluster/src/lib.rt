@@ -1,4 +1,4 @@
-//! The map of a Redis Cluster: which nodes serve which slots.
+//! A Redis Cluster: which nodes serve which slots, and one command over its nodes.
 #![tactic(auto)]
 
 mod equality;

@@ -1,7 +1,7 @@
 //! Slots, keys of commands, and where commands go.
 
 use crate::rows::{Row, malformed};
-use crate::texts::{add_part, quoted};
+use crate::texts::{add_part, quoted, refusal_text};
 use resp_core::RedisResult;
 use resp_routing::{
     RequestPolicy, Route, RoutingError, crc16, get_slot, is_readonly_cmd, keys_of, route_of,
@@ -84,6 +84,15 @@ fn refused(alloc: Global, error: RoutingError) -> RedisResult<String> {
         RoutingError::OutOfMemory => return Err(resp_core::RedisError::OutOfMemory),
     };
     Ok(format!(in alloc; "refused: {text}")?)
+}
+
+/// `route-error WORD..`
+pub fn route_error(alloc: Global, row: &Row) -> RedisResult<String> {
+    let args = args_of(alloc, row)?;
+    match route_of(alloc, args.as_slice()) {
+        Ok(_) => Err(malformed()),
+        Err(error) => refusal_text(alloc, error.to_redis_error(alloc)?),
+    }
 }
 
 /// The words as the arguments of a command.

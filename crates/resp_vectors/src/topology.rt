@@ -1,9 +1,11 @@
 //! Maps of slots.
 
-use crate::rows::{Row, malformed, text_of};
+use crate::rows::{Row, malformed, number_of, text_of};
 use crate::texts::add_part;
-use resp_cluster::{NodeAddr, PortKind, SlotMap, SlotRange, TopologyError};
-use resp_core::{RedisError, RedisResult, parse_redis_value};
+use resp_cluster::{
+    NodeAddr, Nodes, PortKind, Redirect, Reply, SlotMap, SlotRange, TopologyError, route,
+};
+use resp_core::{RedisError, RedisResult, Text, parse_redis_value};
 use std::alloc::Global;
 
 /// `slots-map HOST < BYTES`
@@ -73,4 +75,136 @@ fn add_range(alloc: Global, text: &mut String, range: &SlotRange) -> RedisResult
 
 fn named(alloc: Global, node: &NodeAddr) -> RedisResult<String> {
     Ok(format!(in alloc; "{}:{}", node.host.as_str(), node.port)?)
+}
+
+/// `slot-at HOST SLOT.. < BYTES`
+pub fn primaries(alloc: Global, row: &Row) -> RedisResult<String> {
+    match row.question()? {
+        ([host, slots @ ..], incoming) => {
+            let map = map_of(alloc, host.as_slice(), incoming)?;
+            let mut text = String::new(alloc);
+            for slot in slots {
+                add_primary(alloc, &mut text, &map, slot_number(slot.as_slice())?)?;
+            }
+            Ok(text)
+        }
+        _ => Err(malformed()),
+    }
+}
+
+/// Appends the primary of a slot.
+fn add_primary(alloc: Global, text: &mut String, map: &SlotMap, slot: u16) -> RedisResult<()> {
+    match map.primary_at(slot) {
+        Some(primary) => add_part(text, named(alloc, primary)?.as_str()),
+        None => add_part(text, "none"),
+    }
+}
+
+fn map_of(alloc: Global, host: &[u8], incoming: &[u8]) -> RedisResult<SlotMap> {
+    let reply = parse_redis_value(alloc, incoming)?;
+    SlotMap::from_slots_reply(alloc, &reply, text_of(host)?).map_err(|_| malformed())
+}
+
+fn slot_number(word: &[u8]) -> RedisResult<u16> {
+    u16::try_from(number_of(word)?).map_err(|_| malformed())
+}
+
+/// `follow HOST SLOT BUDGET REPLY.. < BYTES`
+pub fn follow(alloc: Global, row: &Row) -> RedisResult<String> {
+    match row.question()? {
+        ([host, slot, budget, replies @ ..], incoming) => {
+            let mut map = map_of(alloc, host.as_slice(), incoming)?;
+            let mut script = Script::new(alloc, replies)?;
+            let slot = slot_number(slot.as_slice())?;
+            let budget = number_of(budget.as_slice())?;
+            let end = match route(alloc, &mut script, &mut map, slot, budget) {
+                Ok(number) => format!(in alloc; "reply {number}")?,
+                Err(error) => format!(in alloc; "refused: {error:?}")?,
+            };
+            let mut text = script.into_sends();
+            add_part(&mut text, end.as_str())?;
+            add_primary(alloc, &mut text, &map, slot)?;
+            Ok(text)
+        }
+        _ => Err(malformed()),
+    }
+}
+
+/// Nodes that reply with redirects, one after another, and note what they are sent.
+#[derive(Drop)]
+struct Script {
+    alloc: Global,
+    redirects: Vec<Redirect>,
+    count: u64,
+    sends: String,
+}
+
+impl Script {
+    fn new(alloc: Global, replies: &[Vec<u8>]) -> RedisResult<Script> {
+        let mut redirects = Vec::new(alloc);
+        for reply in replies.iter().rev() {
+            redirects.push(redirect_of(alloc, text_of(reply.as_slice())?)?)?;
+        }
+        Ok(Script {
+            alloc,
+            redirects,
+            count: 0,
+            sends: String::new(alloc),
+        })
+    }
+
+    fn into_sends(self) -> String {
+        let Script {
+            alloc: _,
+            redirects: _,
+            count: _,
+            sends,
+        } = self;
+        sends
+    }
+
+    fn note(&mut self, node: &NodeAddr, asking: bool) -> RedisResult<()> {
+        if asking {
+            add_part(&mut self.sends, "asking")?;
+        }
+        add_part(&mut self.sends, named(self.alloc, node)?.as_str())
+    }
+}
+
+impl Nodes<u64> for Script {
+    ghost use Rattle.std.specs.Prelude.{⊤};
+
+    ghost sends = { λ _ _ _ _ _. ⊤ };
+
+    fn send(&mut self, node: &NodeAddr, asking: bool) -> Reply<u64> {
+        let _ = self.note(node, asking);
+        self.count = self.count.saturating_add(1);
+        Reply {
+            answer: self.count,
+            redirect: self.redirects.pop().unwrap_or(Redirect::Stays),
+        }
+    }
+}
+
+/// The redirect of a word: `ok`, `moved:SLOT:PORT` or `ask:PORT`.
+fn redirect_of(alloc: Global, word: &str) -> RedisResult<Redirect> {
+    match word.split_once(':') {
+        None => Ok(Redirect::Stays),
+        Some(("ask", port)) => Ok(Redirect::Ask(node_of(alloc, port)?)),
+        Some((_, rest)) => match rest.split_once(':') {
+            Some((slot, port)) => Ok(Redirect::Moved(
+                slot_number(slot.as_bytes())?,
+                node_of(alloc, port)?,
+            )),
+            None => Err(malformed()),
+        },
+    }
+}
+
+/// The node of this port.
+fn node_of(alloc: Global, port: &str) -> RedisResult<NodeAddr> {
+    Ok(NodeAddr {
+        host: Text::from_str(alloc, "h")?,
+        port: slot_number(port.as_bytes())?,
+    })
 }
