@@ -14,8 +14,8 @@ pub trait Dial {
     /// The connections that it opens.
     type Link: ConnectionLike + Drop;
 
-    /// What is known of a link when it was opened: how it was greeted, say. It is nothing where an
-    /// implementation doesn't say it.
+    /// What is known of a link when it was opened: how it was greeted, say, as `Greeted` of
+    /// `specs/Greeting.antt` puts it. It is nothing where an implementation doesn't say it.
     ghost greeted: { Self.Link → Type 0 } = { λ link. ⊤ };
 
     /// Opens a connection and greets it, as by [`greet`](crate::greet). Fails where the server

@@ -109,7 +109,15 @@ pub struct Script {
 }
 
 impl Dial for Script {
+    ghost use Rattle.resp_core.specs.Connections.{Connection};
+    ghost use Rattle.resp_connect.specs.Greeting.{Greeted};
+    ghost use Rattle.resp_connect.specs.Targets.{default_settings};
+    ghost use Rattle.resp_core.specs.declared.ProtocolVersion.{ProtocolVersion};
+
     type Link = Link;
+
+    ghost greeted = { λ link. (v : ProtocolVersion) × (old : Connection)
+        × Greeted old (⟦<Link as ConnectionLike>⟧.connection link) default_settings v };
 
     fn dial(&mut self) -> RedisResult<Link> {
         let Some(incoming) = self.links.next() else {
@@ -118,9 +126,6 @@ impl Dial for Script {
         let sent = Vec::with_capacity(self.alloc, 1000)?;
         let mut link = ByteLink::new(self.alloc, Cursor::new(incoming), sent);
         greet(self.alloc, &mut link, &RedisConnectionInfo::default())?;
-        if !link.is_open() {
-            return Err(RedisError::from((ErrorKind::Io, "link is broken")));
-        }
         Ok(link)
     }
 }
