@@ -2,7 +2,7 @@
 use Rattle.std.proofs.Common.{◌≡◌, ℕ, ◌+◌, ◌-◌, ◌<◌, Bool, false, List, [], ◌∷◌, ◌++◌, length, refl, sym, inl, inr, Some, None, length-append, zero-add, arith}
 use Rattle.std.proofs.lemmas.Fn.{FoldsTo-push}
 use Rattle.std.specs.List.{FoldsTo}
-use Rattle.resp_cluster.specs.Routed.{Turn, SentOn, Followed, map_after, next_of}
+use Rattle.resp_cluster.specs.Routed.{Turn, SentOn, Followed, Interrupted, map_after, next_of}
 use Rattle.resp_cluster.specs.declared.node.NodeAddr.{NodeAddr}
 use Rattle.resp_cluster.specs.declared.node.SlotRange.{SlotRange}
 use Rattle.resp_cluster.specs.declared.router.Reply.{Reply}
@@ -54,4 +54,15 @@ module _ {S T : Type 0} (sends : S → S → NodeAddr → Bool → Reply T → T
     learnt = learnt;
     answers = is;
     stops = inr (let h = so_far.count in omega arith);
+  }
+
+  pub interrupted : (left : ℕ) (now : Turn S) (reply : Reply T) (new : S) → SoFar left now
+      → sends now.nodes new now.to.0 now.to.1 reply → Interrupted sends first budget old old_map new
+  interrupted left now reply new so_far sent = record {
+    redirects = so_far.redirects;
+    last = now;
+    reply = reply;
+    followed = so_far.followed;
+    within = let h = so_far.count in omega arith;
+    sent = sent;
   }

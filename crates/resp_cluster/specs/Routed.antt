@@ -52,3 +52,19 @@ module _ {S T : Type 0} (sends : S → S → NodeAddr → Bool → Reply T → T
   Routed slot budget old old_map new new_map answer =
       (primary : NodeAddr) × ((primary_at old_map slot ≡ Some primary)
       × Followed primary budget old old_map new new_map answer)
+
+  -- the same sends, of which the last one's reply came to nothing
+  pub record Interrupted (node : NodeAddr) (budget : ℕ) (old : S) (old_map : List SlotRange) (new : S) : Type 0 where
+    pub redirects : List (Reply T)
+    pub last : Turn S
+    pub reply : Reply T
+    pub followed : FoldsTo SentOn (record { nodes = old; map = old_map; to = (node, false) }) redirects last
+    pub within : length redirects ≤ budget
+    pub sent : sends last.nodes new last.to.0 last.to.1 reply
+
+  -- nothing was sent, or the first node is the primary of the slot
+  abbrev pub CutShort : ℕ → ℕ → S → List SlotRange → S → Type 0
+  CutShort slot budget old old_map new =
+      (new ≡ old)
+      ⊎ ((primary : NodeAddr) × ((primary_at old_map slot ≡ Some primary)
+      × Interrupted primary budget old old_map new))

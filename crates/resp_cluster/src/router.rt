@@ -2,7 +2,8 @@
 
 ghost use Rattle.std.specs.Prelude.{◌≡◌, IfOk, IfErr, OnOk, None};
 ghost use Rattle.resp_cluster.specs.Maps.{primary_at};
-ghost use Rattle.resp_cluster.specs.Routed.{Followed, Routed, map_after, next_of};
+ghost use Rattle.resp_cluster.specs.Routed.{CutShort, Followed, Interrupted, Routed};
+ghost use Rattle.resp_cluster.specs.Routed.{map_after, next_of};
 
 use crate::node::NodeAddr;
 use crate::slot_map::SlotMap;
@@ -48,7 +49,8 @@ pub trait Nodes<T: Drop> {
 pub enum RouteError {
     /// The map knows no primary of the slot. Nothing was sent.
     NoNode,
-    /// There was no memory for an address. The command may have been sent.
+    /// There was no memory for an address. The command may have been sent, as often as redirects
+    /// asked for.
     OutOfMemory,
 }
 
@@ -76,6 +78,8 @@ pub fn route<T: Drop, N: Nodes<T>>(
         map.new answer) }
     ensures unsent { IfErr result (λ e. e ≡ RouteError.NoNode → (primary_at map.old slot ≡ None)
         × (nodes.new ≡ nodes.old) × (map.new ≡ map.old)) }
+    ensures cut_short { IfErr result (λ e. e ≡ RouteError.OutOfMemory
+        → CutShort (N.sends) slot budget nodes.old map.old nodes.new) }
 {
     let Some(primary) = map.primary_at(slot) else {
         return Err(RouteError::NoNode);
@@ -94,7 +98,8 @@ fn follow<T: Drop, N: Nodes<T>>(
 ) -> Result<T, RouteError>
     ensures followed { IfOk result (λ answer. Followed (N.sends) first budget nodes.old map.old
         nodes.new map.new answer) }
-    ensures memory { IfErr result (λ e. e ≡ RouteError.OutOfMemory) }
+    ensures memory { IfErr result (λ e. (e ≡ RouteError.OutOfMemory)
+        × Interrupted (N.sends) first budget nodes.old map.old nodes.new) }
 {
     let mut node = first;
     let mut asking = false;
