@@ -19,7 +19,8 @@ pub use Rattle.resp_command.specs.ScanStates.{borrowed, scan_state, state_of}
 pub use Rattle.resp_command.specs.Scans.{Asked, CannotStart, FirstRequest, LaterRequest, Next}
 pub use Rattle.resp_command.specs.Scans.{Requests, ScanState, Starts}
 pub use Rattle.resp_command.specs.ShownArgs.{args_left, referent, shown_args}
-pub use Rattle.resp_command.specs.Subscriptions.{IsUnanswered, is_subscription, is_subscription_name}
+pub use Rattle.resp_command.specs.Subscriptions.{IsUnanswered, is_subscription}
+unfoldable pub use Rattle.resp_command.specs.Subscriptions.{is_subscription_name}
 pub use Rattle.resp_command.specs.Taken.{ArrivedAsNeeded, IsShort, Taken, Taking, TakesOneThing}
 pub use Rattle.resp_command.specs.Taken.{took, met_fault, ended_early, PrefixReads, ListsPushes}
 pub use Rattle.resp_command.specs.Taken.{Aside, Frame, MeetsFault, PushPasses, aside_of}
