@@ -3,7 +3,7 @@
 use crate::checks::{Test, assert_answer, assert_display, assert_packed, assert_text, link};
 use crate::testing::{bytes_text, command, listed_text};
 use crate::writing::{WIDE, wide_pairs};
-use resp_core::{Arg, Cmd, RedisError, RedisWrite, cmd, pack_command};
+use resp_core::{Arg, Cmd, RedisWrite, cmd, pack_command};
 use std::collections::BTreeMap;
 
 #[test]
@@ -169,6 +169,8 @@ fn an_error_tells_its_command(rt: HostRuntime) {
         Ok(_) => assert_eq!(rt; "answered", "refused"),
         Err(error) => assert_display(&rt, &error, "GET: ResponseError: x"),
     }
-    let answer = get.query_named::<i64>(&mut link).map_err(RedisError::from);
+    let answer = get
+        .query_named::<i64>(&mut link)
+        .map_err(|named| named.error);
     assert_answer(&rt, answer, "7");
 }

@@ -70,14 +70,21 @@ fn what_is_left(rt: &impl Test, mut con: Link, asked: Asked<'_>) -> Left {
     left
 }
 
+/// The push that a value is.
+fn push_of(value: Value) -> Option<PushInfo> {
+    match value {
+        Value::Push { kind, payload } => Some(PushInfo { kind, payload }),
+        _other => None,
+    }
+}
+
 /// The pushes among these bytes.
 fn pushes_in(rt: &impl Test, incoming: &[u8]) -> Vec<PushInfo> {
     let mut parser = Parser::new(rt.alloc());
     parser.feed(incoming).expect(rt, "no refusal");
     let mut pushes = Vec::new(rt.alloc());
     while let Some(value) = parser.take_value().expect(rt, "no fault") {
-        if let Value::Push { kind, payload } = value {
-            let push = PushInfo { kind, payload };
+        if let Some(push) = push_of(value) {
             pushes.push(push).expect(rt, "no refusal");
         }
     }
@@ -212,7 +219,7 @@ fn hands_on(rt: &impl Test, incoming: &[u8], wanted: &str) {
     let mut taker = Writing::new(taken);
     refuse(rt.alloc());
     let answer = con.req_command_into(&command, &mut taker);
-    answered(rt, (con, GET_K.len()), answer, wanted);
+    answered(rt, (con, of_get(incoming), Until::Replies), answer, wanted);
 }
 
 #[test]
@@ -226,12 +233,19 @@ fn a_body_that_is_handed_on(rt: HostRuntime) {
 #[test]
 fn a_body_that_is_read(rt: HostRuntime) {
     let command = get(&rt);
-    let mut con = link(&rt, b"+a\r\n:7\r\n");
+    let incoming = b"+a\r\n:7\r\n";
+    let mut con = link(&rt, incoming);
     let mut body = Reading::new(b"abc".as_slice());
     let request = GET_K.len().saturating_add(b"$3\r\nabc\r\n".len());
     refuse(rt.alloc());
     let answer = con.req_command_from(&command, 3, &mut body);
-    answered(&rt, (con, request), answer, "Ok(simple-string(\"a\"))");
+    let asked = Asked { incoming, request };
+    answered(
+        &rt,
+        (con, asked, Until::Replies),
+        answer,
+        "Ok(simple-string(\"a\"))",
+    );
 }
 
 /// Messages: a push, and the array that RESP2 has in its place; `:7` follows.

@@ -44,7 +44,7 @@ fn errors_that_tell_their_command(rt: HostRuntime) {
     refuse(rt.alloc());
     let answer = command
         .query_named::<i64>(&mut con)
-        .map_err(RedisError::from);
+        .map_err(|named| named.error);
     answered(
         &rt,
         (con, of_get(incoming), Until::Conversion),
