@@ -83,7 +83,10 @@ fn pushes_in(rt: &impl Test, incoming: &[u8]) -> Vec<PushInfo> {
     let mut parser = Parser::new(rt.alloc());
     parser.feed(incoming).expect(rt, "no refusal");
     let mut pushes = Vec::new(rt.alloc());
-    while let Some(value) = parser.take_value().expect(rt, "no fault") {
+    for _ in 0..incoming.len() {
+        let Some(value) = parser.take_value().expect(rt, "no fault") else {
+            break;
+        };
         if let Some(push) = push_of(value) {
             pushes.push(push).expect(rt, "no refusal");
         }
