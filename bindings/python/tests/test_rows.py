@@ -38,7 +38,7 @@ CUT = 60
 Row = collections.namedtuple("Row", "task words answer place")
 
 QUOTED = re.compile(r'(?:(\d+)\*)?"((?:[^"\\]|\\.)*)"|([^ "]+?)(?=\d+\*"|[ "]|$)')
-ESCAPE = re.compile(r"\\(?:x([0-9A-F]{2})|(.))")
+ESCAPE = re.compile(r"\\(?:x([0-9A-Fa-f]{2})|(.))")
 ESCAPED = {"r": "\r", "n": "\n", "t": "\t", '"': '"', "\\": "\\"}
 
 
