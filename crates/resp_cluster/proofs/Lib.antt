@@ -1,2 +1,3 @@
+pub mod Gathers
 pub mod Entries
 pub mod SoFar

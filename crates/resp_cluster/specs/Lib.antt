@@ -1,4 +1,6 @@
 pub mod Maps
 pub mod Replies
 pub mod Shards
+pub mod Gathered
+pub mod Gathering
 pub mod Routed

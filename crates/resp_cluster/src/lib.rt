@@ -2,6 +2,7 @@
 #![tactic(auto)]
 
 mod equality;
+mod gather;
 mod node;
 mod router;
 mod shards_reply;

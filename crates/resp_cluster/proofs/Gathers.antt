@@ -1,0 +1,249 @@
+-- The replies of several nodes, put in the places of the commands.
+use Rattle.std.proofs.Common.{◌≡◌, ℕ, zero, suc, ◌+◌, ◌<◌, ◌==◌, Bool, true, false, List, [], ◌∷◌, ◌++◌, map, length, take, drop, get_or}
+use Rattle.std.proofs.Common.{set, refl, sym, ap, ◌∙◌, append_assoc, append-nil, arith, inl, inr, Result, Ok, if◌then◌else◌, All}
+use Rattle.std.proofs.Common.{slice_index_or, slice_set, eqb-true, eq-eqb, ne_eqb, flat_map, ◌≤◌, zero-le, subst}
+use Rattle.std.proofs.lemmas.Bool.{eqb-false}
+use Rattle.std.proofs.lemmas.List.{take_more, drop_more, take_all, drop_all, get_or-set_same, get_or-set_other, length-set}
+use Rattle.std.proofs.lemmas.List.{length-append}
+use Rattle.std.specs.List.{FoldsTo, range_with_len}
+use Rattle.resp_value.specs.declared.value.Value.{Value}
+use Rattle.resp_errors.specs.declared.redis_error.RedisError.{RedisError}
+use Rattle.resp_command.specs.Command.{Command}
+use Rattle.resp_command.specs.Packed.{packed}
+use Rattle.resp_cluster.specs.Gathered.{SentGroup, SentGroups, of_node, request_of}
+use Rattle.resp_cluster.specs.Gathering.{Enough, InPlaces, SentEach, nth_of}
+
+-- ---- what stands in the places of a node's commands
+
+-- an element before, or none
+before : {A : Type 0} (here : Bool) (y : A) (xs ys more : List A) → xs ≡ ys ++ more
+    → (if here then y ∷ xs else xs) ≡ (if here then y ∷ ys else ys) ++ more
+before true y xs ys more h = ap (λ l. y ∷ l) h
+before false y xs ys more h = h
+
+as_long : {A B : Type 0} (here : Bool) (x : A) (y : B) (xs : List A) (ys : List B) → length xs ≡ length ys
+    → length (if here then x ∷ xs else xs) ≡ length (if here then y ∷ ys else ys)
+as_long true x y xs ys h = ap suc h
+as_long false x y xs ys h = h
+
+no_longer : {A : Type 0} (here : Bool) (x : A) (xs : List A) (n : ℕ) → length xs ≤ n
+    → length (if here then x ∷ xs else xs) ≤ suc n
+no_longer true x xs n h = omega arith
+no_longer false x xs n h = omega arith
+
+module _ {A : Type 0} (node : ℕ) where
+  push : (targets : List ℕ) (xs : List A) (target : ℕ) (x : A) → length targets ≡ length xs
+      → of_node node (targets ++ target ∷ []) (xs ++ x ∷ []) ≡ of_node node targets xs ++ of_node node (target ∷ []) (x ∷ [])
+  push [] [] target x h = refl
+  push [] (y ∷ ys) target x h = absurd (omega arith)
+  push (t ∷ ts) [] target x h = absurd (omega arith)
+  push (t ∷ ts) (y ∷ ys) target x h = before (t == node) y _ _ _ (push ts ys target x (omega arith))
+
+  -- one place more
+  pub up_to_next : (targets : List ℕ) (xs : List A) (place : ℕ) (x : A) → length targets ≡ length xs → place < length xs
+      → of_node node (take (place + 1) targets) (take (place + 1) xs)
+      ≡ of_node node (take place targets) (take place xs) ++ of_node node (get_or targets place 0 ∷ []) (get_or xs place x ∷ [])
+  up_to_next targets xs place x same within = 
+      ap (λ l. of_node node l (take (place + 1) xs)) (take_more targets place 0 (omega arith))
+      ∙ ap (λ l. of_node node (take place targets ++ get_or targets place 0 ∷ []) l) (take_more xs place x within)
+      ∙ push (take place targets) (take place xs) (get_or targets place 0) (get_or xs place x) (by_lengths targets xs place same)
+    where
+      by_lengths : (targets : List ℕ) (xs : List A) (n : ℕ) → length targets ≡ length xs → length (take n targets) ≡ length (take n xs)
+      by_lengths [] [] zero h = refl
+      by_lengths [] [] (suc n) h = refl
+      by_lengths [] (y ∷ ys) n h = absurd (omega arith)
+      by_lengths (t ∷ ts) [] n h = absurd (omega arith)
+      by_lengths (t ∷ ts) (y ∷ ys) zero h = refl
+      by_lengths (t ∷ ts) (y ∷ ys) (suc n) h = ap suc (by_lengths ts ys n (omega arith))
+
+  -- as many as places
+  pub as_many : {B : Type 0} (targets : List ℕ) (xs : List A) (ys : List B) → length xs ≡ length ys
+      → length (of_node node targets xs) ≡ length (of_node node targets ys)
+  as_many [] xs ys h = refl
+  as_many (t ∷ ts) [] [] h = refl
+  as_many (t ∷ ts) [] (y ∷ ys) h = absurd (omega arith)
+  as_many (t ∷ ts) (x ∷ xs) [] h = absurd (omega arith)
+  as_many (t ∷ ts) (x ∷ xs) (y ∷ ys) h = as_long (t == node) x y _ _ (as_many ts xs ys (omega arith))
+
+-- the commands of a node, and the bytes that send them, with one place more
+pub next_here : (node : ℕ) (targets : List ℕ) (commands : List Command) (place : ℕ) (command : Command) → length targets ≡ length commands
+    → place < length commands → command ≡ get_or commands place command → get_or targets place 0 ≡ node
+    → of_node node (take (place + 1) targets) (take (place + 1) commands)
+    ≡ of_node node (take place targets) (take place commands) ++ command ∷ []
+next_here node targets commands place command same within at is =
+    up_to_next node targets commands place command same within
+    ∙ ap (λ here. of_node node (take place targets) (take place commands) ++ (if here then get_or commands place command ∷ [] else []))
+    (eq-eqb (get_or targets place 0) node is)
+    ∙ ap (λ c. of_node node (take place targets) (take place commands) ++ c ∷ []) (sym at)
+
+pub next_elsewhere : (node : ℕ) (targets : List ℕ) (commands : List Command) (place : ℕ) (command : Command) → length targets ≡ length commands
+    → place < length commands → (get_or targets place 0 ≡ node → ⊥)
+    → of_node node (take (place + 1) targets) (take (place + 1) commands) ≡ of_node node (take place targets) (take place commands)
+next_elsewhere node targets commands place command same within is =
+    up_to_next node targets commands place command same within
+    ∙ ap (λ here. of_node node (take place targets) (take place commands) ++ (if here then get_or commands place command ∷ [] else []))
+    (ne_eqb (get_or targets place 0) node is)
+    ∙ append-nil (of_node node (take place targets) (take place commands))
+
+pub request_push : (commands : List Command) (command : Command) → request_of (commands ++ command ∷ []) ≡ request_of commands ++ packed command.args
+request_push [] command = append-nil (packed command.args)
+request_push (c ∷ commands) command =
+    ap (λ l. packed c.args ++ l) (request_push commands command) ∙ sym (append_assoc (packed c.args) (request_of commands) (packed command.args))
+
+-- no more commands than places
+pub at_most : {A : Type 0} (node : ℕ) (targets : List ℕ) (xs : List A) (place : ℕ) → length (of_node node (take place targets) (take place xs)) ≤ place
+at_most node targets xs zero = zero-le
+at_most node [] xs (suc n) = zero-le
+at_most node (t ∷ ts) [] (suc n) = zero-le
+at_most node (t ∷ ts) (x ∷ xs) (suc n) = no_longer (t == node) x _ n (at_most node ts xs n)
+
+-- ---- replies put in their places
+
+pub record Placing (all groups : List (List Value)) (targets : List ℕ) (place : ℕ) (replies : List Value) : Type 0 where
+  pub long : length replies ≡ place
+  pub same : length groups ≡ length all
+  pub placed : (node : ℕ) → node < length all → of_node node (take place targets) replies ++ nth_of groups node ≡ nth_of all node
+  pub left : (node : ℕ) → node < length all
+      → length (nth_of groups node) ≡ length (of_node node (drop place targets) (drop place targets))
+
+pub placing_starts : (groups : List (List Value)) (targets : List ℕ) → Enough groups targets → Placing groups groups targets 0 []
+placing_starts groups targets enough = record {
+  long = refl;
+  same = refl;
+  placed = λ node within. refl;
+  left = enough;
+}
+
+-- of the commands from a place on, the first one's node has a reply left
+pub one_left : (all groups : List (List Value)) (targets : List ℕ) (place : ℕ) (replies : List Value)
+    → Placing all groups targets place replies → place < length targets → get_or targets place 0 < length all
+    → 0 < length (nth_of groups (get_or targets place 0))
+one_left all groups targets place replies p within known =
+    let target = get_or targets place 0 in
+    let h = p.left target known in
+    let h = rw (drop_more targets place 0 within) at h in
+    let same : (target == target) ≡ true = eq-eqb target target refl in
+    let h = rw same at h in
+    omega arith
+
+-- the next reply of that node is put in the place
+module _ (all groups : List (List Value)) (targets : List ℕ) (place : ℕ) (replies : List Value) (reply : Value)
+    (rest : List Value) (p : Placing all groups targets place replies) (within : place < length targets)
+    (known : get_or targets place 0 < length all) (next : nth_of groups (get_or targets place 0) ≡ reply ∷ rest) where
+  abbrev target : ℕ
+  target = get_or targets place 0
+
+  abbrev groups' : List (List Value)
+  groups' = slice_set groups target rest
+
+  there : nth_of groups' target ≡ rest
+  there = get_or-set_same groups target rest [] (omega (arith, p.same, known))
+
+  elsewhere : (node : ℕ) → (target == node) ≡ false → nth_of groups' node ≡ nth_of groups node
+  elsewhere node other = get_or-set_other groups target node rest [] (λ same. eqb-false target node other (sym same))
+
+  long' : length (take place targets) ≡ length replies
+  long' = let h = length-take' in let long = p.long in omega (arith, h)
+    where
+      length-take' : length (take place targets) ≡ place
+      length-take' = length_of_take targets place within
+        where
+          length_of_take : (xs : List ℕ) (n : ℕ) → n < length xs → length (take n xs) ≡ n
+          length_of_take xs zero h = refl
+          length_of_take [] (suc n) h = absurd (omega arith)
+          length_of_take (x ∷ xs) (suc n) h = ap suc (length_of_take xs n (omega arith))
+
+  split : (node : ℕ) → of_node node (take (place + 1) targets) (replies ++ reply ∷ [])
+      ≡ of_node node (take place targets) replies ++ of_node node (target ∷ []) (reply ∷ [])
+  split node = ap (λ l. of_node node l (replies ++ reply ∷ [])) (take_more targets place 0 within)
+      ∙ push node (take place targets) replies target reply long'
+
+  placed' : (node : ℕ) → node < length all → of_node node (take (place + 1) targets) (replies ++ reply ∷ []) ++ nth_of groups' node ≡ nth_of all node
+  placed' node inside = by (target == node) refl
+    where
+      by : (here : Bool) → (target == node) ≡ here
+          → of_node node (take (place + 1) targets) (replies ++ reply ∷ []) ++ nth_of groups' node ≡ nth_of all node
+      by true is =
+          let at : target ≡ node = eqb-true target node is in
+          rw (split node, is) (append_assoc (of_node node (take place targets) replies) (reply ∷ []) (nth_of groups' node)
+          ∙ ap (λ l. of_node node (take place targets) replies ++ (reply ∷ l)) (ap (nth_of groups') (sym at) ∙ there)
+          ∙ ap (λ l. of_node node (take place targets) replies ++ l) (sym next ∙ ap (nth_of groups) at)
+          ∙ p.placed node inside)
+      by false is =
+          rw (split node, is) (ap (λ l. l ++ nth_of groups' node) (append-nil (of_node node (take place targets) replies))
+          ∙ ap (λ l. of_node node (take place targets) replies ++ l) (elsewhere node is) ∙ p.placed node inside)
+
+  left' : (node : ℕ) → node < length all
+      → length (nth_of groups' node) ≡ length (of_node node (drop (place + 1) targets) (drop (place + 1) targets))
+  left' node inside = by (target == node) refl
+    where
+      h : length (nth_of groups node) ≡ length (of_node node (target ∷ drop (place + 1) targets) (target ∷ drop (place + 1) targets))
+      h = p.left node inside ∙ ap (λ l. length (of_node node l l)) (drop_more targets place 0 within)
+
+      by : (here : Bool) → (target == node) ≡ here
+          → length (nth_of groups' node) ≡ length (of_node node (drop (place + 1) targets) (drop (place + 1) targets))
+      by true is =
+          let at : target ≡ node = eqb-true target node is in
+          let k = rw is at h in
+          let n = ap length (ap (nth_of groups) (sym at) ∙ next) in
+          ap length (ap (nth_of groups') (sym at) ∙ there) ∙ (omega (arith, k, n))
+      by false is = let k = rw is at h in ap length (elsewhere node is) ∙ k
+
+  pub put : Placing all groups' targets (place + 1) (replies ++ reply ∷ [])
+  put = record {
+    long = rw (length-append replies (reply ∷ [])) (let long = p.long in omega arith);
+    same = length-set groups target rest ∙ p.same;
+    placed = placed';
+    left = left';
+  }
+
+pub all_placed : (all groups : List (List Value)) (targets : List ℕ) (replies : List Value)
+    → Placing all groups targets (length targets) replies → InPlaces all targets replies
+all_placed all groups targets replies p node inside =
+    let none : nth_of groups node ≡ [] = no_more (nth_of groups node) (p.left node inside ∙ ap (λ l. length (of_node node l l)) (drop_all (length targets) targets (omega arith))) in
+    sym (append-nil (of_node node targets replies))
+    ∙ ap (λ l. of_node node targets replies ++ l) (sym none)
+    ∙ ap (λ l. of_node node l replies ++ nth_of groups node) (sym (take_all (length targets) targets (omega arith)))
+    ∙ p.placed node inside
+  where
+    no_more : (xs : List Value) → length xs ≡ 0 → xs ≡ []
+    no_more [] h = refl
+    no_more (x ∷ xs) h = absurd (omega arith)
+
+-- ---- one node after another
+
+module _ {S : Type 0} (sends : S → S → ℕ → List ℕ → ℕ → Result (List Value) RedisError → Type 0)
+    (commands : List Command) (targets : List ℕ) where
+  pub one_more : (first : ℕ) (old : S) (groups : List (List Value)) (between : S) (node : ℕ) (replies : List Value) (new : S)
+      → SentEach sends commands targets first old groups between → node ≡ first + length groups
+      → SentGroup sends (of_node node targets commands) between node replies new
+      → SentEach sends commands targets first old (groups ++ replies ∷ []) new
+  one_more first old [] between node replies new is at h =
+      let same : node ≡ first = omega arith in
+      (new, (rw (is, ← same) h, refl))
+  one_more first old (group ∷ groups) between node replies new (next, (sent, more)) at h =
+      (next, (sent, one_more (first + 1) next groups between node replies new more (omega arith) h))
+
+  -- each gave as many as it was sent
+  pub enough_of : (node : ℕ) (old : S) (groups : List (List Value)) (new : S) → SentEach sends commands targets node old groups new
+      → (k : ℕ) → k < length groups → length (nth_of groups k) ≡ length (of_node (node + k) targets commands)
+  enough_of node old [] new h k inside = absurd (omega arith)
+  enough_of node old (group ∷ groups) new (first, (sent, more)) zero inside =
+      let at : node + 0 ≡ node = omega arith in
+      rw at sent.counted
+  enough_of node old (group ∷ groups) new (first, (sent, more)) (suc k) inside =
+      let at : node + suc k ≡ (node + 1) + k = omega arith in
+      rw at (enough_of (node + 1) first groups new more k (omega arith))
+
+  -- the replies of each are those in the places of its commands
+  pub as_groups : (node : ℕ) (old : S) (groups : List (List Value)) (replies : List Value) (new : S)
+      → SentEach sends commands targets node old groups new
+      → ((k : ℕ) → k < length groups → of_node (node + k) targets replies ≡ nth_of groups k)
+      → FoldsTo (λ before n after. SentGroup sends (of_node n targets commands) before n (of_node n targets replies) after)
+      old (range_with_len node (length groups)) new
+  as_groups node old [] replies new h places = h
+  as_groups node old (group ∷ groups) replies new (first, (sent, more)) places =
+      let at : node + 0 ≡ node = omega arith in
+      let here : of_node node targets replies ≡ group = ap (λ n. of_node n targets replies) (sym at) ∙ places 0 (omega arith) in
+      (first, rw here sent, as_groups (node + 1) first groups replies new more (λ k inside.
+      let on : (node + 1) + k ≡ node + suc k = omega arith in ap (λ n. of_node n targets replies) on ∙ places (suc k) (omega arith)))

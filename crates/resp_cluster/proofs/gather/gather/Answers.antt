@@ -1,0 +1,22 @@
+use Rattle.std.proofs.Common.{◌≡◌, ◌+◌, ◌<◌, map, length, ap, sym, ◌∙◌, arith, subst}
+use Rattle.std.proofs.lemmas.List.{length-map}
+use Rattle.resp_cluster.specs.Gathered.{of_node}
+use Rattle.resp_cluster.proofs.Gathers.{as_groups, as_many, enough_of}
+use Rattle.resp_cluster.specs.Gathering.{from_last}
+use Rattle.resp_cluster.proofs.gather.gather.Goals as goal
+
+pub in_places-requires-clause-enough : goal.in_places-requires-clause-enough
+in_places-requires-clause-enough g c node inside =
+    let at : 0 + node ≡ node = omega arith in
+    enough_of _ _ _ 0 _ _ _ c.in_ok-groups.ensures.sent node inside
+    ∙ ap (λ n. length (of_node n c.args.targets.now c.args.commands.now)) at
+    ∙ as_many node c.args.targets.now c.args.commands.now c.args.targets.now (sym c.requires.each)
+
+pub returns-clause-gathered : goal.returns-clause-gathered
+returns-clause-gathered g c =
+    let groups = map from_last c.in_ok-groups.groups.items in
+    let long = length-map c.in_ok-groups.groups.items from_last in
+    let count = c.in_ok-groups.ensures.count in
+    rw (← count, ← long) (as_groups _ _ _ 0 _ groups c.in_ok-replies.replies.items _ c.in_ok-groups.ensures.sent
+    (λ k inside. let at : 0 + k ≡ k = omega arith in
+    ap (λ n. of_node n c.args.targets.now c.in_ok-replies.replies.items) at ∙ c.in_ok-replies.ensures.places k inside))
