@@ -1,17 +1,16 @@
 -- The replies of several nodes, put in the places of the commands.
 use Rattle.std.proofs.Common.{◌≡◌, ℕ, zero, suc, ◌+◌, ◌<◌, ◌==◌, Bool, true, false, List, [], ◌∷◌, ◌++◌, map, length, take, drop, get_or}
-use Rattle.std.proofs.Common.{set, refl, sym, ap, ◌∙◌, append_assoc, append-nil, arith, inl, inr, Result, Ok, if◌then◌else◌, All}
+use Rattle.std.proofs.Common.{set, refl, sym, ap, ◌∙◌, append_assoc, append-nil, arith, inl, inr, Result, Err, if◌then◌else◌, All}
 use Rattle.std.proofs.Common.{slice_index_or, slice_set, eqb-true, eq-eqb, ne_eqb, flat_map, ◌≤◌, zero-le, subst}
 use Rattle.std.proofs.lemmas.Bool.{eqb-false}
 use Rattle.std.proofs.lemmas.List.{take_more, drop_more, take_all, drop_all, get_or-set_same, get_or-set_other, length-set}
 use Rattle.std.proofs.lemmas.List.{length-append}
-use Rattle.std.specs.List.{FoldsTo, range_with_len}
 use Rattle.resp_value.specs.declared.value.Value.{Value}
 use Rattle.resp_errors.specs.declared.redis_error.RedisError.{RedisError}
 use Rattle.resp_command.specs.Command.{Command}
 use Rattle.resp_command.specs.Packed.{packed}
-use Rattle.resp_cluster.specs.Gathered.{SentGroup, SentGroups, of_node, request_of}
-use Rattle.resp_cluster.specs.Gathering.{Enough, InPlaces, SentEach, nth_of}
+use Rattle.resp_cluster.specs.Gathered.{InPlaces, RefusedGroup, SentEach, SentGroup, given_by, of_node, request_of}
+use Rattle.resp_cluster.specs.Gathering.{Enough}
 
 -- ---- what stands in the places of a node's commands
 
@@ -102,9 +101,9 @@ at_most node (t ∷ ts) (x ∷ xs) (suc n) = no_longer (t == node) x _ n (at_mos
 pub record Placing (all groups : List (List Value)) (targets : List ℕ) (place : ℕ) (replies : List Value) : Type 0 where
   pub long : length replies ≡ place
   pub same : length groups ≡ length all
-  pub placed : (node : ℕ) → node < length all → of_node node (take place targets) replies ++ nth_of groups node ≡ nth_of all node
+  pub placed : (node : ℕ) → node < length all → of_node node (take place targets) replies ++ given_by groups node ≡ given_by all node
   pub left : (node : ℕ) → node < length all
-      → length (nth_of groups node) ≡ length (of_node node (drop place targets) (drop place targets))
+      → length (given_by groups node) ≡ length (of_node node (drop place targets) (drop place targets))
 
 pub placing_starts : (groups : List (List Value)) (targets : List ℕ) → Enough groups targets → Placing groups groups targets 0 []
 placing_starts groups targets enough = record {
@@ -117,7 +116,7 @@ placing_starts groups targets enough = record {
 -- of the commands from a place on, the first one's node has a reply left
 pub one_left : (all groups : List (List Value)) (targets : List ℕ) (place : ℕ) (replies : List Value)
     → Placing all groups targets place replies → place < length targets → get_or targets place 0 < length all
-    → 0 < length (nth_of groups (get_or targets place 0))
+    → 0 < length (given_by groups (get_or targets place 0))
 one_left all groups targets place replies p within known =
     let target = get_or targets place 0 in
     let h = p.left target known in
@@ -129,17 +128,17 @@ one_left all groups targets place replies p within known =
 -- the next reply of that node is put in the place
 module _ (all groups : List (List Value)) (targets : List ℕ) (place : ℕ) (replies : List Value) (reply : Value)
     (rest : List Value) (p : Placing all groups targets place replies) (within : place < length targets)
-    (known : get_or targets place 0 < length all) (next : nth_of groups (get_or targets place 0) ≡ reply ∷ rest) where
+    (known : get_or targets place 0 < length all) (next : given_by groups (get_or targets place 0) ≡ reply ∷ rest) where
   abbrev target : ℕ
   target = get_or targets place 0
 
   abbrev groups' : List (List Value)
   groups' = slice_set groups target rest
 
-  there : nth_of groups' target ≡ rest
+  there : given_by groups' target ≡ rest
   there = get_or-set_same groups target rest [] (omega (arith, p.same, known))
 
-  elsewhere : (node : ℕ) → (target == node) ≡ false → nth_of groups' node ≡ nth_of groups node
+  elsewhere : (node : ℕ) → (target == node) ≡ false → given_by groups' node ≡ given_by groups node
   elsewhere node other = get_or-set_other groups target node rest [] (λ same. eqb-false target node other (sym same))
 
   long' : length (take place targets) ≡ length replies
@@ -158,35 +157,35 @@ module _ (all groups : List (List Value)) (targets : List ℕ) (place : ℕ) (re
   split node = ap (λ l. of_node node l (replies ++ reply ∷ [])) (take_more targets place 0 within)
       ∙ push node (take place targets) replies target reply long'
 
-  placed' : (node : ℕ) → node < length all → of_node node (take (place + 1) targets) (replies ++ reply ∷ []) ++ nth_of groups' node ≡ nth_of all node
+  placed' : (node : ℕ) → node < length all → of_node node (take (place + 1) targets) (replies ++ reply ∷ []) ++ given_by groups' node ≡ given_by all node
   placed' node inside = by (target == node) refl
     where
       by : (here : Bool) → (target == node) ≡ here
-          → of_node node (take (place + 1) targets) (replies ++ reply ∷ []) ++ nth_of groups' node ≡ nth_of all node
+          → of_node node (take (place + 1) targets) (replies ++ reply ∷ []) ++ given_by groups' node ≡ given_by all node
       by true is =
           let at : target ≡ node = eqb-true target node is in
-          rw (split node, is) (append_assoc (of_node node (take place targets) replies) (reply ∷ []) (nth_of groups' node)
-          ∙ ap (λ l. of_node node (take place targets) replies ++ (reply ∷ l)) (ap (nth_of groups') (sym at) ∙ there)
-          ∙ ap (λ l. of_node node (take place targets) replies ++ l) (sym next ∙ ap (nth_of groups) at)
+          rw (split node, is) (append_assoc (of_node node (take place targets) replies) (reply ∷ []) (given_by groups' node)
+          ∙ ap (λ l. of_node node (take place targets) replies ++ (reply ∷ l)) (ap (given_by groups') (sym at) ∙ there)
+          ∙ ap (λ l. of_node node (take place targets) replies ++ l) (sym next ∙ ap (given_by groups) at)
           ∙ p.placed node inside)
       by false is =
-          rw (split node, is) (ap (λ l. l ++ nth_of groups' node) (append-nil (of_node node (take place targets) replies))
+          rw (split node, is) (ap (λ l. l ++ given_by groups' node) (append-nil (of_node node (take place targets) replies))
           ∙ ap (λ l. of_node node (take place targets) replies ++ l) (elsewhere node is) ∙ p.placed node inside)
 
   left' : (node : ℕ) → node < length all
-      → length (nth_of groups' node) ≡ length (of_node node (drop (place + 1) targets) (drop (place + 1) targets))
+      → length (given_by groups' node) ≡ length (of_node node (drop (place + 1) targets) (drop (place + 1) targets))
   left' node inside = by (target == node) refl
     where
-      h : length (nth_of groups node) ≡ length (of_node node (target ∷ drop (place + 1) targets) (target ∷ drop (place + 1) targets))
+      h : length (given_by groups node) ≡ length (of_node node (target ∷ drop (place + 1) targets) (target ∷ drop (place + 1) targets))
       h = p.left node inside ∙ ap (λ l. length (of_node node l l)) (drop_more targets place 0 within)
 
       by : (here : Bool) → (target == node) ≡ here
-          → length (nth_of groups' node) ≡ length (of_node node (drop (place + 1) targets) (drop (place + 1) targets))
+          → length (given_by groups' node) ≡ length (of_node node (drop (place + 1) targets) (drop (place + 1) targets))
       by true is =
           let at : target ≡ node = eqb-true target node is in
           let k = rw is at h in
-          let n = ap length (ap (nth_of groups) (sym at) ∙ next) in
-          ap length (ap (nth_of groups') (sym at) ∙ there) ∙ (omega (arith, k, n))
+          let n = ap length (ap (given_by groups) (sym at) ∙ next) in
+          ap length (ap (given_by groups') (sym at) ∙ there) ∙ (omega (arith, k, n))
       by false is = let k = rw is at h in ap length (elsewhere node is) ∙ k
 
   pub put : Placing all groups' targets (place + 1) (replies ++ reply ∷ [])
@@ -200,10 +199,10 @@ module _ (all groups : List (List Value)) (targets : List ℕ) (place : ℕ) (re
 pub all_placed : (all groups : List (List Value)) (targets : List ℕ) (replies : List Value)
     → Placing all groups targets (length targets) replies → InPlaces all targets replies
 all_placed all groups targets replies p node inside =
-    let none : nth_of groups node ≡ [] = no_more (nth_of groups node) (p.left node inside ∙ ap (λ l. length (of_node node l l)) (drop_all (length targets) targets (omega arith))) in
+    let none : given_by groups node ≡ [] = no_more (given_by groups node) (p.left node inside ∙ ap (λ l. length (of_node node l l)) (drop_all (length targets) targets (omega arith))) in
     sym (append-nil (of_node node targets replies))
     ∙ ap (λ l. of_node node targets replies ++ l) (sym none)
-    ∙ ap (λ l. of_node node l replies ++ nth_of groups node) (sym (take_all (length targets) targets (omega arith)))
+    ∙ ap (λ l. of_node node l replies ++ given_by groups node) (sym (take_all (length targets) targets (omega arith)))
     ∙ p.placed node inside
   where
     no_more : (xs : List Value) → length xs ≡ 0 → xs ≡ []
@@ -224,9 +223,20 @@ module _ {S : Type 0} (sends : S → S → ℕ → List ℕ → ℕ → Result (
   one_more first old (group ∷ groups) between node replies new (next, (sent, more)) at h =
       (next, (sent, one_more (first + 1) next groups between node replies new more (omega arith) h))
 
+  pub stopped : (old : S) (groups : List (List Value)) (before : S) (node : ℕ) (new : S) (e : RedisError)
+      → SentEach sends commands targets 0 old groups before → node ≡ length groups
+      → sends before new node (request_of (of_node node targets commands)) (length (of_node node targets commands)) (Err e)
+      → RefusedGroup sends commands targets old new e
+  stopped old groups before node new e sent at refused = record {
+    groups = groups;
+    before = before;
+    sent = sent;
+    refused = rw (← at) refused;
+  }
+
   -- each gave as many as it was sent
   pub enough_of : (node : ℕ) (old : S) (groups : List (List Value)) (new : S) → SentEach sends commands targets node old groups new
-      → (k : ℕ) → k < length groups → length (nth_of groups k) ≡ length (of_node (node + k) targets commands)
+      → (k : ℕ) → k < length groups → length (given_by groups k) ≡ length (of_node (node + k) targets commands)
   enough_of node old [] new h k inside = absurd (omega arith)
   enough_of node old (group ∷ groups) new (first, (sent, more)) zero inside =
       let at : node + 0 ≡ node = omega arith in
@@ -234,16 +244,3 @@ module _ {S : Type 0} (sends : S → S → ℕ → List ℕ → ℕ → Result (
   enough_of node old (group ∷ groups) new (first, (sent, more)) (suc k) inside =
       let at : node + suc k ≡ (node + 1) + k = omega arith in
       rw at (enough_of (node + 1) first groups new more k (omega arith))
-
-  -- the replies of each are those in the places of its commands
-  pub as_groups : (node : ℕ) (old : S) (groups : List (List Value)) (replies : List Value) (new : S)
-      → SentEach sends commands targets node old groups new
-      → ((k : ℕ) → k < length groups → of_node (node + k) targets replies ≡ nth_of groups k)
-      → FoldsTo (λ before n after. SentGroup sends (of_node n targets commands) before n (of_node n targets replies) after)
-      old (range_with_len node (length groups)) new
-  as_groups node old [] replies new h places = h
-  as_groups node old (group ∷ groups) replies new (first, (sent, more)) places =
-      let at : node + 0 ≡ node = omega arith in
-      let here : of_node node targets replies ≡ group = ap (λ n. of_node n targets replies) (sym at) ∙ places 0 (omega arith) in
-      (first, rw here sent, as_groups (node + 1) first groups replies new more (λ k inside.
-      let on : (node + 1) + k ≡ node + suc k = omega arith in ap (λ n. of_node n targets replies) on ∙ places (suc k) (omega arith)))

@@ -1,9 +1,9 @@
--- Several commands over the nodes of a cluster, each of which gets those that go there as one request.
-use Rattle.std.specs.Prelude.{◌≡◌, ◌≢◌, ℕ, ◌==◌, ◌⊎◌, List, [], ◌∷◌, ◌++◌, map, length, Result, Ok, Err, if◌then◌else◌}
-use Rattle.std.specs.List.{FoldsTo, flat_map, range_with_len}
+-- Several commands over the nodes of a cluster, each of which is sent those that go there as one request.
+use Rattle.std.specs.Prelude.{◌≡◌, ◌≢◌, ℕ, ◌+◌, ◌<◌, ◌==◌, List, [], ◌∷◌, map, length, slice_index_or, Result, Ok, Err}
+use Rattle.std.specs.Prelude.{if◌then◌else◌}
+use Rattle.std.specs.List.{flat_map}
 use Rattle.resp_value.specs.declared.value.Value.{Value}
 use Rattle.resp_errors.specs.declared.redis_error.RedisError.{RedisError}
-use Rattle.resp_errors.specs.declared.redis_error.RedisError.TheVariants.{OutOfMemory}
 use Rattle.resp_command.specs.Command.{Command}
 use Rattle.resp_command.specs.Packed.{packed}
 
@@ -18,6 +18,14 @@ of_node node (target ∷ targets) (x ∷ xs) =
 abbrev pub request_of : List Command → List ℕ
 request_of commands = flat_map packed (map (λ c. c.args) commands)
 
+-- the replies that a node gave, of those that each gave
+abbrev pub given_by : List (List Value) → ℕ → List Value
+given_by groups node = slice_index_or groups node []
+
+-- the replies of each node stand, in order, in the places of its commands
+abbrev pub InPlaces : List (List Value) → List ℕ → List Value → Type 0
+InPlaces groups targets replies = (node : ℕ) → node < length groups → of_node node targets replies ≡ given_by groups node
+
 module _ {S : Type 0} (sends : S → S → ℕ → List ℕ → ℕ → Result (List Value) RedisError → Type 0) where
   -- a node is sent commands as one request, and gives as many replies; where there are none, nothing is sent
   pub record SentGroup (group : List Command) (old : S) (node : ℕ) (replies : List Value) (new : S) : Type 0 where
@@ -25,25 +33,33 @@ module _ {S : Type 0} (sends : S → S → ℕ → List ℕ → ℕ → Result (
     pub none : group ≡ [] → new ≡ old
     pub some : group ≢ [] → sends old new node (request_of group) (length group) (Ok replies)
 
-  -- the nodes in order are sent each its commands, and the replies in their places are those that it gives
-  abbrev pub SentGroups : List Command → List ℕ → ℕ → S → List Value → S → Type 0
-  SentGroups commands targets count old replies new =
-      FoldsTo (λ before node after. SentGroup (of_node node targets commands) before node (of_node node targets replies) after)
-      old (range_with_len 0 count) new
+  module _ (commands : List Command) (targets : List ℕ) where
+    -- the nodes from this one on, in order, are sent each its commands, and give these replies
+    abbrev pub SentEach : ℕ → S → List (List Value) → S → Type 0
+    SentEach node old [] new = old ≡ new
+    SentEach node old (replies ∷ more) new =
+        (between : S) × (SentGroup (of_node node targets commands) old node replies between × SentEach (node + 1) between more new)
 
-  -- a node, all before which were sent their commands, refuses its own
-  pub record RefusedGroup (commands : List Command) (targets : List ℕ) (count : ℕ) (old new : S) (e : RedisError) : Type 0 where
-    pub node : ℕ
-    pub before : S
-    pub replies : List Value
-    pub sent : SentGroups commands targets node old replies before
-    pub refused : sends before new node (request_of (of_node node targets commands))
-        (length (of_node node targets commands)) (Err e)
+    -- each node is sent its commands, and each command has its reply
+    pub record Gathered (count : ℕ) (old : S) (replies : List Value) (new : S) : Type 0 where
+      pub groups : List (List Value)
+      pub each : length groups ≡ count
+      pub sent : SentEach 0 old groups new
+      pub placed : InPlaces groups targets replies
+      pub whole : length replies ≡ length commands
 
-module _ {S : Type 0} (goes_on : S → S → Command → Value → Result Value RedisError → Type 0) where
-  -- each command goes on where its reply points, one after the other, and these are the answers
-  abbrev pub GoOn : S → List (Command × Value) → List Value → S → Type 0
-  GoOn old [] answers new = (answers ≡ []) × (new ≡ old)
-  GoOn old (sent ∷ more) [] new = ⊥
-  GoOn old (sent ∷ more) (answer ∷ answers) new =
-      (between : S) × (goes_on old between sent.0 sent.1 (Ok answer) × GoOn between more answers new)
+    -- a node refuses its commands, after those before it were sent theirs
+    pub record RefusedGroup (old new : S) (e : RedisError) : Type 0 where
+      pub groups : List (List Value)
+      pub before : S
+      pub sent : SentEach 0 old groups before
+      pub refused : sends before new (length groups) (request_of (of_node (length groups) targets commands))
+          (length (of_node (length groups) targets commands)) (Err e)
+
+module _ {S : Type 0} (follows : S → S → Command → Value → Result Value RedisError → Type 0) where
+  -- each command goes on from its reply, one after the other, and these are the answers
+  abbrev pub FollowedEach : S → List Command → List Value → List Value → S → Type 0
+  FollowedEach old (command ∷ commands) (reply ∷ replies) (answer ∷ answers) new =
+      (between : S) × (follows old between command reply (Ok answer) × FollowedEach between commands replies answers new)
+  FollowedEach old [] [] [] new = old ≡ new
+  FollowedEach old commands replies answers new = ⊥

@@ -1,11 +1,13 @@
 //! Several commands over the nodes of a cluster.
 
-ghost use Rattle.std.specs.Prelude.{◌≡◌, ◌<◌, All, IfOk, length, map};
-ghost use Rattle.resp_cluster.specs.Gathered.{SentGroup, SentGroups, of_node, request_of};
-ghost use Rattle.resp_cluster.specs.Gathering.{Enough, InPlaces, SentEach, from_last};
+ghost use Rattle.std.specs.Prelude.{◌≡◌, ◌<◌, ◌⊎◌, All, Err, IfOk, IfErr, length, map};
+ghost use Rattle.resp_errors.specs.Memory.{OnlyMemory};
+ghost use Rattle.resp_cluster.specs.Gathered.{Gathered, InPlaces, RefusedGroup, SentEach};
+ghost use Rattle.resp_cluster.specs.Gathered.{SentGroup, of_node, request_of};
+ghost use Rattle.resp_cluster.specs.Gathering.{Enough, from_last};
 
 use resp_command::Cmd;
-use resp_value::{Items, RedisResult, Value};
+use resp_value::{Items, RedisError, RedisResult, Value};
 use std::alloc::Global;
 
 /// The nodes of a cluster, by number, over which several commands are sent.
@@ -45,9 +47,10 @@ pub(crate) fn gather<N: SendGroups>(
 ) -> RedisResult<Vec<Value>>
     requires known { All (λ node. node < count) targets.now }
     requires each { length targets.now ≡ length commands.now }
-    ensures whole { IfOk result (λ replies. length replies.items ≡ length commands.now) }
-    ensures gathered { IfOk result (λ replies. SentGroups N.sends commands.now targets.now count
+    ensures gathered { IfOk result (λ replies. Gathered N.sends commands.now targets.now count
         nodes.old replies.items nodes.new) }
+    ensures refused { IfErr result (λ e. (e ≡ RedisError.OutOfMemory)
+        ⊎ RefusedGroup N.sends commands.now targets.now nodes.old nodes.new e) }
 {
     let mut groups = send_groups(alloc, nodes, count, commands, targets)?;
     let replies = in_places(alloc, &mut groups, targets)?;
@@ -66,6 +69,8 @@ fn send_groups<N: SendGroups>(
     ensures count { IfOk result (λ groups. length groups.items ≡ count) }
     ensures sent { IfOk result (λ groups. SentEach N.sends commands.now targets.now 0 nodes.old
         (map from_last groups.items) nodes.new) }
+    ensures refused { IfErr result (λ e. (e ≡ RedisError.OutOfMemory)
+        ⊎ RefusedGroup N.sends commands.now targets.now nodes.old nodes.new e) }
 {
     let mut groups = Vec::with_capacity(alloc, count)?;
     for node in 0..count {
@@ -85,8 +90,11 @@ fn send_to<N: SendGroups>(
     targets: &[usize],
 ) -> RedisResult<Vec<Value>>
     requires each { length targets.now ≡ length commands.now }
-    ensures { IfOk result (λ replies. SentGroup N.sends (of_node node targets.now commands.now)
+    ensures sent { IfOk result (λ replies. SentGroup N.sends (of_node node targets.now commands.now)
         nodes.old node replies.items nodes.new) }
+    ensures refused { IfErr result (λ e. (e ≡ RedisError.OutOfMemory)
+        ⊎ N.sends nodes.old nodes.new node (request_of (of_node node targets.now commands.now))
+        (length (of_node node targets.now commands.now)) (Err e)) }
 {
     let group = group_of(alloc, node, commands, targets)?;
     if group.count == 0 {
@@ -108,6 +116,7 @@ fn group_of(
         ≡ request_of (of_node node targets.now commands.now)) }
     ensures count { IfOk result (λ group. group.count
         ≡ length (of_node node targets.now commands.now)) }
+    ensures memory { OnlyMemory result }
 {
     let mut request = Vec::new(alloc);
     let mut count = 0;
@@ -131,6 +140,7 @@ fn in_places(
     ensures whole { IfOk result (λ replies. length replies.items ≡ length targets.now) }
     ensures places { IfOk result (λ replies. InPlaces (map from_last groups.old.items) targets.now
         replies.items) }
+    ensures memory { OnlyMemory result }
 {
     let mut replies = Vec::with_capacity(alloc, targets.len())?;
     for target in targets {

@@ -1,7 +1,7 @@
 use Rattle.std.proofs.Common.{◌≡◌, ◌+◌, ◌<◌, map, length, ap, sym, ◌∙◌, arith, subst}
 use Rattle.std.proofs.lemmas.List.{length-map}
 use Rattle.resp_cluster.specs.Gathered.{of_node}
-use Rattle.resp_cluster.proofs.Gathers.{as_groups, as_many, enough_of}
+use Rattle.resp_cluster.proofs.Gathers.{as_many, enough_of}
 use Rattle.resp_cluster.specs.Gathering.{from_last}
 use Rattle.resp_cluster.proofs.gather.gather.Goals as goal
 
@@ -14,9 +14,10 @@ in_places-requires-clause-enough g c node inside =
 
 pub returns-clause-gathered : goal.returns-clause-gathered
 returns-clause-gathered g c =
-    let groups = map from_last c.in_ok-groups.groups.items in
-    let long = length-map c.in_ok-groups.groups.items from_last in
-    let count = c.in_ok-groups.ensures.count in
-    rw (← count, ← long) (as_groups _ _ _ 0 _ groups c.in_ok-replies.replies.items _ c.in_ok-groups.ensures.sent
-    (λ k inside. let at : 0 + k ≡ k = omega arith in
-    ap (λ n. of_node n c.args.targets.now c.in_ok-replies.replies.items) at ∙ c.in_ok-replies.ensures.places k inside))
+    record {
+      groups = map from_last c.in_ok-groups.groups.items;
+      each = length-map c.in_ok-groups.groups.items from_last ∙ c.in_ok-groups.ensures.count;
+      sent = c.in_ok-groups.ensures.sent;
+      placed = c.in_ok-replies.ensures.places;
+      whole = c.in_ok-replies.ensures.whole ∙ c.requires.each;
+    }

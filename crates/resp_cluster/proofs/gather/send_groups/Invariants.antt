@@ -1,5 +1,6 @@
 use Rattle.std.proofs.Common.{◌≡◌, length, map}
-use Rattle.resp_cluster.specs.Gathering.{SentEach, from_last}
+use Rattle.resp_cluster.specs.Gathered.{SentEach}
+use Rattle.resp_cluster.specs.Gathering.{from_last}
 use Rattle.resp_cluster.proofs.gather.send_groups.Given as goal
 
 abbrev pub invariant-loop-node : goal.invariant-loop-node
