@@ -2,7 +2,7 @@
 
 ghost use Rattle.std.specs.Prelude.{◌≡◌, ◌<◌, ◌⊎◌, All, Err, IfOk, IfErr, length, map};
 ghost use Rattle.resp_errors.specs.Memory.{OnlyMemory};
-ghost use Rattle.resp_cluster.specs.Gathered.{Gathered, InPlaces, RefusedGroup, SentEach};
+ghost use Rattle.resp_cluster.specs.Gathered.{FollowedEach, Gathered, InPlaces, RefusedGroup, SentEach};
 ghost use Rattle.resp_cluster.specs.Gathered.{SentGroup, of_node, request_of};
 ghost use Rattle.resp_cluster.specs.Gathering.{Enough, from_last};
 
@@ -15,6 +15,7 @@ pub trait SendGroups {
     ghost use Rattle.std.specs.Prelude.{◌≡◌, ℕ, IfOk, List, Result, length};
     ghost use Rattle.resp_value.specs.declared.value.Value.{Value};
     ghost use Rattle.resp_errors.specs.declared.redis_error.RedisError.{RedisError};
+    ghost use Rattle.resp_command.specs.Command.{Command};
 
     /// What sending a node a request of so many commands does, and which replies it gives.
     ghost sends: { Self → Self → ℕ → List ℕ → ℕ → Result (List Value) RedisError → Type 0 };
@@ -28,6 +29,13 @@ pub trait SendGroups {
     ) -> RedisResult<Items<Value>>
         ensures sent { sends self.old self.new node request.now count result }
         ensures counted { IfOk result (λ replies. length replies ≡ count) };
+
+    /// What following the reply to a command does, and what is answered then.
+    ghost follows: { Self → Self → Command → Value → Result Value RedisError → Type 0 };
+
+    /// Sends a command on to where its reply points; a reply that points nowhere is the answer.
+    fn follow_reply(&mut self, command: &Cmd, reply: Value) -> RedisResult<Value>
+        ensures { follows self.old self.new command.now reply result };
 }
 
 /// The commands that go to a node: their bytes, and how many they are.
@@ -55,6 +63,24 @@ pub(crate) fn gather<N: SendGroups>(
     let mut groups = send_groups(alloc, nodes, count, commands, targets)?;
     let replies = in_places(alloc, &mut groups, targets)?;
     Ok(replies)
+}
+
+/// Sends each command on to where its reply points, one after the other.
+pub(crate) fn follow_each<N: SendGroups>(
+    alloc: Global,
+    nodes: &mut N,
+    commands: &[Cmd],
+    replies: Vec<Value>,
+) -> RedisResult<Vec<Value>>
+    requires each { length replies.items ≡ length commands.now }
+    ensures { IfOk result (λ answers. FollowedEach N.follows nodes.old commands.now replies.items
+        answers.items nodes.new) }
+{
+    let mut answers = Vec::with_capacity(alloc, commands.len())?;
+    for (place, reply) in replies.into_iter().enumerate() {
+        answers.push(nodes.follow_reply(&commands[place], reply)?)?;
+    }
+    Ok(answers)
 }
 
 /// Sends each node the commands that go to it; answers its replies, the last one first.

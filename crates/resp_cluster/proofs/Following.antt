@@ -1,0 +1,37 @@
+-- Commands that go on from their replies, one after the other.
+use Rattle.std.proofs.Common.{◌≡◌, ℕ, ◌+◌, ◌<◌, List, [], ◌∷◌, ◌++◌, length, drop, get_or, refl, sym, ap, ◌∙◌, append_assoc, append-nil, arith}
+use Rattle.std.proofs.Common.{Result, Ok}
+use Rattle.std.proofs.lemmas.List.{drop_more, drop_all}
+use Rattle.resp_value.specs.declared.value.Value.{Value}
+use Rattle.resp_errors.specs.declared.redis_error.RedisError.{RedisError}
+use Rattle.resp_command.specs.Command.{Command}
+use Rattle.resp_cluster.specs.Gathered.{FollowedEach}
+
+module _ {S : Type 0} (follows : S → S → Command → Value → Result Value RedisError → Type 0) (old : S)
+    (commands : List Command) (replies : List Value) where
+  -- the first commands went on, and these replies are left
+  pub record FollowedSoFar (answers left : List Value) (place : ℕ) (now : S) : Type 0 where
+    pub long : length left + place ≡ length commands
+    pub onwards : (more : List Value) (new : S) → FollowedEach follows now (drop place commands) left more new
+        → FollowedEach follows old commands replies (answers ++ more) new
+
+  pub following_starts : length replies ≡ length commands → FollowedSoFar [] replies 0 old
+  following_starts same = record { long = omega arith; onwards = λ more new h. h }
+
+  pub one_follows : (answers left : List Value) (place : ℕ) (now : S) (reply : Value) (command : Command) (answer : Value) (new : S)
+      → FollowedSoFar answers (reply ∷ left) place now → command ≡ get_or commands place command
+      → follows now new command reply (Ok answer) → FollowedSoFar (answers ++ answer ∷ []) left (place + 1) new
+  one_follows answers left place now reply command answer new h at followed = record {
+    long = let long = h.long in omega arith;
+    onwards = λ more end rest.
+        let long = h.long in
+        rw (append_assoc answers (answer ∷ []) more) (h.onwards (answer ∷ more) end
+        (rw (drop_more commands place command (omega arith), ← at) (new, (followed, rest))));
+  }
+
+  pub all_followed : (answers left : List Value) (place : ℕ) (now : S) → FollowedSoFar answers left place now → length left ≡ 0
+      → FollowedEach follows old commands replies answers now
+  all_followed answers [] place now h none =
+      let long = h.long in
+      rw (← append-nil answers) (h.onwards [] now (rw (drop_all place commands (omega arith)) refl))
+  all_followed answers (reply ∷ left) place now h none = absurd (omega arith)
