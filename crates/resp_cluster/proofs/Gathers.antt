@@ -65,7 +65,7 @@ module _ {A : Type 0} (node : ℕ) where
   as_many (t ∷ ts) (x ∷ xs) (y ∷ ys) h = as_long (t == node) x y _ _ (as_many ts xs ys (omega arith))
 
 -- the commands of a node, and the bytes that send them, with one place more
-pub next_here : (node : ℕ) (targets : List ℕ) (commands : List Command) (place : ℕ) (command : Command) → length targets ≡ length commands
+pub next_here : {A : Type 0} (node : ℕ) (targets : List ℕ) (commands : List A) (place : ℕ) (command : A) → length targets ≡ length commands
     → place < length commands → command ≡ get_or commands place command → get_or targets place 0 ≡ node
     → of_node node (take (place + 1) targets) (take (place + 1) commands)
     ≡ of_node node (take place targets) (take place commands) ++ command ∷ []
@@ -75,7 +75,7 @@ next_here node targets commands place command same within at is =
     (eq-eqb (get_or targets place 0) node is)
     ∙ ap (λ c. of_node node (take place targets) (take place commands) ++ c ∷ []) (sym at)
 
-pub next_elsewhere : (node : ℕ) (targets : List ℕ) (commands : List Command) (place : ℕ) (command : Command) → length targets ≡ length commands
+pub next_elsewhere : {A : Type 0} (node : ℕ) (targets : List ℕ) (commands : List A) (place : ℕ) (command : A) → length targets ≡ length commands
     → place < length commands → (get_or targets place 0 ≡ node → ⊥)
     → of_node node (take (place + 1) targets) (take (place + 1) commands) ≡ of_node node (take place targets) (take place commands)
 next_elsewhere node targets commands place command same within is =

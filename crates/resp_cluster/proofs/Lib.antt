@@ -1,3 +1,4 @@
+pub mod Splitting
 pub mod Following
 pub mod Gathers
 pub mod Entries

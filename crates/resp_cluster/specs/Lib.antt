@@ -1,6 +1,7 @@
 pub mod Maps
 pub mod Replies
 pub mod Shards
+pub mod Splits
 pub mod Gathered
 pub mod Gathering
 pub mod Routed

@@ -8,7 +8,9 @@ mod router;
 mod shards_reply;
 mod slot_map;
 mod slots_reply;
+mod split;
 
 pub use node::{NodeAddr, PortKind, SlotRange, TopologyError};
 pub use router::{Nodes, Redirect, Reply, RouteError, route};
 pub use slot_map::SlotMap;
+pub use split::{Merge, Parts};
