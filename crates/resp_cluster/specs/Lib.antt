@@ -4,4 +4,5 @@ pub mod Shards
 pub mod Splits
 pub mod Gathered
 pub mod Gathering
+pub mod Merges
 pub mod Routed

@@ -156,7 +156,7 @@ fn group_of(
 }
 
 /// The replies of each node, which stand with the last one first, in the places of its commands.
-fn in_places(
+pub(crate) fn in_places(
     alloc: Global,
     groups: &mut Vec<Vec<Value>>,
     targets: &[usize],

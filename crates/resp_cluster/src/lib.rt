@@ -3,6 +3,7 @@
 
 mod equality;
 mod gather;
+mod merge;
 mod node;
 mod router;
 mod shards_reply;

@@ -1,0 +1,154 @@
+//! What the replies to the parts of a command make together.
+
+ghost use Rattle.std.specs.Prelude.{◌≡◌, All, FitsSigned, IfOk, IsTrue, OnOk, length, map, ◌<◌};
+ghost use Rattle.std.specs.Int.{w64};
+ghost use Rattle.resp_cluster.specs.Gathered.{of_node};
+ghost use Rattle.resp_cluster.specs.Gathering.{Enough, from_last};
+ghost use Rattle.resp_cluster.specs.Merges.{Merges, MergesOkay, MergesSum, MergesValues, sum_of};
+ghost use Rattle.resp_value.specs.declared.value.Value.{Array, Int};
+
+use crate::gather::in_places;
+use crate::split::Merge;
+use resp_errors::{ErrorKind, RedisError, RedisResult};
+use resp_value::{Items, Value};
+use std::alloc::Global;
+
+/// What the replies to the parts of a command make together: a server error, if one is or holds
+/// one, the first of them; else what `merge` says. Refused with kind `UnexpectedReturnType` where
+/// they are others than a server gives.
+pub(crate) fn merged(
+    alloc: Global,
+    merge: Merge,
+    places: &[usize],
+    replies: Vec<Value>,
+) -> RedisResult<Value>
+    ensures { IfOk result (λ answer. Merges merge places.now replies.items answer) }
+{
+    let replies = without_errors(alloc, replies)?;
+    match merge {
+        Merge::Values => values_of(alloc, places, replies),
+        Merge::Sum => sum_of(replies.as_slice()),
+        Merge::AllSucceeded => okay_of(replies.as_slice()),
+    }
+}
+
+/// The replies, or the first server error in them.
+fn without_errors(alloc: Global, replies: Vec<Value>) -> RedisResult<Vec<Value>>
+    ensures { IfOk result (λ passed. passed.items ≡ replies.items) }
+{
+    let mut passed = Vec::with_capacity(alloc, replies.len())?;
+    for reply in replies {
+        passed.push(reply.extract_error()?)?;
+    }
+    Ok(passed)
+}
+
+/// The values of arrays, each in the place of its key.
+fn values_of(alloc: Global, places: &[usize], replies: Vec<Value>) -> RedisResult<Value>
+    ensures { IfOk result (MergesValues places.now replies.items) }
+{
+    let mut groups = elements_of(alloc, replies)?;
+    if !fits(groups.as_slice(), places) {
+        return Err(unexpected());
+    }
+    let values = in_places(alloc, &mut groups, places)?;
+    Ok(Value::Array(Items::from(values)))
+}
+
+/// The elements of arrays, the last one of each first.
+fn elements_of(alloc: Global, replies: Vec<Value>) -> RedisResult<Vec<Vec<Value>>>
+    ensures { IfOk result (λ groups. replies.items ≡ map Array (map from_last groups.items)) }
+{
+    let mut groups = Vec::with_capacity(alloc, replies.len())?;
+    for reply in replies {
+        let Value::Array(items) = reply else {
+            return Err(unexpected());
+        };
+        let mut elements = items.into_vec();
+        elements.reverse();
+        groups.push(elements)?;
+    }
+    Ok(groups)
+}
+
+/// Whether each place is that of a group, and each group has as many elements as places.
+fn fits(groups: &[Vec<Value>], places: &[usize]) -> bool
+    ensures known { IsTrue result → All (λ place. place < length groups.now) places.now }
+    ensures enough { IsTrue result → Enough (map from_last groups.now) places.now }
+{
+    for part in 0..groups.len() {
+        if groups[part].len() != count_of(places, part) {
+            return false;
+        }
+    }
+    are_below(places, groups.len())
+}
+
+/// How often a part is among places.
+fn count_of(places: &[usize], part: usize) -> usize
+    ensures { result ≡ length (of_node part places.now places.now) }
+{
+    let mut count = 0;
+    for place in places {
+        if *place == part {
+            count += 1;
+        }
+    }
+    count
+}
+
+/// Whether each place is below this one.
+fn are_below(places: &[usize], count: usize) -> bool
+    ensures { IsTrue result → All (λ place. place < count) places.now }
+{
+    for place in places {
+        if *place >= count {
+            return false;
+        }
+    }
+    true
+}
+
+/// The sum of numbers.
+fn sum_of(replies: &[Value]) -> RedisResult<Value>
+    ensures { IfOk result (MergesSum replies.now) }
+{
+    let mut sum: i64 = 0;
+    for reply in replies {
+        sum = match sum.checked_add(number_of(reply)?) {
+            Some(more) => more,
+            None => return Err(unexpected()),
+        };
+    }
+    Ok(Value::Int(sum))
+}
+
+/// The number that a reply is.
+fn number_of(reply: &Value) -> RedisResult<i64>
+    ensures is { IfOk result (λ number. reply.now ≡ Int number) }
+    ensures fits { IfOk result (FitsSigned w64) }
+{
+    match reply {
+        Value::Int(number) => Ok(*number),
+        _ => Err(unexpected()),
+    }
+}
+
+/// `OK`, where all are.
+fn okay_of(replies: &[Value]) -> RedisResult<Value>
+    ensures { IfOk result (MergesOkay replies.now) }
+{
+    for reply in replies {
+        let Value::Okay = reply else {
+            return Err(unexpected());
+        };
+    }
+    Ok(Value::Okay)
+}
+
+fn unexpected() -> RedisError {
+    RedisError::from((
+        ErrorKind::UnexpectedReturnType,
+        "the parts of a command have other replies",
+    ))
+}
