@@ -7,8 +7,8 @@ use Rattle.resp_errors.specs.declared.redis_error.RedisError.{RedisError}
 use Rattle.resp_errors.specs.declared.redis_error.RedisError.TheVariants.{Io, Parse, OutOfMemory}
 use Rattle.resp_errors.specs.declared.kinds.IoKind.TheVariants.{UnexpectedEof}
 use Rattle.resp_errors.specs.declared.parsing_error.ParsingError.TheVariants.{Fault}
-use Rattle.resp_command.specs.Call.{Asks, Call, CommandCall, Reconnects, Refuses, AnswersReply, Answers, needed}
-use Rattle.resp_command.specs.Call.{broken_link, no_command, no_reply, refused, replaced}
+use Rattle.resp_command.specs.Call.{Asks, Call, CommandCall, Reconnects, Refuses, Routes, AnswersReply, Answers}
+use Rattle.resp_command.specs.Call.{broken_link, no_command, no_reply, refused, replaced, not_carried, carried, needed}
 use Rattle.resp_command.specs.Command.{Command}
 use Rattle.resp_command.specs.CommandQuery.{CommandQuery}
 use Rattle.resp_command.specs.Connection.{push_room, Connection, Bytes, ExchangeOf, Exchange, replied}
@@ -137,7 +137,7 @@ module _ {A B : Type 0} (new : Connection) (q : List ℕ) (n : ℕ) (answers ans
     otherwise = λ m k. exchange_ok a r turn (h.otherwise m k);
   }
 
--- a connection that reconnects, by what is said of the call over the other in its place
+-- a connection that reconnects or routes, by what is said of the call over the other link
 module _ {A B : Type 0} (old new : Connection) (MadeOver MadeOver' : Connection → Type 0)
     (turn : (other : Connection) → MadeOver other → MadeOver' other) where
   pub reconnects_err : (e : RedisError) → Reconnects {A = A} old new (Err e) MadeOver
@@ -150,6 +150,15 @@ module _ {A B : Type 0} (old new : Connection) (MadeOver MadeOver' : Connection 
   reconnects_ok a r (refused f h) = absurd (refuses_ok old new a f h)
   reconnects_ok a r (replaced other works h) = replaced other works (turn other h)
 
+  -- one that routes
+  pub routes_err : (e : RedisError) → Routes {A = A} (Err e) MadeOver → Routes {A = B} (Err e) MadeOver'
+  routes_err e (not_carried f h) = not_carried e refl
+  routes_err e (carried other works h) = carried other works (turn other h)
+
+  pub routes_ok : (a : A) (r : Result B RedisError) → Routes {A = A} (Ok a) MadeOver → Routes {A = B} r MadeOver'
+  routes_ok a r (not_carried f h) = absurd (let k = h in cc)
+  routes_ok a r (carried other works h) = carried other works (turn other h)
+
 -- the same answer, by less that is said of the call over the other
 pub reconnects_over : {A : Type 0} (old new : Connection) (r : Result A RedisError)
     (MadeOver MadeOver' : Connection → Type 0) → ((other : Connection) → MadeOver other → MadeOver' other)
@@ -157,25 +166,36 @@ pub reconnects_over : {A : Type 0} (old new : Connection) (r : Result A RedisErr
 reconnects_over old new r MadeOver MadeOver' turn (refused e h) = refused e h
 reconnects_over old new r MadeOver MadeOver' turn (replaced other works h) = replaced other works (turn other h)
 
+pub routes_over : {A : Type 0} (r : Result A RedisError) (MadeOver MadeOver' : Connection → Type 0)
+    → ((other : Connection) → MadeOver other → MadeOver' other) → Routes r MadeOver → Routes r MadeOver'
+routes_over r MadeOver MadeOver' turn (not_carried e h) = not_carried e h
+routes_over r MadeOver MadeOver' turn (carried other works h) = carried other works (turn other h)
+
 module _ {A B : Type 0} (old new : Connection) (q : List ℕ) (n : ℕ) (answers answers' : List Value → Type 0)
     (IsEmpty IsUnanswered : Type 0) where
   pub call_err : (e : RedisError) → ((replies : List Value) → answers replies → ⊥)
       → Call {A = A} old new IsEmpty IsUnanswered q n (Err e) answers → Call {A = B} old new IsEmpty IsUnanswered q n (Err e) answers'
   call_err e none h = record {
+    policy = h.policy;
     when_broken = λ b same. refuses_err new q n answers answers' old e broken_link (h.when_broken b same);
     when_lost = λ b again. reconnects_err old new _ _
         (λ other. asks_err new q n answers answers' other IsEmpty IsUnanswered e none) e (h.when_lost b again);
-    when_working = λ b. asks_err new q n answers answers' old IsEmpty IsUnanswered e none (h.when_working b);
+    when_routed = λ b. routes_err old new _ _
+        (λ other. asks_err new q n answers answers' other IsEmpty IsUnanswered e none) e (h.when_routed b);
+    when_working = λ b own. asks_err new q n answers answers' old IsEmpty IsUnanswered e none (h.when_working b own);
   }
 
   pub call_ok : (a : A) (r : Result B RedisError)
       → ((replies : List Value) → length replies ≡ n → answers replies → answers' replies)
       → Call {A = A} old new IsEmpty IsUnanswered q n (Ok a) answers → Call {A = B} old new IsEmpty IsUnanswered q n r answers'
   call_ok a r turn h = record {
+    policy = h.policy;
     when_broken = λ b same. absurd (refuses_ok old new a broken_link (h.when_broken b same));
     when_lost = λ b again. reconnects_ok old new _ _
         (λ other. asks_ok new q n answers answers' other IsEmpty IsUnanswered a r turn) a r (h.when_lost b again);
-    when_working = λ b. asks_ok new q n answers answers' old IsEmpty IsUnanswered a r turn (h.when_working b);
+    when_routed = λ b. routes_ok old new _ _
+        (λ other. asks_ok new q n answers answers' other IsEmpty IsUnanswered a r turn) a r (h.when_routed b);
+    when_working = λ b own. asks_ok new q n answers answers' old IsEmpty IsUnanswered a r turn (h.when_working b own);
   }
 
 -- an exchange in which nothing came and nothing was sent
@@ -190,7 +210,7 @@ pub nothing_done : {A : Type 0} {old new : Connection} {q : List ℕ} {n : ℕ} 
 nothing_done {old = old} {new = new} same h = record {
   same = record {
     pipelines = ap (λ (c : Connection). c.pipelines) same;
-    reconnects = ap (λ (c : Connection). c.reconnects) same;
+    policy = ap (λ (c : Connection). c.policy) same;
     limits = ap (λ (c : Connection). c.limits) same;
     read_size = ap (λ (c : Connection). c.read_size) same;
   };
@@ -235,7 +255,7 @@ module _ {X : Type 0} (old new : Connection) (c : Command) (Of : Value → X →
       → CommandCall old new c sent (λ reply. sent ≡ Ok reply) → CommandQuery old new c Of (Err e)
   command_refused sent e is h = record {
     reads_only = packed_reads_only c.args;
-    takes_one = λ arrived. takes_one_thing old.limits (push_room old) (needed c) (old.received ++ arrived);
+    takes_one = λ link arrived. takes_one_thing link.limits (push_room link) (needed c) (link.received ++ arrived);
     call = call_err old new (packed c.args) (needed c) (ReplyIs (Err e)) _ _ _ e (none_answered e) (rw is at h);
   }
 
@@ -243,7 +263,7 @@ module _ {X : Type 0} (old new : Connection) (c : Command) (Of : Value → X →
       → Answers Of r v → CommandCall old new c sent (λ reply. sent ≡ Ok reply) → CommandQuery old new c Of r
   command_answered sent v r is answer h = record {
     reads_only = packed_reads_only c.args;
-    takes_one = λ arrived. takes_one_thing old.limits (push_room old) (needed c) (old.received ++ arrived);
+    takes_one = λ link arrived. takes_one_thing link.limits (push_room link) (needed c) (link.received ++ arrived);
     call = call_ok old new (packed c.args) (needed c) (ReplyIs (Ok v)) _ _ _ v r
         (λ replies _. reply_answered Of v r answer replies) (rw is at h);
   }

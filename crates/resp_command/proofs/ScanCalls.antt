@@ -89,7 +89,7 @@ module _ {X : Type 0} (n : ℕ) (Of : Value → X → Type 0) (old new : Connect
   first_failed answer e is h = record {
     answer = answer;
     reads_only = packed_reads_only c.args;
-    takes_one = λ arrived. takes_one_thing old.limits (push_room old) (needed c) (old.received ++ arrived);
+    takes_one = λ link arrived. takes_one_thing link.limits (push_room link) (needed c) (link.received ++ arrived);
     call = h;
     gives = rw is refl;
   }
@@ -100,7 +100,7 @@ module _ {X : Type 0} (n : ℕ) (Of : Value → X → Type 0) (old new : Connect
   first_read answer reply given is h read = record {
     answer = answer;
     reads_only = packed_reads_only c.args;
-    takes_one = λ arrived. takes_one_thing old.limits (push_room old) (needed c) (old.received ++ arrived);
+    takes_one = λ link arrived. takes_one_thing link.limits (push_room link) (needed c) (link.received ++ arrived);
     call = h;
     gives = rw is read;
   }
@@ -111,7 +111,7 @@ module _ {X : Type 0} (n : ℕ) (Of : Value → X → Type 0) (old new : Connect
     later_failed answer e is h = record {
       answer = answer;
       reads_only = packed_reads_only (with_cursor u c).args;
-      takes_one = λ arrived. takes_one_thing old.limits (push_room old) 1 (old.received ++ arrived);
+      takes_one = λ link arrived. takes_one_thing link.limits (push_room link) 1 (link.received ++ arrived);
       sends = h;
       gives = rw is refl;
     }
@@ -122,7 +122,7 @@ module _ {X : Type 0} (n : ℕ) (Of : Value → X → Type 0) (old new : Connect
     later_read answer reply given is h read = record {
       answer = answer;
       reads_only = packed_reads_only (with_cursor u c).args;
-      takes_one = λ arrived. takes_one_thing old.limits (push_room old) 1 (old.received ++ arrived);
+      takes_one = λ link arrived. takes_one_thing link.limits (push_room link) 1 (link.received ++ arrived);
       sends = h;
       gives = rw is read;
     }

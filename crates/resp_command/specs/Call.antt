@@ -1,5 +1,5 @@
 -- What a call over a connection answers.
-use Rattle.std.specs.Prelude.{◌≡◌, ℕ, true, false, List, [], ◌∷◌, drop, Result, Ok, Err, None, codes, if◌then◌else◌}
+use Rattle.std.specs.Prelude.{◌≡◌, ◌≢◌, ℕ, true, false, List, [], ◌∷◌, drop, Result, Ok, Err, None, codes, if◌then◌else◌}
 use Rattle.std.specs.Prelude.{MatchOption, IsOkAnd}
 use Rattle.resp_value.specs.declared.value.Value.{Value, Nil}
 use Rattle.resp_errors.specs.declared.kinds.ErrorKind.TheVariants as kind
@@ -9,7 +9,7 @@ use Rattle.resp_value.specs.FirstError.{first_error}
 use Rattle.resp_from.specs.Conversion.{ConvertsCall}
 use Rattle.resp_command.specs.Packed.{packed}
 use Rattle.resp_command.specs.Command.{Command}
-use Rattle.resp_command.specs.Connection.{Connection, Exchange}
+use Rattle.resp_command.specs.Connection.{Connection, Exchange, stays, reconnects, routes}
 use Rattle.resp_command.specs.Subscriptions.{IsUnanswered}
 
 -- what a connection answers that broke before
@@ -40,6 +40,12 @@ pub data Reconnects {A : Type 0} (old new : Connection) (r : Result A RedisError
   replaced : (other : Connection) → other.broken ≡ false → MadeOver other
       → Reconnects old new r MadeOver
 
+-- a connection that routes: the call is refused, or it is made over the link that it belongs to,
+-- which works
+pub data Routes {A : Type 0} (r : Result A RedisError) (MadeOver : Connection → Type 0) : Type 0 where
+  not_carried : (e : RedisError) → r ≡ Err e → Routes r MadeOver
+  carried : (other : Connection) → other.broken ≡ false → MadeOver other → Routes r MadeOver
+
 -- a call over a connection that works: refused where the command is empty, or where no reply would
 -- come to it, and else an exchange
 pub record Asks {A : Type 0} (old new : Connection) (IsEmpty IsUnanswered : Type 0)
@@ -49,13 +55,17 @@ pub record Asks {A : Type 0} (old new : Connection) (IsEmpty IsUnanswered : Type
   pub otherwise : (IsEmpty → ⊥) → (IsUnanswered → ⊥) → Exchange old new q n r answers
 
 -- the contract of a call that sends q and needs n replies: refused of a connection that broke, if
--- it doesn't reconnect
+-- it stays with its link
 pub record Call {A : Type 0} (old new : Connection) (IsEmpty IsUnanswered : Type 0)
     (q : List ℕ) (n : ℕ) (r : Result A RedisError) (answers : List Value → Type 0) : Type 0 where
-  pub when_broken : old.broken ≡ true → old.reconnects ≡ false → Refuses old new broken_link r
-  pub when_lost : old.broken ≡ true → old.reconnects ≡ true →
+  pub policy : new.policy ≡ old.policy
+  pub when_broken : old.broken ≡ true → old.policy ≡ stays → Refuses old new broken_link r
+  pub when_lost : old.broken ≡ true → old.policy ≡ reconnects →
       Reconnects old new r (λ other. Asks other new IsEmpty IsUnanswered q n r answers)
-  pub when_working : old.broken ≡ false → Asks old new IsEmpty IsUnanswered q n r answers
+  pub when_routed : old.policy ≡ routes →
+      Routes r (λ other. Asks other new IsEmpty IsUnanswered q n r answers)
+  pub when_working : old.broken ≡ false → old.policy ≢ routes →
+      Asks old new IsEmpty IsUnanswered q n r answers
 
 -- how many replies a command needs
 abbrev pub needed : Command → ℕ

@@ -14,5 +14,6 @@ use Rattle.resp_command.specs.Taken.{TakesOneThing}
 pub record CommandQuery {X : Type 0} (old new : Connection) (c : Command)
     (of_value : Value → X → Type 0) (result : Result X RedisError) : Type 0 where
   pub reads_only : LawOfPacking c.args
-  pub takes_one : (arrived : List ℕ) → TakesOneThing old.limits (push_room old) (needed c) (old.received ++ arrived)
+  pub takes_one : (link : Connection) (arrived : List ℕ) →
+      TakesOneThing link.limits (push_room link) (needed c) (link.received ++ arrived)
   pub call : CommandCall old new c result (Answers of_value result)

@@ -17,6 +17,13 @@ use Rattle.resp_parse.specs.Limited.{Awaits}
 use Rattle.resp_command.specs.Taken.{ArrivedAsNeeded, Taken, took, met_fault, ended_early, PrefixReads, ListsPushes}
 use Rattle.resp_command.specs.Taken.{Frame, Aside, aside_of, no_pushes, replies_in}
 
+-- which link takes the next request: the same one; another in its place, once that broke; or the one
+-- that the request belongs to
+pub data LinkPolicy : Type 0 where
+  stays : LinkPolicy
+  reconnects : LinkPolicy
+  routes : LinkPolicy
+
 pub record Connection : Type 0 where
   -- whether several commands may be sent at once
   pub pipelines : Bool
@@ -32,8 +39,7 @@ pub record Connection : Type 0 where
   pub pushes : List PushInfo
   pub push_bytes : ℕ
   pub broken : Bool
-  -- whether another takes its place, once it broke, before the next request is sent
-  pub reconnects : Bool
+  pub policy : LinkPolicy
   -- how deep and how long the values may be that are read, and how many bytes of pushes are set
   -- aside
   pub limits : Limits
@@ -46,7 +52,7 @@ pub record Connection : Type 0 where
   pub to_come : Option (List ℕ)
   pub holds : Option (List ℕ)
 
--- a connection that takes one command at a time, over which nothing came and nothing was sent
+-- a connection that takes one command at a time and stays with its link, over which nothing came and nothing was sent
 abbrev pub idle : (broken : Bool) → Connection
 idle broken = record {
   pipelines = false;
@@ -57,7 +63,7 @@ idle broken = record {
   pushes = [];
   push_bytes = 0;
   broken = broken;
-  reconnects = false;
+  policy = stays;
   limits = usual;
   read_size = 0;
   source_failures = 0;
@@ -78,7 +84,7 @@ pub record SetsAside (old new : Connection) (aside : Aside) : Type 0 where
 -- what no call changes
 pub record SameKind (old new : Connection) : Type 0 where
   pub pipelines : new.pipelines ≡ old.pipelines
-  pub reconnects : new.reconnects ≡ old.reconnects
+  pub policy : new.policy ≡ old.policy
   pub limits : new.limits ≡ old.limits
   pub read_size : new.read_size ≡ old.read_size
 

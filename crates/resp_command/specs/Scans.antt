@@ -46,7 +46,8 @@ module _ {X : Type 0} (n : ℕ) (Of : Value → X → Type 0) where
       (given : Result (Batch X) RedisError) : Type 0 where
     pub answer : Result Value RedisError
     pub reads_only : LawOfPacking c.args
-    pub takes_one : (arrived : List ℕ) → TakesOneThing old.limits (push_room old) (needed c) (old.received ++ arrived)
+    pub takes_one : (link : Connection) (arrived : List ℕ) →
+        TakesOneThing link.limits (push_room link) (needed c) (link.received ++ arrived)
     pub call : CommandCall old new c answer (λ reply. answer ≡ Ok reply)
     pub gives : GivesFirst n Of answer given
 
@@ -60,7 +61,8 @@ module _ {X : Type 0} (n : ℕ) (Of : Value → X → Type 0) where
       Type 0 where
     pub answer : Result Value RedisError
     pub reads_only : LawOfPacking (with_cursor cursor c).args
-    pub takes_one : (arrived : List ℕ) → TakesOneThing old.limits (push_room old) 1 (old.received ++ arrived)
+    pub takes_one : (link : Connection) (arrived : List ℕ) →
+        TakesOneThing link.limits (push_room link) 1 (link.received ++ arrived)
     pub sends : SendsPacked old new (scan_request c cursor) answer
     pub gives : Gives n Of answer given
 

@@ -3,8 +3,8 @@
 //! The trait lies beside [`Cmd`](crate::Cmd), since each names the other: a connection takes a
 //! command, and a command's query takes a connection.
 
-ghost use Rattle.std.specs.Prelude.{◌≡◌, ◌+◌, Ok, IfOk, length, not};
-ghost use Rattle.resp_command.specs.Connection.{Connection};
+ghost use Rattle.std.specs.Prelude.{◌≡◌, ◌≢◌, ◌+◌, Ok, IfOk, length, not};
+ghost use Rattle.resp_command.specs.Connection.{Connection, routes};
 ghost use Rattle.resp_command.specs.Call.{Call, CommandCall, PackedCall, AnswersFrom};
 
 use crate::command::Cmd;
@@ -19,6 +19,10 @@ use resp_value::{RedisResult, Value};
 /// place. After a refusal of the last four, and on `OutOfMemory` once sending was begun, the
 /// connection is broken: permanently, unless it is one that reconnects. That has another take its
 /// place before it sends the next request, and sends none twice.
+///
+/// A connection that routes, as to the nodes of a cluster, makes each call over a link that it
+/// chooses and that works, and is then what that link is. Or it refuses the call, by any error, and
+/// then nothing is said of what it is.
 ///
 /// Pushes that stand before the last reply to a request are set aside, and count as no reply.
 pub trait ConnectionLike {
@@ -57,4 +61,11 @@ pub trait ConnectionLike {
     /// Whether the connection isn't broken.
     fn is_open(&self) -> bool
         ensures { result ≡ not (connection self.now).broken };
+}
+
+/// A connection that doesn't route: each call goes over its one link, or, where that broke, over
+/// another in its place.
+pub trait Unrouted: ConnectionLike {
+    /// It never routes.
+    ghost unrouted: { (c : Self) → (Self.connection c).policy ≢ routes };
 }

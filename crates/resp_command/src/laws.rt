@@ -5,7 +5,7 @@ ghost use Rattle.resp_errors.specs.declared.redis_error.RedisError.{RedisError};
 ghost use Rattle.resp_command.specs.Call.{Answers, AnswersReply, needed};
 ghost use Rattle.resp_command.specs.Command.{Command};
 ghost use Rattle.resp_command.specs.CommandQuery.{CommandQuery};
-ghost use Rattle.resp_command.specs.Connection.{Connection, KnownExchange};
+ghost use Rattle.resp_command.specs.Connection.{Connection, KnownExchange, routes};
 ghost use Rattle.resp_command.specs.Packed.{packed};
 ghost use Rattle.resp_command.specs.ShownArgs.{IsArgClone, ShowsOnly, arg_eq};
 ghost use Rattle.resp_args.specs.Args.{Args};
@@ -49,8 +49,8 @@ pub fn law_of_scans<T: FromRedisValue>()
 /// bytes that are incoming: what is said of those that came holds of them all.
 pub fn law_of_commands_in_memory<T: FromRedisValue>()
     ensures { (old new : Connection) (c : Command) (r : Result T RedisError) (later : List ℕ)
-        → CommandQuery old new c T.of_value r → old.broken ≡ false → c.args ≢ []
-        → (IsUnanswered c → ⊥) → old.to_come ≡ Some later
+        → CommandQuery old new c T.of_value r → old.broken ≡ false → old.policy ≢ routes
+        → c.args ≢ [] → (IsUnanswered c → ⊥) → old.to_come ≡ Some later
         → KnownExchange old new later (packed c.args) (needed c) r
         (AnswersReply (Answers T.of_value r)) }
 {}

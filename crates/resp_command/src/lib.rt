@@ -22,7 +22,7 @@ mod subscriptions;
 pub use args_iter::{Arg, ArgsIter};
 pub use command::Cmd;
 pub use command_error::CommandError;
-pub use connection::ConnectionLike;
+pub use connection::{ConnectionLike, Unrouted};
 pub use packing::pack_command;
 pub use progress::ScanProgress;
 pub use push_source::PushSource;
