@@ -24,7 +24,7 @@ use Rattle.resp_command.specs.Packed.{packed}
 use Rattle.resp_command.specs.Subscriptions.{IsUnanswered}
 use Rattle.resp_command.specs.Connection as connection
 use Rattle.resp_command.specs.Connection.{Connection, SameKind, Moves, Bytes, Sent, ExchangeOf, Exchange, TookTooFew}
-use Rattle.resp_command.specs.Connection.{TookSome, BrokenMidway, SetsAside}
+use Rattle.resp_command.specs.Connection.{TookSome, BrokenMidway, SetsAside, stays, routes}
 
 -- ---- what was read before it stopped
 
@@ -78,7 +78,7 @@ taken_got n i i' replies r = record {
 -- what came in while this was sent
 module _ (i i' : Inflow) (k k' : Sink) (b b' : Bool) where
   same_kind : i'.limits ≡ i.limits → SameKind (connection_of i k b) (connection_of i' k' b')
-  same_kind limits = record { pipelines = refl; reconnects = refl; limits = limits; read_size = refl }
+  same_kind limits = record { pipelines = refl; policy = refl; limits = limits; read_size = refl }
 
   moves : (arrived : List ℕ) → i'.came ≡ i.came ++ arrived → Consumes i.to_come i'.to_come arrived
       → {q : List ℕ} {r : Result (Unit {0}) IoKind} → (sending : SendsAll k k' q r)
@@ -254,13 +254,15 @@ unanswered i i' k k' b q n e answers sending r = record {
 
 -- the call of a command that isn't refused
 pub commanded : {A : Type 0} (old new : Connection) (c : Command) (q : List ℕ) (n : ℕ) (r : Result A RedisError)
-    (answers : List Value → Type 0) → old.broken ≡ false → (c.args ≡ [] → ⊥) → (IsUnanswered c → ⊥)
+    (answers : List Value → Type 0) → old.broken ≡ false → old.policy ≡ stays → (c.args ≡ [] → ⊥) → (IsUnanswered c → ⊥)
     → q ≡ packed c.args → n ≡ needed c → Exchange old new q n r answers
     → Call old new (c.args ≡ []) (IsUnanswered c) (packed c.args) (needed c) r answers
-commanded old new c q n r answers works some answered is count h = record {
+commanded old new c q n r answers works stay some answered is count h = record {
+  policy = h.same.policy;
   when_broken = λ b _. absurd (let k : true ≡ false = sym b ∙ works in cc);
   when_lost = λ b _. absurd (let k : true ≡ false = sym b ∙ works in cc);
-  when_working = λ _. record {
+  when_routed = λ p. absurd (let k : stays ≡ routes = sym stay ∙ p in cc);
+  when_working = λ _ _. record {
     when_empty = λ none. absurd (some none);
     when_unanswered = λ none. absurd (answered none);
     otherwise = λ _ _. rw (is, count) at h;

@@ -35,7 +35,7 @@ module _ (s t : Source) (was new : State) (p : List PushInfo) (n : ℕ) (k : Sin
   arrives broken filled came to_come needed =
       let enough : AsNeeded was.limits was.since filled = rw same at needed in
       record {
-        same = record { pipelines = refl; reconnects = refl; limits = same; read_size = refl };
+        same = record { pipelines = refl; policy = refl; limits = same; read_size = refl };
         moves = record {
           came = came;
           sent = sym (append-nil k.sent);

@@ -48,7 +48,7 @@ module _ (i : Inflow) (k k' : Sink) (broken : Bool) (head : List ℕ) (args : Ar
   from-stopped m e (StopsRequest.in_body h) = SendsWith.stopped (record {
     error = e;
     answer = refl;
-    same = record { pipelines = refl; reconnects = refl; limits = refl; read_size = refl };
+    same = record { pipelines = refl; policy = refl; limits = refl; read_size = refl };
     gone = h.gone;
     moves = record {
       came = sym (append-nil i.came);

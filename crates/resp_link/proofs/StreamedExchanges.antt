@@ -46,7 +46,7 @@ module _ (i : Inflow) (k k' : Sink) (broken : Bool) (q : List ℕ) where
     stopped e h = record {
       error = e;
       answer = refl;
-      same = record { pipelines = refl; reconnects = refl; limits = h.limits; read_size = refl };
+      same = record { pipelines = refl; policy = refl; limits = h.limits; read_size = refl };
       arrived = h.arrived;
       moves = record {
         came = h.came;
@@ -78,7 +78,7 @@ module _ (i : Inflow) (k k' : Sink) (broken : Bool) (q : List ℕ) where
 pub into-nothing : (i : Inflow) (k : Sink) (broken : Bool) (q : List ℕ) (n : ℕ) (b : Sink) (e : RedisError) → e ≡ OutOfMemory
     → HandsOn (connection_of i k broken) (connection_of i k broken) b b q n (Err e)
 into-nothing i k broken q n b e is = HandsOn.as_ever (record {
-  same = record { pipelines = refl; reconnects = refl; limits = refl; read_size = refl };
+  same = record { pipelines = refl; policy = refl; limits = refl; read_size = refl };
   arrived = [];
   gone = [];
   moves = record {

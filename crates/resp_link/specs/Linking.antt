@@ -2,7 +2,7 @@
 use Rattle.std.specs.Prelude.{◌≡◌, Bool, true, false}
 use Rattle.resp_link.specs.Sink.{Sink}
 use Rattle.resp_parse.specs.State.{State, IsBetweenValues}
-use Rattle.resp_command.specs.Connection.{Connection}
+use Rattle.resp_command.specs.Connection.{Connection, stays}
 use Rattle.resp_link.specs.Receiving.{Inflow, read_size}
 
 -- what comes in, what goes out, and whether the link is broken
@@ -16,7 +16,7 @@ connection_of inflow sink broken = record {
   pushes = inflow.pushes;
   push_bytes = inflow.push_bytes;
   broken = broken;
-  reconnects = false;
+  policy = stays;
   limits = inflow.limits;
   read_size = read_size;
   source_failures = inflow.failures;

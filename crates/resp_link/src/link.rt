@@ -19,7 +19,7 @@ use crate::messages::as_one_result;
 use crate::pushes::Pushes;
 use crate::sink::{CommandSink, send_all};
 use crate::writer_sink::Writing;
-use resp_command::{Cmd, ConnectionLike, PushSource};
+use resp_command::{Cmd, ConnectionLike, PushSource, Unrouted};
 use resp_parse::{Limits, Parser, Reading, ReplySource};
 use resp_value::{ErrorKind, PushInfo, RedisError, RedisResult, Value};
 use std::alloc::Global;
@@ -405,6 +405,12 @@ impl<S: ReplySource, K: CommandSink> ConnectionLike for ByteLink<S, K> {
     fn is_open(&self) -> bool {
         !self.broken
     }
+}
+
+impl<S: ReplySource, K: CommandSink> Unrouted for ByteLink<S, K> {
+    ghost use Rattle.resp_command.specs.lemmas.Policies.{stays_unrouted};
+
+    ghost unrouted = { λ _. stays_unrouted };
 }
 
 impl<S: ReplySource, K: CommandSink> PushSource for ByteLink<S, K> {
