@@ -1,8 +1,8 @@
 //! The laws of pipelines: functions that do nothing, and whose contracts are proved.
 
-ghost use Rattle.std.specs.Prelude.{◌≡◌, ℕ, true, false, List, Result, Some};
+ghost use Rattle.std.specs.Prelude.{◌≡◌, ◌≢◌, ℕ, true, false, List, Result, Some};
 ghost use Rattle.resp_errors.specs.declared.redis_error.RedisError.{RedisError};
-ghost use Rattle.resp_command.specs.Connection.{Connection, KnownExchange};
+ghost use Rattle.resp_command.specs.Connection.{Connection, KnownExchange, routes};
 ghost use Rattle.resp_pipeline.specs.Outcome.{Outcome};
 ghost use Rattle.resp_pipeline.specs.Pipeline.{Plan, request, replies_needed};
 ghost use Rattle.resp_pipeline.specs.PipelineLaw.{LawOfPipelines};
@@ -21,6 +21,6 @@ pub fn law_of_pipelines()
 pub fn law_of_pipelines_in_memory<T: FromRedisValue>()
     ensures { (old new : Connection) (p : Plan) (r : Result T RedisError) (later : List ℕ)
         → PipelineQuery old new p T.of_value r → old.pipelines ≡ true → old.broken ≡ false
-        → old.to_come ≡ Some later → KnownExchange old new later (request p) (replies_needed p) r
-        (Outcome p T.of_value r) }
+        → old.policy ≢ routes → old.to_come ≡ Some later
+        → KnownExchange old new later (request p) (replies_needed p) r (Outcome p T.of_value r) }
 {}
