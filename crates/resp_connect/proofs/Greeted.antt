@@ -1,12 +1,12 @@
 -- What a greeting answers, and what it leaves of a connection that worked.
-use Rattle.std.proofs.Common.{◌≡◌, ◌∙◌, sym, ap, refl, inl, inr, false, ℕ, List, [], ◌∷◌, ◌++◌, append_assoc, Result, Ok, Err}
+use Rattle.std.proofs.Common.{◌≡◌, ◌≢◌, ◌∙◌, sym, ap, refl, inl, inr, false, ℕ, List, [], ◌∷◌, ◌++◌, append_assoc, Result, Ok, Err}
 use Rattle.std.specs.Prelude.{IfOk}
 use Rattle.resp_errors.specs.declared.redis_error.RedisError.{RedisError}
 use Rattle.resp_value.specs.declared.value.Value.{Value}
 use Rattle.resp_args.specs.declared.options.ProtocolVersion.{ProtocolVersion}
 use Rattle.resp_args.specs.declared.options.ProtocolVersion.TheVariants as version
 use Rattle.resp_command.specs.Connection.{Connection, Exchange, ExchangeOf, replied, malformed, early_end, sink_failed, source_failed}
-use Rattle.resp_command.specs.Connection.{out_of_memory}
+use Rattle.resp_command.specs.Connection.{out_of_memory, routes}
 use Rattle.resp_connect.specs.declared.greeting.GreetingError.{GreetingError}
 use Rattle.resp_connect.specs.declared.greeting.GreetingError.TheVariants.{Refused, Failed}
 use Rattle.resp_connect.specs.Targets.{Settings}
@@ -49,6 +49,7 @@ record Sent (old new : Connection) (said : List Said) : Type 0 where
   sent : new.sent ≡ old.sent ++ request said
   flushed : new.unflushed ≡ false
   works : new.broken ≡ false
+  policy : new.policy ≡ old.policy
 
 exchanged : (old new : Connection) (said : List Said) (n : ℕ) (all : List Value) (answers : List Value → Type 0)
     → Exchange old new (request said) n (Ok all) answers → Sent old new said
@@ -60,6 +61,7 @@ exchanged old new said n all answers h = by_case h.of
       sent = h.moves.sent ∙ ap (λ q. old.sent ++ q) r.sent.all;
       flushed = r.sent.flushed;
       works = r.usable;
+      policy = h.same.policy;
     }
     by_case (malformed f) = absurd (let k = f.answer in cc)
     by_case (early_end f) = absurd (let k = f.answer in cc)
@@ -67,14 +69,15 @@ exchanged old new said n all answers h = by_case h.of
     by_case (source_failed f) = absurd f.answer
     by_case (out_of_memory f) = absurd (let k = f.answer in cc)
 
-module _ {A : Type 0} (old new : Connection) (said : List Said) (done : A) (works : old.broken ≡ false) where
+module _ {A : Type 0} (old new : Connection) (said : List Said) (done : A) (works : old.broken ≡ false)
+    (own : old.policy ≢ routes) where
   sent_by : (r : Result A GreetingError) → ((e : RedisError) → r ≡ Err (Failed e) → ⊥) → Says old new said done r
       → Sent old new said
   sent_by r not_failed h = by_replies h.replies refl
     where
       by_replies : (replies : Result (List Value) RedisError) → h.replies ≡ replies → Sent old new said
       by_replies (Ok all) is =
-          let call = rw is at h.call in exchanged old new said _ all _ ((call.when_working works).otherwise (λ k. k) (λ k. k))
+          let call = rw is at h.call in exchanged old new said _ all _ ((call.when_working works own).otherwise (λ k. k) (λ k. k))
       by_replies (Err e) is = absurd (not_failed e (rw is at h.answer))
 
 -- one exchange after another
@@ -85,6 +88,7 @@ both_sent old between new first second h k = record {
       ∙ ap (λ q. old.sent ++ q) (sym (request-append first second));
   flushed = k.flushed;
   works = k.works;
+  policy = k.policy ∙ h.policy;
 }
 
 -- ---- greeted
@@ -105,12 +109,12 @@ not_lost : (e : GreetingError) (f : RedisError) → IsLackOfHello e → e ≡ Fa
 not_lost (Refused step error) f lacks is = cc
 not_lost (Failed g) f lacks is = lacks
 
-module _ (old new : Connection) (s : Settings) (works : old.broken ≡ false) where
+module _ (old new : Connection) (s : Settings) (works : old.broken ≡ false) (own : old.policy ≢ routes) where
   -- in this order
   in_turn : (between : Connection) (first second : List Said) (v : ProtocolVersion)
-      → Sent old between first → (between.broken ≡ false → Sent between new second)
+      → Sent old between first → (between.broken ≡ false → between.policy ≢ routes → Sent between new second)
       → Sent old new (first ++ second)
-  in_turn between first second v h k = both_sent old between new first second h (k h.works)
+  in_turn between first second v h k = both_sent old between new first second h (k h.works (λ p. own (sym h.policy ∙ p)))
 
   from_sent : (said : List Said) (v : ProtocolVersion) → MayHaveSaid s v said → Sent old new said
       → Greeted old new s v
@@ -122,23 +126,23 @@ module _ (old new : Connection) (s : Settings) (works : old.broken ≡ false) wh
     works = h.works;
   }
 
-  accepted : {A : Type 0} (from to : Connection) (said : List Said) (v w : A) → from.broken ≡ false
+  accepted : {A : Type 0} (from to : Connection) (said : List Said) (v w : A) → from.broken ≡ false → from.policy ≢ routes
       → Says from to said v (Ok w) → Sent from to said
-  accepted from to said v w works h = sent_by from to said v works (Ok w) (λ e is. cc) h
+  accepted from to said v w works own h = sent_by from to said v works own (Ok w) (λ e is. cc) h
 
   pub greeted : (v : ProtocolVersion) → Greets old new s (Ok v) → Greeted old new s v
   greeted v (in_old old2 h) = rw (version_of old new (in_resp2 s) version.RESP2 v h)
       (from_sent (in_resp2 s) version.RESP2 (inl (old2, refl))
-      (accepted old new (in_resp2 s) version.RESP2 v works h))
+      (accepted old new (in_resp2 s) version.RESP2 v works own h))
   greeted v (in_new new3 between h k) = rw (version_of between new (after_hello s) version.RESP3 v k)
       (from_sent (hello s ++ after_hello s) version.RESP3 (new3, refl)
-      (in_turn between (hello s) (after_hello s) v (accepted old between (hello s) (tt {0}) (tt {0}) works h)
-      (λ w. accepted between new (after_hello s) version.RESP3 v w k)))
+      (in_turn between (hello s) (after_hello s) v (accepted old between (hello s) (tt {0}) (tt {0}) works own h)
+      (λ w p. accepted between new (after_hello s) version.RESP3 v w p k)))
   greeted v (fell_back between e h back k) = rw (version_of between new (in_resp2 s) version.RESP2 v k)
       (from_sent (hello s ++ in_resp2 s) version.RESP2 (inr (back.0, refl))
       (in_turn between (hello s) (in_resp2 s) v
-      (sent_by old between (hello s) (tt {0}) works (Err e) (λ f is. not_lost e f back.1 (let k : e ≡ Failed f = cc in k)) h)
-      (λ w. accepted between new (in_resp2 s) version.RESP2 v w k)))
+      (sent_by old between (hello s) (tt {0}) works own (Err e) (λ f is. not_lost e f back.1 (let k : e ≡ Failed f = cc in k)) h)
+      (λ w p. accepted between new (in_resp2 s) version.RESP2 v w p k)))
   greeted v (no_hello new3 e h back is) = absurd (let k = is in cc)
   greeted v (not_begun is same) = absurd (let k = is in cc)
 

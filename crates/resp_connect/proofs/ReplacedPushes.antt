@@ -24,7 +24,7 @@ module _ (old new : Connection) (r : Result PushInfo RedisError) where
   arrives arrived h = record {
     same = record {
       pipelines = h.same.pipelines;
-      reconnects = refl;
+      policy = refl;
       limits = h.same.limits;
       read_size = h.same.read_size;
     };

@@ -1,6 +1,7 @@
 pub mod Addresses
 pub mod Answers
 pub mod Greeting
+pub mod lemmas
 pub mod Pools
 pub mod Protocols
 pub mod Queries

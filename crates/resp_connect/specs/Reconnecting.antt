@@ -1,15 +1,15 @@
 -- A connection that is replaced once it broke.
 use Rattle.std.specs.Prelude.{◌≡◌, Option, None, Some, true, false, Result, Ok, Err}
 use Rattle.resp_errors.specs.declared.redis_error.RedisError.{RedisError}
-use Rattle.resp_command.specs.Connection.{Connection, idle}
+use Rattle.resp_command.specs.Connection.{Connection, idle, reconnects}
 
 -- a connection as it is, but for what becomes of it once it broke
 abbrev pub replaceable : Connection → Connection
-replaceable c = record c { reconnects = true }
+replaceable c = record c { policy = reconnects }
 
 -- one over which nothing came and nothing was sent, for there was none so far
 abbrev pub never_dialled : Connection
-never_dialled = record (idle true) { pipelines = true; reconnects = true }
+never_dialled = record (idle true) { pipelines = true; policy = reconnects }
 
 -- the connection that the last link makes, if there was one
 abbrev pub reconnecting : {L : Type 0} → (L → Connection) → Option L → Connection

@@ -2,7 +2,7 @@
 
 ghost use Rattle.std.specs.Prelude.{◌≡◌, false, IfOk, ⊤};
 
-use resp_command::ConnectionLike;
+use resp_command::Unrouted;
 use resp_value::RedisResult;
 
 /// A way to a server: it opens a connection and greets it, as often as it is asked.
@@ -12,7 +12,7 @@ use resp_value::RedisResult;
 /// time, does so in `dial`.
 pub trait Dial {
     /// The connections that it opens.
-    type Link: ConnectionLike + Drop;
+    type Link: Unrouted + Drop;
 
     /// What is known of a link when it was opened: how it was greeted, say, as `Greeted` of
     /// `specs/Greeting.antt` puts it. It is nothing where an implementation doesn't say it.

@@ -1,6 +1,7 @@
 //! What a client says first over a connection.
 
-ghost use Rattle.std.specs.Prelude.{◌≡◌, ◌↔◌, ◌∷◌, [], false, List, Ok, IfOk, OnOk, IsTrue};
+ghost use Rattle.std.specs.Prelude.{◌≡◌, ◌≢◌, ◌↔◌, ◌∷◌, [], false, List, Ok, IfOk, OnOk, IsTrue};
+ghost use Rattle.resp_command.specs.Connection.{routes};
 ghost use Rattle.resp_connect.specs.Greeting.{FallsBack, Greeted, Greets, IsLackOfHello, Said, Says};
 ghost use Rattle.resp_connect.specs.Greeting.{after_hello, auth, hello, in_resp2, refusals, select};
 ghost use Rattle.resp_connect.specs.Greeting.{set_info, set_name, verdict};
@@ -262,7 +263,8 @@ pub fn greet<C: ConnectionLike>(
     settings: &RedisConnectionInfo,
 ) -> Result<ProtocolVersion, GreetingError>
     ensures says { Greets (C.connection con.old) (C.connection con.new) settings.now result }
-    ensures greeted { (C.connection con.old).broken ≡ false → IfOk result
+    ensures greeted { (C.connection con.old).broken ≡ false
+        → (C.connection con.old).policy ≢ routes → IfOk result
         (Greeted (C.connection con.old) (C.connection con.new) settings.now) }
 {
     say(alloc, con, settings)

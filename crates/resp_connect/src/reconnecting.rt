@@ -4,7 +4,7 @@ ghost use Rattle.std.specs.Prelude.{◌≡◌, MatchOption};
 ghost use Rattle.resp_connect.specs.Reconnecting.{never_dialled, reconnecting, replaceable};
 
 use crate::dial::Dial;
-use resp_command::{Cmd, ConnectionLike, PushSource};
+use resp_command::{Cmd, ConnectionLike, PushSource, Unrouted};
 use resp_value::{ErrorKind, PushInfo, RedisError, RedisResult, Value};
 
 /// A connection over the links that a [`Dial`] opens, one after another.
@@ -114,6 +114,12 @@ impl<D: Dial> ConnectionLike for Reconnecting<D> {
             None => false,
         }
     }
+}
+
+impl<D: Dial> Unrouted for Reconnecting<D> {
+    ghost use Rattle.resp_connect.specs.lemmas.Policies.{never_routes};
+
+    ghost unrouted = { λ r. never_routes D.Link.connection r.link };
 }
 
 impl<D: Dial> PushSource for Reconnecting<D>

@@ -10,4 +10,4 @@ returns-in_err-reach g c =
 
 pub returns : goal.returns
 returns g c =
-    called _ _ _ _ _ _ _ _ c.in-Some.link _ (rw (c.in_ok-reach.was, c.in-Some.is) at c.reach.ensures) c.req_command.ensures
+    called _ _ _ _ _ _ _ g.met.D.Link.Unrouted.unrouted _ c.in-Some.link _ (rw (c.in_ok-reach.was, c.in-Some.is) at c.reach.ensures) c.req_command.ensures

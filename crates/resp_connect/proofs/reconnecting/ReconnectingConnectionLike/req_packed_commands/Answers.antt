@@ -10,4 +10,4 @@ returns-in_err-reach-clause-call g c =
 
 pub returns-clause-call : goal.returns-clause-call
 returns-clause-call g c =
-    called _ _ _ _ _ _ _ _ c.in-Some.link _ (rw (c.in_ok-reach.was, c.in-Some.is) at c.reach.ensures) c.req_packed_commands.ensures.call
+    called _ _ _ _ _ _ _ g.met.D.Link.Unrouted.unrouted _ c.in-Some.link _ (rw (c.in_ok-reach.was, c.in-Some.is) at c.reach.ensures) c.req_packed_commands.ensures.call
