@@ -391,8 +391,12 @@ impl Pipeline {
         Err(RedisError::Server(error))
     }
 
-    /// What items make, one for each command. Those that are kept are moved, never copied.
-    fn compose<T: FromRedisValue>(&self, mut items: Vec<Value>) -> RedisResult<T>
+    /// What replies make that were had otherwise than by [`Pipeline::query`], as over several nodes:
+    /// one for each command, or of a transaction the items of the reply to `EXEC`. Those that are
+    /// kept are moved, never copied.
+    ///
+    /// Fails as [`Pipeline::query`] does over such replies.
+    pub fn compose<T: FromRedisValue>(&self, mut items: Vec<Value>) -> RedisResult<T>
         ensures { Composes self.now T.of_value result items.items }
     {
         if !self.ignores_errors && has_server_error(items.as_slice()) {
