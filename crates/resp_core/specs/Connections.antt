@@ -1,12 +1,14 @@
 -- What the contracts of commands and connections cite, given out for the crates of users.
 pub use Rattle.resp_command.specs.Call.{Asks, Call, CommandCall, PackedCall, Answers, AnswersReply}
-pub use Rattle.resp_command.specs.Call.{Reconnects, Refuses, needed, refused, replaced}
+pub use Rattle.resp_command.specs.Call.{Reconnects, Refuses, Routes, needed, refused, replaced}
+pub use Rattle.resp_command.specs.Call.{carried, not_carried}
 pub use Rattle.resp_command.specs.Command.{Command, new_command}
 pub use Rattle.resp_command.specs.CommandQuery.{CommandQuery}
-pub use Rattle.resp_command.specs.Connection.{Connection, Bytes, Exchange, ExchangeOf}
+pub use Rattle.resp_command.specs.Connection.{Connection, Bytes, Exchange, ExchangeOf, LinkPolicy}
 pub use Rattle.resp_command.specs.Connection.{KnownExchange, Moves, SetsAside, idle, push_room}
 pub use Rattle.resp_command.specs.Connection.{replied, malformed, early_end, sink_failed}
 pub use Rattle.resp_command.specs.Connection.{source_failed, out_of_memory}
+pub use Rattle.resp_command.specs.Connection.{stays, reconnects, routes}
 pub use Rattle.resp_command.specs.Cursors.{HoldsCursor, with_cursor, with_cursor_arg}
 pub use Rattle.resp_command.specs.Cursors.{with_extended_arg}
 pub use Rattle.resp_command.specs.NextPush.{IsMessage, IsReply, IsServerError, NextPush}

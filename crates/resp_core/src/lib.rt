@@ -24,8 +24,8 @@ pub use resp_args::{
     ValueComparison, is_valid_16_bytes_hex_digest, write_each_arg,
 };
 pub use resp_command::{
-    Arg, ArgsIter, Cmd, CommandError, ConnectionLike, Iter, PushSource, Scan, ScanProgress, cmd,
-    pack_command,
+    Arg, ArgsIter, Cmd, CommandError, ConnectionLike, Iter, PushSource, Scan, ScanProgress,
+    Unrouted, cmd, pack_command,
 };
 pub use resp_flat::{FlatElements, FlatPairs, FlatReply, FlatValue, Token, TokenKind};
 pub use resp_from::{
