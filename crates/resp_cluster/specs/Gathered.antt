@@ -56,10 +56,11 @@ module _ {S : Type 0} (sends : S → S → ℕ → List ℕ → ℕ → Result (
       pub refused : sends before new (length groups) (request_of (of_node (length groups) targets commands))
           (length (of_node (length groups) targets commands)) (Err e)
 
-module _ {S : Type 0} (follows : S → S → Command → Value → Result Value RedisError → Type 0) where
+module _ {S : Type 0} (follows : S → S → ℕ → Command → Value → Result Value RedisError → Type 0) where
   -- each command goes on from its reply, one after the other, and these are the answers
-  abbrev pub FollowedEach : S → List Command → List Value → List Value → S → Type 0
-  FollowedEach old (command ∷ commands) (reply ∷ replies) (answer ∷ answers) new =
-      (between : S) × (follows old between command reply (Ok answer) × FollowedEach between commands replies answers new)
-  FollowedEach old [] [] [] new = old ≡ new
-  FollowedEach old commands replies answers new = ⊥
+  abbrev pub FollowedEach : S → List ℕ → List Command → List Value → List Value → S → Type 0
+  FollowedEach old (target ∷ targets) (command ∷ commands) (reply ∷ replies) (answer ∷ answers) new =
+      (between : S) × (follows old between target command reply (Ok answer)
+      × FollowedEach between targets commands replies answers new)
+  FollowedEach old [] [] [] [] new = old ≡ new
+  FollowedEach old targets commands replies answers new = ⊥

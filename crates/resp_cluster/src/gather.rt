@@ -30,12 +30,12 @@ pub trait SendGroups {
         ensures sent { sends self.old self.new node request.now count result }
         ensures counted { IfOk result (λ replies. length replies ≡ count) };
 
-    /// What following the reply to a command does, and what is answered then.
-    ghost follows: { Self → Self → Command → Value → Result Value RedisError → Type 0 };
+    /// What following the reply of a node to a command does, and what is answered then.
+    ghost follows: { Self → Self → ℕ → Command → Value → Result Value RedisError → Type 0 };
 
-    /// Sends a command on to where its reply points; a reply that points nowhere is the answer.
-    fn follow_reply(&mut self, command: &Cmd, reply: Value) -> RedisResult<Value>
-        ensures { follows self.old self.new command.now reply result };
+    /// Sends a command on to where the reply of a node points; one that points nowhere is the answer.
+    fn follow_reply(&mut self, node: usize, command: &Cmd, reply: Value) -> RedisResult<Value>
+        ensures { follows self.old self.new node command.now reply result };
 }
 
 /// The commands that go to a node: their bytes, and how many they are.
@@ -70,15 +70,17 @@ pub(crate) fn follow_each<N: SendGroups>(
     alloc: Global,
     nodes: &mut N,
     commands: &[Cmd],
+    targets: &[usize],
     replies: Vec<Value>,
 ) -> RedisResult<Vec<Value>>
-    requires each { length replies.items ≡ length commands.now }
-    ensures { IfOk result (λ answers. FollowedEach N.follows nodes.old commands.now replies.items
-        answers.items nodes.new) }
+    requires targets { length targets.now ≡ length commands.now }
+    requires replies { length replies.items ≡ length commands.now }
+    ensures { IfOk result (λ answers. FollowedEach N.follows nodes.old targets.now commands.now
+        replies.items answers.items nodes.new) }
 {
     let mut answers = Vec::with_capacity(alloc, commands.len())?;
     for (place, reply) in replies.into_iter().enumerate() {
-        answers.push(nodes.follow_reply(&commands[place], reply)?)?;
+        answers.push(nodes.follow_reply(targets[place], &commands[place], reply)?)?;
     }
     Ok(answers)
 }
