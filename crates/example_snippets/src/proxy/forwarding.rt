@@ -1,7 +1,7 @@
 //! One request and its reply, handed on.
 
-ghost use Rattle.std.specs.Prelude.{◌≡◌, ◌++◌, OnOk, false};
-ghost use Rattle.resp_core.specs.Connections.{PackedCall};
+ghost use Rattle.std.specs.Prelude.{◌≡◌, ◌≢◌, ◌++◌, OnOk, false};
+ghost use Rattle.resp_core.specs.Connections.{PackedCall, routes};
 ghost use Rattle.example_snippets.specs.Relayed.{Relays};
 
 use crate::proxy::reply::Reply;
@@ -14,7 +14,8 @@ use resp_encode::encode;
 pub fn forward(upstream: &mut dyn ConnectionLike, request: &[u8]) -> Reply
     ensures call { PackedCall (connection upstream.old) (connection upstream.new) request.now
         result }
-    ensures sent { (connection upstream.old).broken ≡ false → OnOk result
+    ensures sent { (connection upstream.old).broken ≡ false
+        → (connection upstream.old).policy ≢ routes → OnOk result
         ((connection upstream.new).sent ≡ (connection upstream.old).sent ++ request.now) }
 {
     upstream.req_packed_command(request)
