@@ -1,6 +1,6 @@
 -- The replies of several nodes, put in the places of the commands.
 use Rattle.std.proofs.Common.{◌≡◌, ℕ, zero, suc, ◌+◌, ◌<◌, ◌==◌, Bool, true, false, List, [], ◌∷◌, ◌++◌, map, length, take, drop, get_or}
-use Rattle.std.proofs.Common.{set, refl, sym, ap, ◌∙◌, append_assoc, append-nil, arith, inl, inr, Result, Err, if◌then◌else◌, All}
+use Rattle.std.proofs.Common.{set, refl, sym, ap, ◌∙◌, append_assoc, append-nil, arith, inl, inr, Result, Err, Some, slice_get, if◌then◌else◌, All}
 use Rattle.std.proofs.Common.{slice_index_or, slice_set, eqb-true, eq-eqb, ne_eqb, flat_map, ◌≤◌, zero-le, subst}
 use Rattle.std.proofs.lemmas.Bool.{eqb-false}
 use Rattle.std.proofs.lemmas.List.{take_more, drop_more, take_all, drop_all, get_or-set_same, get_or-set_other, length-set}
@@ -11,6 +11,7 @@ use Rattle.resp_command.specs.Command.{Command}
 use Rattle.resp_command.specs.Packed.{packed}
 use Rattle.resp_cluster.specs.Gathered.{InPlaces, RefusedGroup, SentEach, SentGroup, given_by, of_node, request_of}
 use Rattle.resp_cluster.specs.Gathering.{Enough}
+use Rattle.resp_cluster.specs.declared.node.NodeAddr.{NodeAddr}
 
 -- ---- what stands in the places of a node's commands
 
@@ -211,36 +212,60 @@ all_placed all groups targets replies p node inside =
 
 -- ---- one node after another
 
-module _ {S : Type 0} (sends : S → S → ℕ → List ℕ → ℕ → Result (List Value) RedisError → Type 0)
-    (commands : List Command) (targets : List ℕ) where
-  pub one_more : (first : ℕ) (old : S) (groups : List (List Value)) (between : S) (node : ℕ) (replies : List Value) (new : S)
-      → SentEach sends commands targets first old groups between → node ≡ first + length groups
-      → SentGroup sends (of_node node targets commands) between node replies new
-      → SentEach sends commands targets first old (groups ++ replies ∷ []) new
-  one_more first old [] between node replies new is at h =
-      let same : node ≡ first = omega arith in
-      (new, (rw (is, ← same) h, refl))
-  one_more first old (group ∷ groups) between node replies new (next, (sent, more)) at h =
-      (next, (sent, one_more (first + 1) next groups between node replies new more (omega arith) h))
+at_place : (nodes : List NodeAddr) (place : ℕ) (d : NodeAddr) → place < length nodes → slice_get nodes place ≡ Some (get_or nodes place d)
+at_place [] place d h = absurd (omega arith)
+at_place (node ∷ nodes) zero d h = refl
+at_place (node ∷ nodes) (suc place) d h = at_place nodes place d (omega arith)
 
-  pub stopped : (old : S) (groups : List (List Value)) (before : S) (node : ℕ) (new : S) (e : RedisError)
-      → SentEach sends commands targets 0 old groups before → node ≡ length groups
-      → sends before new node (request_of (of_node node targets commands)) (length (of_node node targets commands)) (Err e)
-      → RefusedGroup sends commands targets old new e
-  stopped old groups before node new e sent at refused = record {
+-- the node at a place
+pub node_at : (nodes : List NodeAddr) (place n : ℕ) (node : NodeAddr) → place ≡ n → place < length nodes → node ≡ get_or nodes place node
+    → slice_get nodes n ≡ Some node
+node_at nodes place n node same within is = rw (← same) (at_place nodes place node within ∙ ap Some (sym is))
+
+module _ {S : Type 0} (sends : S → S → NodeAddr → List ℕ → ℕ → Result (List Value) RedisError → Type 0)
+    (commands : List Command) (targets : List ℕ) where
+  pub one_more : (first : ℕ) (nodes : List NodeAddr) (old : S) (groups : List (List Value)) (between : S) (place : ℕ)
+      (node : NodeAddr) (replies : List Value) (new : S) → SentEach sends commands targets first nodes old groups between
+      → place ≡ first + length groups → slice_get nodes (length groups) ≡ Some node
+      → SentGroup sends (of_node place targets commands) between node replies new
+      → SentEach sends commands targets first nodes old (groups ++ replies ∷ []) new
+  one_more first [] old [] between place node replies new is at which h = absurd (some_none which)
+    where
+      some_none : {n : NodeAddr} → slice_get [] 0 ≡ Some n → ⊥
+      some_none {n} e = cc
+  one_more first (it ∷ nodes) old [] between place node replies new is at which h =
+      let same : place ≡ first = omega arith in
+      (new, (rw (is, ← same, only which) h, refl))
+    where
+      only : slice_get (it ∷ nodes) 0 ≡ Some node → it ≡ node
+      only e = cc
+  one_more first [] old (group ∷ groups) between place node replies new sent at which h = absurd sent
+  one_more first (it ∷ nodes) old (group ∷ groups) between place node replies new (next, (sent, more)) at which h =
+      (next, (sent, one_more (first + 1) nodes next groups between place node replies new more (omega arith) which h))
+
+  pub stopped : (nodes : List NodeAddr) (old : S) (groups : List (List Value)) (before : S) (place : ℕ) (node : NodeAddr) (new : S)
+      (e : RedisError) → SentEach sends commands targets 0 nodes old groups before → place ≡ length groups
+      → slice_get nodes (length groups) ≡ Some node
+      → sends before new node (request_of (of_node place targets commands)) (length (of_node place targets commands)) (Err e)
+      → RefusedGroup sends commands targets nodes old new e
+  stopped nodes old groups before place node new e sent at which refused = record {
     groups = groups;
     before = before;
+    node = node;
+    which = which;
     sent = sent;
     refused = rw (← at) refused;
   }
 
   -- each gave as many as it was sent
-  pub enough_of : (node : ℕ) (old : S) (groups : List (List Value)) (new : S) → SentEach sends commands targets node old groups new
-      → (k : ℕ) → k < length groups → length (given_by groups k) ≡ length (of_node (node + k) targets commands)
-  enough_of node old [] new h k inside = absurd (omega arith)
-  enough_of node old (group ∷ groups) new (first, (sent, more)) zero inside =
-      let at : node + 0 ≡ node = omega arith in
+  pub enough_of : (first : ℕ) (nodes : List NodeAddr) (old : S) (groups : List (List Value)) (new : S)
+      → SentEach sends commands targets first nodes old groups new → (k : ℕ) → k < length groups
+      → length (given_by groups k) ≡ length (of_node (first + k) targets commands)
+  enough_of first nodes old [] new h k inside = absurd (omega arith)
+  enough_of first [] old (group ∷ groups) new h k inside = absurd h
+  enough_of first (node ∷ nodes) old (group ∷ groups) new (next, (sent, more)) zero inside =
+      let at : first + 0 ≡ first = omega arith in
       rw at sent.counted
-  enough_of node old (group ∷ groups) new (first, (sent, more)) (suc k) inside =
-      let at : node + suc k ≡ (node + 1) + k = omega arith in
-      rw at (enough_of (node + 1) first groups new more k (omega arith))
+  enough_of first (node ∷ nodes) old (group ∷ groups) new (next, (sent, more)) (suc k) inside =
+      let at : first + suc k ≡ (first + 1) + k = omega arith in
+      rw at (enough_of (first + 1) nodes next groups new more k (omega arith))

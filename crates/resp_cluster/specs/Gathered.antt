@@ -1,11 +1,12 @@
 -- Several commands over the nodes of a cluster, each of which is sent those that go there as one request.
-use Rattle.std.specs.Prelude.{◌≡◌, ◌≢◌, ℕ, ◌+◌, ◌<◌, ◌==◌, List, [], ◌∷◌, map, length, slice_index_or, Result, Ok, Err}
+use Rattle.std.specs.Prelude.{◌≡◌, ◌≢◌, ℕ, ◌+◌, ◌<◌, ◌==◌, List, [], ◌∷◌, map, length, slice_get, slice_index_or, Result, Ok, Err, Some}
 use Rattle.std.specs.Prelude.{if◌then◌else◌}
 use Rattle.std.specs.List.{flat_map}
 use Rattle.resp_value.specs.declared.value.Value.{Value}
 use Rattle.resp_errors.specs.declared.redis_error.RedisError.{RedisError}
 use Rattle.resp_command.specs.Command.{Command}
 use Rattle.resp_command.specs.Packed.{packed}
+use Rattle.resp_cluster.specs.declared.node.NodeAddr.{NodeAddr}
 
 -- of what stands in the places of commands, that of the commands that go to this node
 abbrev pub of_node : {A : Type 0} → ℕ → List ℕ → List A → List A
@@ -26,41 +27,47 @@ given_by groups node = slice_index_or groups node []
 abbrev pub InPlaces : List (List Value) → List ℕ → List Value → Type 0
 InPlaces groups targets replies = (node : ℕ) → node < length groups → of_node node targets replies ≡ given_by groups node
 
-module _ {S : Type 0} (sends : S → S → ℕ → List ℕ → ℕ → Result (List Value) RedisError → Type 0) where
+module _ {S : Type 0} (sends : S → S → NodeAddr → List ℕ → ℕ → Result (List Value) RedisError → Type 0) where
   -- a node is sent commands as one request, and gives as many replies; where there are none, nothing is sent
-  pub record SentGroup (group : List Command) (old : S) (node : ℕ) (replies : List Value) (new : S) : Type 0 where
+  pub record SentGroup (group : List Command) (old : S) (node : NodeAddr) (replies : List Value) (new : S) : Type 0 where
     pub counted : length replies ≡ length group
     pub none : group ≡ [] → new ≡ old
     pub some : group ≢ [] → sends old new node (request_of group) (length group) (Ok replies)
 
   module _ (commands : List Command) (targets : List ℕ) where
-    -- the nodes from this one on, in order, are sent each its commands, and give these replies
-    abbrev pub SentEach : ℕ → S → List (List Value) → S → Type 0
-    SentEach node old [] new = old ≡ new
-    SentEach node old (replies ∷ more) new =
-        (between : S) × (SentGroup (of_node node targets commands) old node replies between × SentEach (node + 1) between more new)
+    -- nodes in order, of which the first is at this place, are sent each its commands, and give these replies
+    abbrev pub SentEach : ℕ → List NodeAddr → S → List (List Value) → S → Type 0
+    SentEach place (node ∷ nodes) old (replies ∷ more) new =
+        (between : S) × (SentGroup (of_node place targets commands) old node replies between
+        × SentEach (place + 1) nodes between more new)
+    SentEach place nodes old [] new = old ≡ new
+    SentEach place [] old (replies ∷ more) new = ⊥
 
     -- each node is sent its commands, and each command has its reply
-    pub record Gathered (count : ℕ) (old : S) (replies : List Value) (new : S) : Type 0 where
+    pub record Gathered (nodes : List NodeAddr) (old : S) (replies : List Value) (new : S) : Type 0 where
       pub groups : List (List Value)
-      pub each : length groups ≡ count
-      pub sent : SentEach 0 old groups new
+      pub each : length groups ≡ length nodes
+      pub sent : SentEach 0 nodes old groups new
       pub placed : InPlaces groups targets replies
       pub whole : length replies ≡ length commands
 
     -- a node refuses its commands, after those before it were sent theirs
-    pub record RefusedGroup (old new : S) (e : RedisError) : Type 0 where
+    pub record RefusedGroup (nodes : List NodeAddr) (old new : S) (e : RedisError) : Type 0 where
       pub groups : List (List Value)
       pub before : S
-      pub sent : SentEach 0 old groups before
-      pub refused : sends before new (length groups) (request_of (of_node (length groups) targets commands))
+      pub node : NodeAddr
+      pub which : slice_get nodes (length groups) ≡ Some node
+      pub sent : SentEach 0 nodes old groups before
+      pub refused : sends before new node (request_of (of_node (length groups) targets commands))
           (length (of_node (length groups) targets commands)) (Err e)
 
-module _ {S : Type 0} (follows : S → S → ℕ → Command → Value → Result Value RedisError → Type 0) where
-  -- each command goes on from its reply, one after the other, and these are the answers
+module _ {S : Type 0} (follows : S → S → NodeAddr → Command → Value → Result Value RedisError → Type 0)
+    (nodes : List NodeAddr) where
+  -- each command goes on from its node's reply, one after the other, and these are the answers
   abbrev pub FollowedEach : S → List ℕ → List Command → List Value → List Value → S → Type 0
   FollowedEach old (target ∷ targets) (command ∷ commands) (reply ∷ replies) (answer ∷ answers) new =
-      (between : S) × (follows old between target command reply (Ok answer)
-      × FollowedEach between targets commands replies answers new)
+      (node : NodeAddr) × ((slice_get nodes target ≡ Some node)
+      × (between : S) × (follows old between node command reply (Ok answer)
+      × FollowedEach between targets commands replies answers new))
   FollowedEach old [] [] [] [] new = old ≡ new
   FollowedEach old targets commands replies answers new = ⊥

@@ -6,36 +6,44 @@ ghost use Rattle.resp_cluster.specs.Gathered.{FollowedEach, Gathered, InPlaces, 
 ghost use Rattle.resp_cluster.specs.Gathered.{SentGroup, of_node, request_of};
 ghost use Rattle.resp_cluster.specs.Gathering.{Enough, from_last};
 
+use crate::node::NodeAddr;
 use resp_command::Cmd;
 use resp_value::{Items, RedisError, RedisResult, Value};
 use std::alloc::Global;
 
-/// The nodes of a cluster, by number, over which several commands are sent.
+/// What several commands are sent by: the nodes of a cluster, and the links to them.
 pub trait SendGroups {
     ghost use Rattle.std.specs.Prelude.{◌≡◌, ℕ, IfOk, List, Result, length};
     ghost use Rattle.resp_value.specs.declared.value.Value.{Value};
     ghost use Rattle.resp_errors.specs.declared.redis_error.RedisError.{RedisError};
     ghost use Rattle.resp_command.specs.Command.{Command};
+    ghost use Rattle.resp_cluster.specs.declared.node.NodeAddr.{NodeAddr};
 
     /// What sending a node a request of so many commands does, and which replies it gives.
-    ghost sends: { Self → Self → ℕ → List ℕ → ℕ → Result (List Value) RedisError → Type 0 };
+    ghost sends: { Self → Self → NodeAddr → List ℕ → ℕ → Result (List Value) RedisError
+        → Type 0 };
 
     /// Sends a node a request of so many commands, and answers as many replies.
     fn send_group(
         &mut self,
-        node: usize,
+        node: &NodeAddr,
         request: &[u8],
         count: usize,
     ) -> RedisResult<Items<Value>>
-        ensures sent { sends self.old self.new node request.now count result }
+        ensures sent { sends self.old self.new node.now request.now count result }
         ensures counted { IfOk result (λ replies. length replies ≡ count) };
 
     /// What following the reply of a node to a command does, and what is answered then.
-    ghost follows: { Self → Self → ℕ → Command → Value → Result Value RedisError → Type 0 };
+    ghost follows: { Self → Self → NodeAddr → Command → Value → Result Value RedisError → Type 0 };
 
     /// Sends a command on to where the reply of a node points; one that points nowhere is the answer.
-    fn follow_reply(&mut self, node: usize, command: &Cmd, reply: Value) -> RedisResult<Value>
-        ensures { follows self.old self.new node command.now reply result };
+    fn follow_reply(
+        &mut self,
+        node: &NodeAddr,
+        command: &Cmd,
+        reply: Value,
+    ) -> RedisResult<Value>
+        ensures { follows self.old self.new node.now command.now reply result };
 }
 
 /// The commands that go to a node: their bytes, and how many they are.
@@ -46,89 +54,94 @@ struct Group {
 }
 
 /// Sends each node the commands that go to it, and puts each reply in the place of its command.
-pub(crate) fn gather<N: SendGroups>(
+pub(crate) fn gather<C: SendGroups>(
     alloc: Global,
-    nodes: &mut N,
-    count: usize,
+    cluster: &mut C,
+    nodes: &[NodeAddr],
     commands: &[Cmd],
     targets: &[usize],
 ) -> RedisResult<Vec<Value>>
-    requires known { All (λ node. node < count) targets.now }
+    requires known { All (λ node. node < length nodes.now) targets.now }
     requires each { length targets.now ≡ length commands.now }
-    ensures gathered { IfOk result (λ replies. Gathered N.sends commands.now targets.now count
-        nodes.old replies.items nodes.new) }
+    ensures gathered { IfOk result (λ replies. Gathered C.sends commands.now targets.now nodes.now
+        cluster.old replies.items cluster.new) }
     ensures refused { IfErr result (λ e. (e ≡ RedisError.OutOfMemory)
-        ⊎ RefusedGroup N.sends commands.now targets.now nodes.old nodes.new e) }
+        ⊎ RefusedGroup C.sends commands.now targets.now nodes.now cluster.old cluster.new e) }
 {
-    let mut groups = send_groups(alloc, nodes, count, commands, targets)?;
+    let mut groups = send_groups(alloc, cluster, nodes, commands, targets)?;
     let replies = in_places(alloc, &mut groups, targets)?;
     Ok(replies)
 }
 
 /// Sends each command on to where its reply points, one after the other.
-pub(crate) fn follow_each<N: SendGroups>(
+pub(crate) fn follow_each<C: SendGroups>(
     alloc: Global,
-    nodes: &mut N,
+    cluster: &mut C,
+    nodes: &[NodeAddr],
     commands: &[Cmd],
     targets: &[usize],
     replies: Vec<Value>,
 ) -> RedisResult<Vec<Value>>
+    requires known { All (λ node. node < length nodes.now) targets.now }
     requires targets { length targets.now ≡ length commands.now }
     requires replies { length replies.items ≡ length commands.now }
-    ensures { IfOk result (λ answers. FollowedEach N.follows nodes.old targets.now commands.now
-        replies.items answers.items nodes.new) }
+    ensures { IfOk result (λ answers. FollowedEach C.follows nodes.now cluster.old targets.now
+        commands.now replies.items answers.items cluster.new) }
 {
     let mut answers = Vec::with_capacity(alloc, commands.len())?;
     for (place, reply) in replies.into_iter().enumerate() {
-        answers.push(nodes.follow_reply(targets[place], &commands[place], reply)?)?;
+        let node = &nodes[targets[place]];
+        answers.push(cluster.follow_reply(node, &commands[place], reply)?)?;
     }
     Ok(answers)
 }
 
 /// Sends each node the commands that go to it; answers its replies, the last one first.
-fn send_groups<N: SendGroups>(
+fn send_groups<C: SendGroups>(
     alloc: Global,
-    nodes: &mut N,
-    count: usize,
+    cluster: &mut C,
+    nodes: &[NodeAddr],
     commands: &[Cmd],
     targets: &[usize],
 ) -> RedisResult<Vec<Vec<Value>>>
     requires each { length targets.now ≡ length commands.now }
-    ensures count { IfOk result (λ groups. length groups.items ≡ count) }
-    ensures sent { IfOk result (λ groups. SentEach N.sends commands.now targets.now 0 nodes.old
-        (map from_last groups.items) nodes.new) }
+    ensures count { IfOk result (λ groups. length groups.items ≡ length nodes.now) }
+    ensures sent { IfOk result (λ groups. SentEach C.sends commands.now targets.now 0 nodes.now
+        cluster.old (map from_last groups.items) cluster.new) }
     ensures refused { IfErr result (λ e. (e ≡ RedisError.OutOfMemory)
-        ⊎ RefusedGroup N.sends commands.now targets.now nodes.old nodes.new e) }
+        ⊎ RefusedGroup C.sends commands.now targets.now nodes.now cluster.old cluster.new e) }
 {
-    let mut groups = Vec::with_capacity(alloc, count)?;
-    for node in 0..count {
-        let mut replies = send_to(alloc, nodes, node, commands, targets)?;
+    let mut groups = Vec::with_capacity(alloc, nodes.len())?;
+    for place in 0..nodes.len() {
+        let mut replies = send_to(alloc, cluster, &nodes[place], place, commands, targets)?;
         replies.reverse();
         groups.push(replies)?;
     }
     Ok(groups)
 }
 
-/// Sends a node the commands that go to it, if there are any.
-fn send_to<N: SendGroups>(
+/// Sends a node, which is at this place among the nodes, the commands that go to it, if there are any.
+fn send_to<C: SendGroups>(
     alloc: Global,
-    nodes: &mut N,
-    node: usize,
+    cluster: &mut C,
+    node: &NodeAddr,
+    place: usize,
     commands: &[Cmd],
     targets: &[usize],
 ) -> RedisResult<Vec<Value>>
     requires each { length targets.now ≡ length commands.now }
-    ensures sent { IfOk result (λ replies. SentGroup N.sends (of_node node targets.now commands.now)
-        nodes.old node replies.items nodes.new) }
+    ensures sent { IfOk result (λ replies. SentGroup C.sends
+        (of_node place targets.now commands.now) cluster.old node.now replies.items cluster.new) }
     ensures refused { IfErr result (λ e. (e ≡ RedisError.OutOfMemory)
-        ⊎ N.sends nodes.old nodes.new node (request_of (of_node node targets.now commands.now))
-        (length (of_node node targets.now commands.now)) (Err e)) }
+        ⊎ C.sends cluster.old cluster.new node.now
+        (request_of (of_node place targets.now commands.now))
+        (length (of_node place targets.now commands.now)) (Err e)) }
 {
-    let group = group_of(alloc, node, commands, targets)?;
+    let group = group_of(alloc, place, commands, targets)?;
     if group.count == 0 {
         return Ok(Vec::new(alloc));
     }
-    let replies = nodes.send_group(node, group.request.as_slice(), group.count)?;
+    let replies = cluster.send_group(node, group.request.as_slice(), group.count)?;
     Ok(replies.into_vec())
 }
 

@@ -8,5 +8,5 @@ abbrev pub invariant-loop-place : goal.invariant-loop-place
 invariant-loop-place g l =
     (goal.iterator-loop-place g).can_next l.place-iterator
     × (goal.iterator-loop-place g).is_finite l.place-iterator
-    × FollowedSoFar g.N.SendGroups.follows l.initial.nodes l.targets l.commands l.fn.replies.items l.answers.items
-    (into_iter_items (enumerate_source l.place-iterator)) (enumerate_count l.place-iterator) l.nodes
+    × FollowedSoFar g.C.SendGroups.follows l.nodes l.initial.cluster l.targets l.commands l.fn.replies.items l.answers.items
+    (into_iter_items (enumerate_source l.place-iterator)) (enumerate_count l.place-iterator) l.cluster

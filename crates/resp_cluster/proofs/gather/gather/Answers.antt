@@ -8,7 +8,7 @@ use Rattle.resp_cluster.proofs.gather.gather.Goals as goal
 pub in_places-requires-clause-enough : goal.in_places-requires-clause-enough
 in_places-requires-clause-enough g c node inside =
     let at : 0 + node ≡ node = omega arith in
-    enough_of _ _ _ 0 _ _ _ c.in_ok-groups.ensures.sent node inside
+    enough_of _ _ _ 0 _ _ _ _ c.in_ok-groups.ensures.sent node inside
     ∙ ap (λ n. length (of_node n c.args.targets.now c.args.commands.now)) at
     ∙ as_many node c.args.targets.now c.args.commands.now c.args.targets.now (sym c.requires.each)
 
