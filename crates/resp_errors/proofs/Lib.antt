@@ -1,3 +1,4 @@
 pub mod Digits
 pub mod ErrorTexts
+pub mod IoErrors
 pub mod Words

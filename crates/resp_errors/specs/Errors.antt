@@ -16,7 +16,8 @@ use Rattle.resp_errors.specs.declared.kinds.IoKind.{IoKind}
 use Rattle.resp_errors.specs.declared.kinds.IoKind.TheVariants.{NotFound, PermissionDenied, ConnectionRefused}
 use Rattle.resp_errors.specs.declared.kinds.IoKind.TheVariants.{ConnectionReset, ConnectionAborted, NotConnected}
 use Rattle.resp_errors.specs.declared.kinds.IoKind.TheVariants.{BrokenPipe, WouldBlock, TimedOut, Interrupted}
-use Rattle.resp_errors.specs.declared.kinds.IoKind.TheVariants.{Unsupported, UnexpectedEof, WriteZero, Other}
+use Rattle.resp_errors.specs.declared.kinds.IoKind.TheVariants.{Unsupported, UnexpectedEof, WriteZero, OutOfMemory}
+use Rattle.resp_errors.specs.declared.kinds.IoKind.TheVariants.{Other}
 use Rattle.std.specs.declared.io.ErrorKind as device
 use Rattle.std.specs.declared.io.ErrorKind.TheVariants as device_kind
 use Rattle.resp_errors.specs.declared.server_error.ServerError.{ServerError}
@@ -74,6 +75,7 @@ io_kind_of_kind device_kind.Interrupted = Interrupted
 io_kind_of_kind device_kind.Unsupported = Unsupported
 io_kind_of_kind device_kind.UnexpectedEof = UnexpectedEof
 io_kind_of_kind device_kind.WriteZero = WriteZero
+io_kind_of_kind device_kind.OutOfMemory = OutOfMemory
 io_kind_of_kind _ = Other
 
 abbrev pub fault_text : FrameFault → List ℕ
@@ -99,6 +101,11 @@ abbrev pub fault_of_parsing : ParsingError → Option FrameFault
 fault_of_parsing (parsing.Described text) = None
 fault_of_parsing (parsing.Fault fault) = Some fault
 fault_of_parsing parsing.OutOfMemory = None
+
+-- the fault of a reader or a writer as an error of a call: want of memory is out of memory
+abbrev pub error_of_io : IoKind → RedisError
+error_of_io OutOfMemory = form.OutOfMemory
+error_of_io k = form.Io k
 
 -- a parsing error as an error of a call: out of memory is the same in both
 abbrev pub error_of_parsing : ParsingError → RedisError

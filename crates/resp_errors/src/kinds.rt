@@ -180,7 +180,7 @@ impl From<ServerErrorKind> for ErrorKind {
 
 /// The kind of a fault of a reader or a writer.
 ///
-/// A fault of the standard library with one of the first thirteen kinds has the kind of that name;
+/// A fault of the standard library with one of the first fourteen kinds has the kind of that name;
 /// every other is `Other`.
 #[derive(Clone, Copy, PartialEq, Eq, Debug)]
 pub enum IoKind {
@@ -210,6 +210,8 @@ pub enum IoKind {
     UnexpectedEof,
     /// A write took no byte.
     WriteZero,
+    /// Memory ran out. As an error of a call it is `RedisError::OutOfMemory`.
+    OutOfMemory,
     /// A fault of any other kind.
     Other,
 }
@@ -232,6 +234,7 @@ impl From<io::ErrorKind> for IoKind {
             io::ErrorKind::Unsupported => IoKind::Unsupported,
             io::ErrorKind::UnexpectedEof => IoKind::UnexpectedEof,
             io::ErrorKind::WriteZero => IoKind::WriteZero,
+            io::ErrorKind::OutOfMemory => IoKind::OutOfMemory,
             _ => IoKind::Other,
         }
     }

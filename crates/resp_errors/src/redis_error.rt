@@ -4,7 +4,7 @@ ghost use Rattle.std.specs.Prelude.{◌≡◌, ◌↔◌, IsTrue, IfOk, Some, No
 ghost use Rattle.std.specs.Option.{option_copied};
 ghost use Rattle.resp_errors.specs.Errors.{kind_of, detail_of, code_of, category_of_kind, fault_of};
 ghost use Rattle.resp_errors.specs.Errors.{io_kind_of, server_errors_of, first_server_error_of};
-ghost use Rattle.resp_errors.specs.Errors.{error_of_parsing};
+ghost use Rattle.resp_errors.specs.Errors.{error_of_io, error_of_parsing};
 ghost use Rattle.resp_errors.specs.Descriptions.{fitting};
 ghost use Rattle.resp_errors.specs.Memory.{OnlyMemory};
 ghost use Rattle.resp_errors.specs.declared.redis_error.RedisError.TheVariants as form;
@@ -40,7 +40,7 @@ pub enum RedisError {
         #[derive_where(skip)]
         detail: Option<Text>,
     },
-    /// A fault of a reader or a writer.
+    /// A fault of a reader or a writer. One that is for want of memory is `OutOfMemory`.
     Io(IoKind),
     /// Bytes that are no reply, or a reply that doesn't convert.
     Parse(ParsingError),
@@ -299,21 +299,24 @@ impl From<ParsingError> for RedisError {
 }
 
 impl From<IoKind> for RedisError {
-    ghost from_gives = { λ k e. e ≡ form.Io k };
+    ghost from_gives = { λ k e. e ≡ error_of_io k };
 
     fn from(kind: IoKind) -> RedisError {
-        RedisError::Io(kind)
+        match kind {
+            IoKind::OutOfMemory => RedisError::OutOfMemory,
+            other => RedisError::Io(other),
+        }
     }
 }
 
 impl From<io::Error> for RedisError {
-    ghost use Rattle.resp_errors.specs.Errors.{io_kind_of_kind};
+    ghost use Rattle.resp_errors.specs.Errors.{error_of_io, io_kind_of_kind};
     ghost use Rattle.std.specs.IoError.{error_kind};
 
-    ghost from_gives = { λ x e. e ≡ form.Io (io_kind_of_kind (error_kind x)) };
+    ghost from_gives = { λ x e. e ≡ error_of_io (io_kind_of_kind (error_kind x)) };
 
     fn from(error: io::Error) -> RedisError {
-        RedisError::Io(IoKind::from(error.kind()))
+        RedisError::from(IoKind::from(error.kind()))
     }
 }
 
