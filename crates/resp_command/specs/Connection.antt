@@ -6,6 +6,8 @@ use Rattle.std.specs.Io.KnownBytes.{Appends, Consumes, IsAtEnd}
 use Rattle.resp_value.specs.declared.value.Value.{Value}
 use Rattle.resp_value.specs.declared.value.PushInfo.{PushInfo}
 use Rattle.resp_errors.specs.declared.kinds.FrameFault.{FrameFault}
+use Rattle.resp_errors.specs.Errors.{error_of_io}
+use Rattle.resp_errors.specs.declared.kinds.IoKind.{IoKind}
 use Rattle.resp_errors.specs.declared.kinds.IoKind.TheVariants.{UnexpectedEof}
 use Rattle.resp_errors.specs.declared.parsing_error.ParsingError.TheVariants.{Fault}
 use Rattle.resp_errors.specs.declared.redis_error.RedisError.{RedisError}
@@ -155,9 +157,10 @@ pub record EndedEarly {A : Type 0} (bytes : Bytes) (old new : Connection) (q : L
   pub no_failure : NoFailure old new
   pub answer : result ≡ Err (Io UnexpectedEof)
 
-abbrev pub IsIo : RedisError → Type 0
-IsIo (Io kind) = Unit {0}
-IsIo _ = ⊥
+-- the error of a fault of the source or the sink
+pub record IsFault (e : RedisError) : Type 0 where
+  pub kind : IoKind
+  pub is : e ≡ error_of_io kind
 
 -- nothing came and nothing was taken
 pub record ReceivedNothing (old new : Connection) : Type 0 where
@@ -173,7 +176,7 @@ pub record SinkFailed {A : Type 0} (bytes : Bytes) (old new : Connection) (q : L
   pub broken : new.broken ≡ true
   pub source : new.source_failures ≡ old.source_failures
   pub counted : FailureCounted old.sink_failures new.sink_failures
-  pub answer : IsErrAnd result IsIo
+  pub answer : IsErrAnd result IsFault
 
 -- frames that hold fewer than n replies were taken, and these pushes among them set aside; all that
 -- came after them is incomplete
@@ -195,7 +198,7 @@ pub record SourceFailed {A : Type 0} (bytes : Bytes) (old new : Connection) (q :
   pub broken : new.broken ≡ true
   pub counted : FailureCounted old.source_failures new.source_failures
   pub sink : new.sink_failures ≡ old.sink_failures
-  pub answer : IsErrAnd result IsIo
+  pub answer : IsErrAnd result IsFault
 
 -- frames were taken, and the pushes among them set aside, but for a last one that is a push and
 -- found no room in memory

@@ -10,6 +10,7 @@ use Rattle.resp_value.specs.declared.names.PushKind.TheVariants as kinds
 use Rattle.resp_value.specs.Names.{name_of_push_kind}
 use Rattle.resp_errors.specs.declared.kinds.ErrorKind.TheVariants as kind
 use Rattle.resp_errors.specs.declared.kinds.FrameFault.{FrameFault}
+use Rattle.resp_errors.specs.Errors.{error_of_io}
 use Rattle.resp_errors.specs.declared.kinds.IoKind.{IoKind}
 use Rattle.resp_errors.specs.declared.kinds.IoKind.TheVariants.{UnexpectedEof}
 use Rattle.resp_errors.specs.declared.parsing_error.ParsingError.TheVariants.{Fault}
@@ -157,7 +158,7 @@ pub record SourceFailed (incoming : List ℕ) (old new : Connection)
   pub kind : IoKind
   pub incomplete : Awaits old.limits incoming
   pub left : new.received ≡ incoming
-  pub breaks : Breaks new (Io kind) r
+  pub breaks : Breaks new (error_of_io kind) r
   pub counted : FailureCounted old.source_failures new.source_failures
   pub sink : new.sink_failures ≡ old.sink_failures
 

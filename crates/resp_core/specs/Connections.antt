@@ -7,7 +7,7 @@ pub use Rattle.resp_command.specs.CommandQuery.{CommandQuery}
 pub use Rattle.resp_command.specs.Connection.{Connection, Bytes, Exchange, ExchangeOf, LinkPolicy}
 pub use Rattle.resp_command.specs.Connection.{KnownExchange, Moves, SetsAside, idle, push_room}
 pub use Rattle.resp_command.specs.Connection.{replied, malformed, early_end, sink_failed}
-pub use Rattle.resp_command.specs.Connection.{source_failed, out_of_memory}
+pub use Rattle.resp_command.specs.Connection.{source_failed, out_of_memory, IsFault}
 pub use Rattle.resp_command.specs.Connection.{stays, reconnects, routes}
 pub use Rattle.resp_command.specs.Cursors.{HoldsCursor, with_cursor, with_cursor_arg}
 pub use Rattle.resp_command.specs.Cursors.{with_extended_arg}

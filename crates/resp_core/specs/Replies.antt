@@ -1,5 +1,5 @@
 -- What the contracts of replies and errors cite, given out for the crates of users.
-pub use Rattle.resp_errors.specs.Errors.{kind_of, detail_of, code_of, fault_of, io_kind_of}
+pub use Rattle.resp_errors.specs.Errors.{kind_of, detail_of, code_of, fault_of, io_kind_of, error_of_io}
 pub use Rattle.resp_errors.specs.Errors.{first_server_error_of, server_errors_of}
 pub use Rattle.resp_errors.specs.Memory.{OnlyMemory}
 pub use Rattle.resp_errors.specs.Redirects.{RedirectsTo}

@@ -4,10 +4,10 @@ use Rattle.std.proofs.Common.{append-nil, sym, ap, ◌∙◌}
 use Rattle.std.proofs.Common.{refl, subst, Result, Ok, Err, inr}
 use Rattle.std.specs.Io.KnownBytes.{Consumes}
 use Rattle.resp_value.specs.declared.value.Value.{Value}
+use Rattle.resp_errors.specs.Errors.{error_of_io}
 use Rattle.resp_errors.specs.declared.kinds.IoKind.{IoKind}
 use Rattle.resp_errors.specs.declared.kinds.FrameFault.{FrameFault}
 use Rattle.resp_errors.specs.declared.redis_error.RedisError.{RedisError}
-use Rattle.resp_errors.specs.declared.redis_error.RedisError.TheVariants.{Io}
 use Rattle.resp_parse.specs.Limited.{Awaits}
 use Rattle.resp_parse.specs.declared.limits.Limits.{Limits}
 use Rattle.resp_link.specs.Linking.{connection_of}
@@ -101,7 +101,8 @@ module _ (i i' : Inflow) (k k' : Sink) (b b' : Bool) where
 -- the request wasn't sent whole
 pub unsent : {A : Type 0} (i : Inflow) (k k' : Sink) (b : Bool) (q : List ℕ) (n : ℕ) (kind : IoKind)
     (answers : List Value → Type 0) →
-    SendsAll k k' q (Err kind) → Exchange {A = A} (connection_of i k b) (connection_of i k' true) q n (Err (Io kind))
+    SendsAll k k' q (Err kind) → Exchange {A = A} (connection_of i k b) (connection_of i k' true) q n
+    (Err (error_of_io kind))
     answers
 unsent i k k' b q n kind answers sending =
     record {
@@ -117,7 +118,7 @@ unsent i k k' b q n kind answers sending =
         broken = refl;
         source = refl;
         counted = sending.failures;
-        answer = tt;
+        answer = record { kind = kind; is = refl };
       });
     }
 
@@ -226,7 +227,7 @@ module _ (i i' : Inflow) (k k' : Sink) (b : Bool) (q : List ℕ) (n : ℕ) (e : 
     broken = refl;
     counted = counted;
     sink = sending.failures;
-    answer = rw is tt;
+    answer = record { kind = kind; is = is };
   })
   missed answers (out_of_memory is left same) = connection.out_of_memory (record {
     answer = ap Err is;

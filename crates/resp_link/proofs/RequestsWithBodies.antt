@@ -6,11 +6,11 @@ use Rattle.std.specs.List.{flat_map}
 use Rattle.std.specs.Prelude.{decimal}
 use Rattle.std.proofs.lemmas.Fmt.{decimal_digit}
 use Rattle.std.proofs.lemmas.Grind.{common_steps, flat_map-append}
+use Rattle.resp_errors.specs.Errors.{error_of_io}
 use Rattle.resp_errors.specs.declared.kinds.IoKind.{IoKind}
 use Rattle.resp_errors.specs.declared.redis_error.RedisError.{RedisError}
 use Rattle.resp_args.specs.Args.{Args}
 use Rattle.resp_parse.specs.Lines.{crlf}
-use Rattle.resp_errors.specs.declared.redis_error.RedisError.TheVariants.{Io}
 use Rattle.resp_parse.specs.Source.{Source, SourceGave, Fills}
 use Rattle.resp_parse.proofs.Asking.{gave-none}
 use Rattle.resp_command.specs.Connection.{IsPrefix}
@@ -139,7 +139,7 @@ module _ (n : ℕ) (k now : Sink) (s t : Source) (missing : ℕ) (h : SentSome n
       }
 
   -- the sink failed
-  pub sent-refused : (next : Sink) (count : ℕ) (piece : List ℕ) (kind : IoKind) (e : RedisError) → e ≡ Io kind
+  pub sent-refused : (next : Sink) (count : ℕ) (piece : List ℕ) (kind : IoKind) (e : RedisError) → e ≡ error_of_io kind
       → piece ≡ take count after → length piece ≡ count → count ≤ missing → Fills t u before after (Ok count)
       → TakesPiece now next piece (Err kind) → CannotSendBody n k next s u e
   sent-refused next count piece kind e i is size few f taken =
@@ -204,7 +204,7 @@ sent-all n k now s t missing h none = record {
 
 module _ (head : List ℕ) (n : ℕ) (k : Sink) (s : Source) where
   pub request-refused : (next : Sink) (kind : IoKind) → TakesPiece k next head (Err kind)
-      → StopsRequest head n k next s s (Io kind)
+      → StopsRequest head n k next s s (error_of_io kind)
   request-refused next kind h =
       let gone : IsPrefix h.gone head = h.part in
       StopsRequest.in_body (record {
@@ -244,7 +244,7 @@ module _ (head : List ℕ) (n : ℕ) (k : Sink) (s : Source) where
       same = b.sink ∙ h.failures
 
       pub request-unended : (kind : IoKind) → SendsAll next last crlf (Err kind)
-          → StopsRequest head n k last s t (Io kind)
+          → StopsRequest head n k last s t (error_of_io kind)
       request-unended kind a =
           let gone : IsPrefix a.gone crlf = a.part in
           let sends = takes-both k next last (head ++ b.body) a.gone both (record { sent = a.sent; holds = a.holds }) in

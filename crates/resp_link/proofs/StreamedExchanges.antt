@@ -2,9 +2,10 @@
 use Rattle.std.proofs.Common.{◌≡◌, ℕ, List, [], ◌∷◌, ◌++◌, Bool, true, false, refl, ap, sym, ◌∙◌, subst, append-nil, Result, Ok, Err, inl}
 use Rattle.std.specs.Io.KnownBytes.{Appends}
 use Rattle.resp_value.specs.declared.value.Value.{Nil}
+use Rattle.resp_errors.specs.Errors.{error_of_io}
 use Rattle.resp_errors.specs.declared.kinds.IoKind.{IoKind}
 use Rattle.resp_errors.specs.declared.redis_error.RedisError.{RedisError}
-use Rattle.resp_errors.specs.declared.redis_error.RedisError.TheVariants.{Io, OutOfMemory}
+use Rattle.resp_errors.specs.declared.redis_error.RedisError.TheVariants.{OutOfMemory}
 use Rattle.resp_command.specs.Connection as connection
 use Rattle.resp_command.specs.Call.{needed}
 use Rattle.resp_command.specs.Command.{Command}
@@ -26,7 +27,7 @@ use Rattle.resp_link.proofs.SentSoFar.{grown-nothing}
 module _ (i : Inflow) (k k' : Sink) (broken : Bool) (q : List ℕ) where
   -- the request wasn't sent whole
   pub into-unsent : (n : ℕ) (kind : IoKind) (b : Sink) → SendsAll k k' q (Err kind)
-      → HandsOn (connection_of i k broken) (connection_of i k' true) b b q n (Err (Io kind))
+      → HandsOn (connection_of i k broken) (connection_of i k' true) b b q n (Err (error_of_io kind))
   into-unsent n kind b sending = HandsOn.as_ever (unsent i k k' broken q n kind _ sending) refl
 
   -- it was, and no reply is waited for

@@ -6,6 +6,7 @@ use Rattle.resp_value.specs.declared.value.Value.{Value}
 use Rattle.resp_value.specs.declared.value.PushInfo.{PushInfo}
 use Rattle.resp_errors.specs.declared.kinds.FrameFault.{FrameFault}
 use Rattle.resp_errors.specs.declared.kinds.FrameFault.TheVariants.{TooManyPushes}
+use Rattle.resp_errors.specs.Errors.{error_of_io}
 use Rattle.resp_errors.specs.declared.kinds.IoKind.{IoKind}
 use Rattle.resp_errors.specs.declared.kinds.IoKind.TheVariants.{UnexpectedEof}
 use Rattle.resp_errors.specs.declared.parsing_error.ParsingError.TheVariants as parsing
@@ -87,7 +88,7 @@ pub data StopsReceiving (Needed : Type 0) (old new : Inflow) (rest : List ℕ) (
       StopsReceiving Needed old new rest e
   early_end : Needed → e ≡ form.Io UnexpectedEof → Awaits old.limits rest → IsAtEnd new.to_come →
       new.failures ≡ old.failures → StopsReceiving Needed old new rest e
-  source_failed : (kind : IoKind) → Needed → e ≡ form.Io kind → Awaits old.limits rest →
+  source_failed : (kind : IoKind) → Needed → e ≡ error_of_io kind → Awaits old.limits rest →
       new.received ≡ rest → FailureCounted old.failures new.failures →
       StopsReceiving Needed old new rest e
   out_of_memory : e ≡ form.OutOfMemory → new.received ≡ rest → new.failures ≡ old.failures →

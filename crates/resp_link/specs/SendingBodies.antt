@@ -6,9 +6,10 @@ use Rattle.std.specs.Io.KnownBytes.{IsAtEnd}
 use Rattle.std.specs.List.{flat_map}
 use Rattle.resp_value.specs.declared.value.Value.{Value}
 use Rattle.resp_errors.specs.declared.kinds.ErrorKind.TheVariants as kind
+use Rattle.resp_errors.specs.Errors.{error_of_io}
 use Rattle.resp_errors.specs.declared.kinds.IoKind.{IoKind}
 use Rattle.resp_errors.specs.declared.redis_error.RedisError.{RedisError}
-use Rattle.resp_errors.specs.declared.redis_error.RedisError.TheVariants.{General, Io, OutOfMemory}
+use Rattle.resp_errors.specs.declared.redis_error.RedisError.TheVariants.{General, OutOfMemory}
 use Rattle.resp_args.specs.Args.{Args}
 use Rattle.resp_parse.specs.declared.type_byte.TypeByte.TheVariants as type_byte
 use Rattle.resp_parse.specs.Lines.{crlf}
@@ -51,7 +52,7 @@ pub data StopsSending (to_come : Option (List ℕ)) (source source' sink sink' :
       StopsSending to_come source source' sink sink' e
   not_read : e ≡ body_not_read → FailureCounted source source' → sink' ≡ sink →
       StopsSending to_come source source' sink sink' e
-  not_sent : (kind : IoKind) → e ≡ Io kind → source' ≡ source → FailureCounted sink sink' →
+  not_sent : (kind : IoKind) → e ≡ error_of_io kind → source' ≡ source → FailureCounted sink sink' →
       StopsSending to_come source source' sink sink' e
 
 -- at most so many bytes of it were read, and a prefix of them was sent
@@ -90,7 +91,7 @@ pub record CannotSendRequest (head : List ℕ) (n : ℕ) (k k' : Sink) (s t : So
   pub stops : StopsSending t.to_come s.failures t.failures k.failures k'.failures e
 
 pub data StopsRequest (head : List ℕ) (n : ℕ) (k k' : Sink) (s t : Source) (e : RedisError) : Type 0 where
-  body_read : (kind : IoKind) → e ≡ Io kind → SentRequest head n k k' s t (Err kind) →
+  body_read : (kind : IoKind) → e ≡ error_of_io kind → SentRequest head n k k' s t (Err kind) →
       StopsRequest head n k k' s t e
   in_body : CannotSendRequest head n k k' s t e → StopsRequest head n k k' s t e
 

@@ -5,6 +5,7 @@ use Rattle.std.specs.Io.KnownBytes.{Appends, Consumes, IsAtEnd}
 use Rattle.resp_value.specs.declared.value.Value.{Value, BulkString}
 use Rattle.resp_errors.specs.declared.kinds.ErrorKind.TheVariants as kind
 use Rattle.resp_errors.specs.declared.kinds.FrameFault.TheVariants.{BodyEnd, TooLong}
+use Rattle.resp_errors.specs.Errors.{error_of_io}
 use Rattle.resp_errors.specs.declared.kinds.IoKind.{IoKind}
 use Rattle.resp_errors.specs.declared.kinds.IoKind.TheVariants.{UnexpectedEof}
 use Rattle.resp_errors.specs.declared.parsing_error.ParsingError.TheVariants.{Fault}
@@ -95,7 +96,8 @@ pub record TookWell (n : ℕ) (old new : Inflow) (part : List ℕ) : Type 0 wher
 -- why no byte came where one was needed
 pub data NoByte (to_come : Option (List ℕ)) (before after : ℕ) (e : RedisError) : Type 0 where
   early_end : e ≡ Io UnexpectedEof → IsAtEnd to_come → after ≡ before → NoByte to_come before after e
-  source_failed : (kind : IoKind) → e ≡ Io kind → FailureCounted before after → NoByte to_come before after e
+  source_failed : (kind : IoKind) → e ≡ error_of_io kind → FailureCounted before after →
+      NoByte to_come before after e
   out_of_memory : e ≡ OutOfMemory → after ≡ before → NoByte to_come before after e
 
 -- a byte is there; or none comes after this part

@@ -3,6 +3,7 @@ use Rattle.std.proofs.Common.{◌≡◌, ℕ, zero, suc, ◌∷◌, ◌<◌, ◌
 use Rattle.std.proofs.Common.{subst, arith, Option, Some, None, Ok, Err}
 use Rattle.std.specs.Io.KnownBytes.{Keeps, Consumes}
 use Rattle.std.proofs.lemmas.List.{append-nil}
+use Rattle.resp_errors.specs.Errors.{error_of_io}
 use Rattle.resp_errors.specs.declared.kinds.IoKind.{IoKind}
 use Rattle.resp_errors.specs.declared.kinds.IoKind.TheVariants.{UnexpectedEof}
 use Rattle.resp_errors.specs.declared.redis_error.RedisError.TheVariants as form
@@ -54,7 +55,7 @@ module _ (old new : State) (b : List ℕ) (h : StandsAfter old b) where
 
   pub Asks-source_failed : new.failed ≡ old.failed → new.since ≡ old.since
       → (s t : Source) (before after : List ℕ) (kind : IoKind) → Fills s t before after (Err kind)
-      → CannotFill b (form.Io kind) new s t
+      → CannotFill b (error_of_io kind) new s t
   Asks-source_failed w e s t before after kind f =
       CannotFill.source_failed kind refl
       (record { came = f.came ∙ sym (append-nil s.came); to_come = kept s.to_come t.to_come f.to_come }) f.failures

@@ -1,6 +1,7 @@
 -- Where the fault stands that a parser answered.
 use Rattle.std.proofs.Common.{◌≡◌, ℕ, Bool, true, false, List, ◌++◌, Option, None, Some, IfSome, refl}
 use Rattle.resp_errors.specs.declared.redis_error.RedisError.{RedisError}
+use Rattle.resp_errors.proofs.IoErrors.{of_both_forms}
 use Rattle.resp_parse.specs.declared.limits.Limits.{Limits}
 use Rattle.resp_parse.specs.Limited.{FaultShownAt, PassesSize, too_long}
 use Rattle.resp_parse.specs.State.{State, HasOffset}
@@ -47,5 +48,6 @@ Placed-passes l offset since e h (PassesLimit.out_of_memory i j) = Placed-none l
 pub HasOffset-unfilled : (b : List ℕ) (e : RedisError) (new : State) (s t : Source) (offset : Option ℕ)
     → CannotFill b e new s t → offset ≡ None → HasOffset e offset
 HasOffset-unfilled b e new s t offset (early_end i source_gave none failures failed) z = rw i z
-HasOffset-unfilled b e new s t offset (source_failed kind i source_gave failures stands) z = rw i z
+HasOffset-unfilled b e new s t offset (source_failed kind i source_gave failures stands) z =
+    rw i (of_both_forms (λ f. HasOffset f offset) z (λ k. z) kind)
 HasOffset-unfilled b e new s t offset (out_of_memory i source_gave failures failed) z = rw i z

@@ -6,6 +6,7 @@ use Rattle.std.specs.Io.KnownBytes.{IsAtEnd}
 use Rattle.resp_value.specs.declared.value.Value.{Value}
 use Rattle.resp_flat.specs.declared.flat_reply.FlatReply.{FlatReply}
 use Rattle.resp_flat.specs.FlatReplies.{IsFlatOf}
+use Rattle.resp_errors.specs.Errors.{error_of_io}
 use Rattle.resp_errors.specs.declared.kinds.FrameFault.{FrameFault}
 use Rattle.resp_errors.specs.declared.kinds.IoKind.{IoKind}
 use Rattle.resp_errors.specs.declared.kinds.IoKind.TheVariants.{UnexpectedEof}
@@ -71,7 +72,7 @@ pub record Filled (b : List ℕ) (old new : State) (s t : Source) : Type 0 where
 pub data CannotFill (b : List ℕ) (e : RedisError) (new : State) (s t : Source) : Type 0 where
   early_end : e ≡ form.Io UnexpectedEof → SourceGave s [] t → IsAtEnd t.to_come →
       t.failures ≡ s.failures → FailedAfter new b → CannotFill b e new s t
-  source_failed : (kind : IoKind) → e ≡ form.Io kind → SourceGave s [] t →
+  source_failed : (kind : IoKind) → e ≡ error_of_io kind → SourceGave s [] t →
       FailureCounted s.failures t.failures → StandsAfter new b → CannotFill b e new s t
   out_of_memory : e ≡ form.OutOfMemory → SourceGave s [] t → t.failures ≡ s.failures →
       FailedAfter new b → CannotFill b e new s t
@@ -138,7 +139,7 @@ pub data CannotParse (b : List ℕ) (e : RedisError) (old new : State) (s t : So
   early_end : (filled : List ℕ) → e ≡ form.Io UnexpectedEof →
       Awaits new.limits (b ++ filled) → IsAtEnd t.to_come →
       Failed b filled old new s t → CannotParse b e old new s t
-  source_failed : (kind : IoKind) → e ≡ form.Io kind → StandsMidway b old new s t →
+  source_failed : (kind : IoKind) → e ≡ error_of_io kind → StandsMidway b old new s t →
       CannotParse b e old new s t
   out_of_memory : (filled : List ℕ) → e ≡ form.OutOfMemory → Failed b filled old new s t →
       CannotParse b e old new s t

@@ -343,7 +343,7 @@ impl<B: Builder> Decoder<B> {
                 self.counts.receive(n);
                 Ok(())
             }
-            Err(kind) => Err(RedisError::Io(kind)),
+            Err(kind) => Err(RedisError::from(kind)),
         }
     }
 

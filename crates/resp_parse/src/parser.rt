@@ -41,8 +41,8 @@ use std::marker::Model;
 /// 2^63 - 1 bytes, as `OutOfMemory`.
 ///
 /// After bytes that can't begin a value, after an early end of a source, and after `OutOfMemory` in
-/// any call but `feed`, the parser has failed permanently: each later call that feeds or takes
-/// answers `parser has failed`, a [`ParsingError`].
+/// any call but `feed`, unless it is a failure of the source, the parser has failed permanently: each
+/// later call that feeds or takes answers `parser has failed`, a [`ParsingError`].
 pub struct Parser {
     decoder: Decoder<TreeBuilder>,
 }
@@ -206,9 +206,9 @@ impl Parser {
     ///
     /// Refusals are those of [`Parser::take_value`]. An end of the source before that of the value
     /// is refused as [`IoKind::UnexpectedEof`], and the parser has failed. A failure of the source
-    /// is refused as [`RedisError::Io`] with its kind; the parser then holds what came before it,
-    /// and the call may be repeated. The source is asked for at most 4,096 bytes at a time, and
-    /// only while the bytes in the buffer are incomplete.
+    /// is refused as [`RedisError::Io`] with its kind, or for want of memory as `OutOfMemory`; the
+    /// parser then holds what came before it, and the call may be repeated. The source is asked for
+    /// at most 4,096 bytes at a time, and only while the bytes in the buffer are incomplete.
     pub fn parse_from<S: ReplySource>(&mut self, source: &mut S) -> RedisResult<Value>
         ensures failed { self.old.failed ≡ true → (result ≡ Err has_failed) × (self.new ≡ self.old)
             × (S.source source.new ≡ S.source source.old) }
@@ -326,8 +326,8 @@ impl Parser {
     /// Asks the source once, for at most 4,096 bytes, and holds what it gives. No value is taken.
     ///
     /// An end of the source is refused as [`IoKind::UnexpectedEof`], and the parser has failed. A
-    /// failure of the source is refused as [`RedisError::Io`] with its kind; the parser stays as it
-    /// was.
+    /// failure of the source is refused as [`RedisError::Io`] with its kind, or for want of memory as
+    /// `OutOfMemory`; the parser stays as it was.
     pub fn fill_from<S: ReplySource>(&mut self, source: &mut S) -> RedisResult<()>
         ensures failed { self.old.failed ≡ true → (result ≡ Err has_failed) × (self.new ≡ self.old)
             × (S.source source.new ≡ S.source source.old) }

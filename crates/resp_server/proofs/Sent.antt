@@ -3,9 +3,9 @@ use Rattle.std.proofs.Common.{◌≡◌, inl, inr, refl, ℕ, List, [], Option, 
 use Rattle.std.specs.Fmt.{◌++?◌}
 use Rattle.std.specs.Result.{IsErr, IsErrAnd}
 use Rattle.std.proofs.lemmas.Result.{err_from_is_err_and}
+use Rattle.resp_errors.specs.Errors.{error_of_io}
 use Rattle.resp_errors.specs.declared.kinds.IoKind.{IoKind}
 use Rattle.resp_errors.specs.declared.redis_error.RedisError.{RedisError}
-use Rattle.resp_errors.specs.declared.redis_error.RedisError.TheVariants as form
 use Rattle.resp_encode.specs.Encodings.{RefusesValue}
 use Rattle.resp_link.specs.Sink.{Sink, SendsAll}
 use Rattle.resp_server.specs.Sending.{SendsValue, SentBytes}
@@ -21,7 +21,7 @@ sent bytes b old new done e all = record { sent = b; are = appended bytes b e; a
 
 pub failed : (bytes : Option (List ℕ)) (b : List ℕ) (old new : Sink) (kind : IoKind)
     (answer : Result (Unit {0}) RedisError) → (Some [] ++? bytes) ≡ Some b → SendsAll old new b (Err kind)
-    → IsErr answer × IsErrAnd answer (λ e. e ≡ form.Io kind) → SendsValue bytes old new answer
+    → IsErr answer × IsErrAnd answer (λ e. e ≡ error_of_io kind) → SendsValue bytes old new answer
 failed bytes b old new kind (Ok done) e all is = absurd (is.1)
 failed bytes b old new kind (Err error) e all is = inr (record {
   sent = b;

@@ -1,8 +1,8 @@
 -- What sending a value over a sink leaves and answers.
 use Rattle.std.specs.Prelude.{◌≡◌, ◌⊎◌, ℕ, List, Option, Some, Result, Ok, Err}
+use Rattle.resp_errors.specs.Errors.{error_of_io}
 use Rattle.resp_errors.specs.declared.kinds.IoKind.{IoKind}
 use Rattle.resp_errors.specs.declared.redis_error.RedisError.{RedisError}
-use Rattle.resp_errors.specs.declared.redis_error.RedisError.TheVariants as form
 use Rattle.resp_encode.specs.Encodings.{RefusesValue}
 use Rattle.resp_link.specs.Sink.{Sink, SendsAll}
 
@@ -18,7 +18,7 @@ pub record SinkRefuses (bytes : Option (List ℕ)) (old new : Sink) (e : RedisEr
   pub kind : IoKind
   pub are : bytes ≡ Some sent
   pub failed : SendsAll old new sent (Err kind)
-  pub error : e ≡ form.Io kind
+  pub error : e ≡ error_of_io kind
 
 -- the value's bytes were sent; or it has none, or memory ran out, and nothing was sent; or the sink
 -- failed

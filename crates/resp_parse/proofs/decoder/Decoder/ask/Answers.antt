@@ -35,9 +35,10 @@ returns-in-Ok-eq0-clause-asks g c = λ b h.
 pub returns-in-Err-clause-asks : goal.returns-in-Err-clause-asks
 returns-in-Err-clause-asks g c = λ b h.
     let e = c.self-2.view_is ∙ c.compact.ensures.same in
-    Asks-source_failed c.args.self.now _ b h (ap (λ (s : State). s.failed) e) (ap (λ (s : State). s.since) e)
+    rw c.from.ensures
+    (Asks-source_failed c.args.self.now _ b h (ap (λ (s : State). s.failed) e) (ap (λ (s : State). s.since) e)
     (g.S.ReplySource.source c.args.source.now) (g.S.ReplySource.source c.fill.new.self) _ c.fill.new.buf c.in-Err.kind
-    c.in-Err.ensures.fills
+    c.in-Err.ensures.fills)
 
 pub returns-in_ok-extend_from_slice-in-Ok-clause-asks : goal.returns-in_ok-extend_from_slice-in-Ok-clause-asks
 returns-in_ok-extend_from_slice-in-Ok-clause-asks g c = λ b h.
