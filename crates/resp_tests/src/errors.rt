@@ -116,13 +116,18 @@ fn errors_of_the_standard_library(rt: HostRuntime) {
         (io::ErrorKind::BrokenPipe, IoKind::BrokenPipe),
         (io::ErrorKind::WriteZero, IoKind::WriteZero),
         (io::ErrorKind::AlreadyExists, IoKind::Other),
-        (io::ErrorKind::OutOfMemory, IoKind::Other),
     ] {
         assert_eq!(rt;
             RedisError::from(io::Error::from(kind)).io_kind(),
             Some(wanted)
         );
     }
+    let refused = io::Error::from(io::ErrorKind::OutOfMemory);
+    assert_eq!(rt; RedisError::from(refused), RedisError::OutOfMemory);
+    assert_eq!(rt;
+        RedisError::from(IoKind::OutOfMemory),
+        RedisError::OutOfMemory
+    );
 }
 
 #[test]

@@ -182,6 +182,20 @@ fn one_command(rt: HostRuntime) {
     }
 }
 
+/// A sink that has no room for a request: memory ran out, and the link is broken.
+#[test]
+fn sinks_without_room(rt: HostRuntime) {
+    let incoming = Vec::from_slice(rt.alloc(), b":7\r\n").expect(&rt, "no refusal");
+    let mut con = ByteLink::new(rt.alloc(), Cursor::new(incoming), Vec::new(rt.alloc()));
+    refuse(rt.alloc());
+    let answer = con.req_packed_command(GET_K);
+    let ran_out = matches!(&answer, Err(RedisError::OutOfMemory));
+    shows(&rt, answer, "Ok(int(7))");
+    equal(&rt, con.is_broken(), ran_out);
+    let sent = sent(con);
+    assert!(rt; sent.as_slice() == GET_K || ran_out && sent.is_empty());
+}
+
 const TWO: &[u8] = b"+a\r\n>2\r\n+message\r\n+x\r\n*2\r\n$1\r\nb\r\n$1\r\nc\r\n:7\r\n";
 
 /// How many replies are passed over, how many are answered, and what they show.

@@ -86,7 +86,7 @@ const OTHER_KINDS: [ErrorKind; 13] = [
 ];
 
 /// The kinds of faults of devices.
-const IO_KINDS: [IoKind; 14] = [
+const IO_KINDS: [IoKind; 15] = [
     IoKind::NotFound,
     IoKind::PermissionDenied,
     IoKind::ConnectionRefused,
@@ -100,6 +100,7 @@ const IO_KINDS: [IoKind; 14] = [
     IoKind::Unsupported,
     IoKind::UnexpectedEof,
     IoKind::WriteZero,
+    IoKind::OutOfMemory,
     IoKind::Other,
 ];
 
