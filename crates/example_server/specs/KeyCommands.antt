@@ -3,6 +3,7 @@ use Rattle.std.specs.Prelude.{◌≡◌, ℕ, ◌-◌, ◌&&◌, Bool, true, fal
 use Rattle.std.specs.Prelude.{Some, is_some, is_none, Result, Ok, Err, is_ok, MatchBool, MatchResult, Vec, ℤ, pos, ◌-ℤ◌}
 use Rattle.std.specs.Prelude.{◌^◌, if◌then◌else◌}
 use Rattle.std.specs.declared.alloc.Global.{Global}
+use Rattle.std.specs.Option.{option_map}
 use Rattle.std.specs.BTreeMap.{BTreeMap, IsUnchanged, Updates, get, insert_entry, is_at}
 use Rattle.std.specs.Map.{remove_entry}
 use Rattle.std.specs.Cmp.Lexicographic.{slice_cmp}
@@ -13,16 +14,19 @@ use Rattle.example_server.specs.Integers.{Writes}
 use Rattle.example_server.specs.declared.command.KeyCommand.{KeyCommand}
 use Rattle.example_server.specs.declared.command.KeyCommand.TheVariants as command
 use Rattle.example_server.specs.declared.command.SetOptions.{SetOptions}
+use Rattle.example_server.specs.declared.command.Expiry.{Expiry}
+use Rattle.example_server.specs.declared.command.Expiry.TheVariants as expiry
 use Rattle.example_server.specs.declared.command.Condition.{Condition}
 use Rattle.example_server.specs.declared.command.Condition.TheVariants as condition
 use Rattle.example_server.specs.declared.command.Reach.{Reach}
-use Rattle.example_server.specs.declared.command.Reach.TheVariants as reach
 use Rattle.example_server.specs.declared.refusal.Refusal.{Refusal}
 use Rattle.example_server.specs.declared.refusal.Refusal.TheVariants as refusal
 use Rattle.example_server.specs.declared.reply.Reply.{Reply}
 use Rattle.example_server.specs.declared.reply.Reply.TheVariants as reply
 use Rattle.example_server.specs.declared.store.Entry.{Entry}
-use Rattle.example_server.specs.declared.store.Entry.TheVariants as entry
+use Rattle.example_server.specs.declared.store.Content.{Content}
+use Rattle.example_server.specs.declared.store.Content.TheVariants as content
+use Rattle.example_server.specs.Times.{has_passed, reaches}
 
 -- keys and fields
 abbrev pub Key : Type 0
@@ -35,21 +39,34 @@ cmp a b = slice_cmp nat_cmp a.items b.items
 abbrev pub Store : Type 0
 Store = BTreeMap Key Entry
 
--- what a key holds
+-- what a key holds, and how long
 abbrev pub held : Store → Key → Option Entry
 held store key = get cmp store key
 
+abbrev pub content_of : Option Entry → Option Content
+content_of before = option_map (λ e. e.content) before
+
+-- when the key expires, if it does
+abbrev pub time_of : Option Entry → Option ℤ
+time_of None = None
+time_of (Some e) = e.expires
+
+-- what is held until then; nothing where the time has come
+abbrev pub living : Content → Option ℤ → Option Entry
+living what expires =
+    if has_passed expires then None else Some (record { content = what; expires = expires })
+
 -- a copy of the string that is held, if anything is
-abbrev pub text_in : Option Entry → Result (Option (List ℕ)) Refusal
+abbrev pub text_in : Option Content → Result (Option (List ℕ)) Refusal
 text_in None = Ok None
-text_in (Some (entry.Text text)) = Ok (Some text)
-text_in (Some (entry.Hash _)) = Err refusal.WrongType
+text_in (Some (content.Text text)) = Ok (Some text)
+text_in (Some (content.Hash _)) = Err refusal.WrongType
 
 -- the fields of the hash that is held, in order; none where nothing is held
-abbrev pub fields_in : Option Entry → Result (List (Key × List ℕ)) Refusal
+abbrev pub fields_in : Option Content → Result (List (Key × List ℕ)) Refusal
 fields_in None = Ok []
-fields_in (Some (entry.Hash fields)) = Ok fields.entries
-fields_in (Some (entry.Text _)) = Err refusal.WrongType
+fields_in (Some (content.Hash fields)) = Ok fields.entries
+fields_in (Some (content.Text _)) = Err refusal.WrongType
 
 -- a refusal, or what is answered else
 abbrev pub replied : {X : Type 0} → (X → Reply) → Result X Refusal → Reply
@@ -59,7 +76,7 @@ replied answer (Err why) = reply.Refused why
 -- GET answers the string
 abbrev pub Gets : Store → Store → Key → Reply → Type 0
 Gets old new key answer =
-    IsUnchanged old new × (answer ≡ replied reply.Found (text_in (held old key)))
+    IsUnchanged old new × (answer ≡ replied reply.Found (text_in (content_of (held old key))))
 
 -- what NX and XX ask of what is held
 abbrev pub is_met : Condition → Option Entry → Bool
@@ -70,17 +87,23 @@ is_met condition.IfPresent before = is_some before
 -- whether SET sets the key: with GET it refuses a hash
 abbrev pub is_set : SetOptions → Option Entry → Bool
 is_set options before =
-    (if options.get then is_ok (text_in before) else true) && is_met options.condition before
+    (if options.get then is_ok (text_in (content_of before)) else true) && is_met options.condition before
 
 -- what SET answers: with GET the string that was held, and else whether the key is set
 abbrev pub set_reply : SetOptions → Option Entry → Reply
-set_reply options before = (if options.get then replied reply.Found (text_in before)
+set_reply options before = (if options.get then replied reply.Found (text_in (content_of before))
     else (if is_met options.condition before then reply.Okay else reply.Found None))
+
+-- when a key expires that SET sets: KEEPTTL keeps its time
+abbrev pub expiry_after : Expiry → Option Entry → Option ℤ
+expiry_after expiry.Never before = None
+expiry_after expiry.Kept before = time_of before
+expiry_after (expiry.At time) before = Some time
 
 abbrev pub Sets : Store → Store → Key → List ℕ → SetOptions → Reply → Type 0
 Sets old new key value options answer =
     MatchBool (is_set options (held old key))
-    (Updates cmp old new key (Some (entry.Text value)))
+    (Updates cmp old new key (living (content.Text value) (expiry_after options.expiry (held old key))))
     (IsUnchanged old new)
     × (answer ≡ set_reply options (held old key))
 
@@ -99,30 +122,41 @@ abbrev pub Counts : Store → Store → List Key → Reply → Type 0
 Counts old new keys answer =
     IsUnchanged old new × (answer ≡ reply.Count (count_by (λ key. is_some (held old key)) keys))
 
--- EXPIRE answers whether the key is there and given a time, which is forgotten: no key has one
-abbrev pub expire_count : Option Entry → Reach → ℕ
-expire_count before reach.EveryKey = if is_some before then 1 else 0
-expire_count before reach.KeysWithTime = 0
+-- whether EXPIRE gives a key that holds this the time
+abbrev pub is_given : Reach → Option Entry → ℤ → Bool
+is_given reached None time = false
+is_given reached (Some e) time = reaches reached e.expires time
 
-abbrev pub Expires : Store → Store → Key → Reach → Reply → Type 0
-Expires old new key reached answer =
-    IsUnchanged old new × (answer ≡ reply.Count (expire_count (held old key) reached))
+-- what is held, until another time
+abbrev pub with_time : Option Entry → ℤ → Option Entry
+with_time None time = None
+with_time (Some e) time = living e.content (Some time)
+
+-- EXPIRE answers whether the key is given the time; it goes where that has come
+abbrev pub Expires : Store → Store → Key → ℤ → Reach → Reply → Type 0
+Expires old new key time reached answer = MatchBool (is_given reached (held old key) time)
+    (Updates cmp old new key (with_time (held old key) time) × (answer ≡ reply.Count 1))
+    (IsUnchanged old new × (answer ≡ reply.Count 0))
 
 -- one more than the integer that is held, or why there is none
-abbrev pub CountsUp : Option Entry → Result ℤ Refusal → Type 0
+abbrev pub CountsUp : Option Content → Result ℤ Refusal → Type 0
 CountsUp None (Ok next) = next ≡ pos 1
-CountsUp (Some (entry.Text text)) (Ok next) = Writes text (next -ℤ pos 1)
-CountsUp (Some (entry.Text text)) (Err refusal.NotInteger) = (n : ℤ) → ¬ Writes text n
-CountsUp (Some (entry.Text text)) (Err refusal.Overflow) = Writes text (pos (2 ^ 63 - 1))
-CountsUp (Some (entry.Hash _)) (Err refusal.WrongType) = Unit {0}
+CountsUp (Some (content.Text text)) (Ok next) = Writes text (next -ℤ pos 1)
+CountsUp (Some (content.Text text)) (Err refusal.NotInteger) = (n : ℤ) → ¬ Writes text n
+CountsUp (Some (content.Text text)) (Err refusal.Overflow) = Writes text (pos (2 ^ 63 - 1))
+CountsUp (Some (content.Hash _)) (Err refusal.WrongType) = Unit {0}
 CountsUp _ _ = ⊥
 
--- INCR answers one more than was held, and the key holds that
+-- a key that is held as long as before
+abbrev pub held_on : Store → Key → Content → Entry
+held_on old key what = record { content = what; expires = time_of (held old key) }
+
+-- INCR answers one more than was held, and the key holds that, as long as before
 abbrev pub Increments : Store → Store → Key → Reply → Type 0
-Increments old new key (reply.Integer next) = CountsUp (held old key) (Ok next)
-    × Updates cmp old new key (Some (entry.Text (signed_decimal next)))
+Increments old new key (reply.Integer next) = CountsUp (content_of (held old key)) (Ok next)
+    × Updates cmp old new key (Some (held_on old key (content.Text (signed_decimal next))))
 Increments old new key (reply.Refused why) =
-    CountsUp (held old key) (Err why) × IsUnchanged old new
+    CountsUp (content_of (held old key)) (Err why) × IsUnchanged old new
 Increments old new key _ = ⊥
 
 -- the entries of a hash after fields are set, one after another
@@ -140,17 +174,17 @@ abbrev pub KeepsOtherKeys : Store → Store → Key → Type 0
 KeepsOtherKeys old new key = (q : Key) → is_at (cmp key) q ≡ false → held new q ≡ held old q
 
 -- fields are set beside those that were there before, and those that are new are counted
-abbrev pub PutsFields : Store → Store → Key → List (Key × List ℕ) → List (Key × List ℕ) → Reply
+abbrev pub PutsFields : Store → Store → Key → List (Key × List ℕ) → Option ℤ → List (Key × List ℕ) → Reply
     → Type 0
-PutsFields old new key before pairs answer = (hash : BTreeMap Key (List ℕ))
+PutsFields old new key before expires pairs answer = (hash : BTreeMap Key (List ℕ))
     × (hash.entries ≡ with_fields before pairs)
-    × Holds old new key (entry.Hash hash)
+    × Holds old new key (record { content = content.Hash hash; expires = expires })
     × (answer ≡ reply.Count (length hash.entries - length before))
 
--- HSET sets fields, and answers how many are new
+-- HSET sets fields, and answers how many are new; the key keeps its time
 abbrev pub SetsFields : Store → Store → Key → List (Key × List ℕ) → Reply → Type 0
-SetsFields old new key pairs answer = MatchResult (fields_in (held old key))
-    (λ before. PutsFields old new key before pairs answer)
+SetsFields old new key pairs answer = MatchResult (fields_in (content_of (held old key)))
+    (λ before. PutsFields old new key before (time_of (held old key)) pairs answer)
     (λ why. IsUnchanged old new × (answer ≡ reply.Refused why))
 
 -- a field with its value
@@ -160,7 +194,7 @@ shown pair = (pair.0.items, pair.1)
 -- HGETALL answers the fields in the order of their bytes
 abbrev pub GetsAll : Store → Store → Key → Reply → Type 0
 GetsAll old new key answer = IsUnchanged old new
-    × (answer ≡ replied (λ entries. reply.Fields (map shown entries)) (fields_in (held old key)))
+    × (answer ≡ replied (λ entries. reply.Fields (map shown entries)) (fields_in (content_of (held old key))))
 
 -- what a command does to the store, and what it is answered
 abbrev pub AnswersKeys : Store → Store → KeyCommand → Reply → Type 0
@@ -169,7 +203,7 @@ AnswersKeys old new (command.Set key value options) = Sets old new key value opt
 AnswersKeys old new (command.Del keys) = Deletes old new keys.items
 AnswersKeys old new (command.Exists keys) = Counts old new keys.items
 AnswersKeys old new (command.Incr key) = Increments old new key
-AnswersKeys old new (command.Expire key reached) = Expires old new key reached
+AnswersKeys old new (command.Expire key time reached) = Expires old new key time reached
 AnswersKeys old new (command.HSet key pairs) = SetsFields old new key pairs.items
 AnswersKeys old new (command.HGetAll key) = GetsAll old new key
 

@@ -10,3 +10,4 @@ pub mod Replies
 pub mod Requests
 pub mod Serving
 pub mod Sessions
+pub mod Times

@@ -1,5 +1,5 @@
 -- What a client is told of bytes that can't be read.
-use Rattle.std.specs.Prelude.{ℕ, ◌==◌, ◌||◌, List, [], ◌∷◌, ◌++◌, codes, if◌then◌else◌}
+use Rattle.std.specs.Prelude.{ℕ, Bool, ◌==◌, ◌||◌, List, [], ◌∷◌, ◌++◌, codes, if◌then◌else◌}
 use Rattle.example_server.specs.declared.protocol_error.ProtocolError.{ProtocolError}
 use Rattle.example_server.specs.declared.protocol_error.ProtocolError.TheVariants as why
 
@@ -12,9 +12,13 @@ text_of why.Length = codes "invalid bulk length"
 text_of (why.NoBulkString byte) = codes "expected '$', got '"
 text_of why.Quotes = codes "unbalanced quotes in request"
 
+-- a CR or LF
+abbrev pub is_line_end : ℕ → Bool
+is_line_end byte = (byte == 13) || (byte == 10)
+
 -- a space for a CR or LF
 abbrev pub spaced : ℕ → ℕ
-spaced byte = if (byte == 13) || (byte == 10) then 32 else byte
+spaced byte = if is_line_end byte then 32 else byte
 
 -- the byte that stands in place of a bulk string, and a quote
 abbrev pub byte_of : ProtocolError → List ℕ

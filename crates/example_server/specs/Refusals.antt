@@ -2,13 +2,14 @@
 use Rattle.std.specs.Prelude.{ℕ, ◌-◌, nat_lt, List, [], ◌∷◌, ◌++◌, length, take, map, codes, Vec}
 use Rattle.std.specs.Prelude.{if◌then◌else◌}
 use Rattle.std.specs.Char.{to_ascii_uppercase}
+use Rattle.std.specs.List.{suffix_len}
 use Rattle.std.specs.declared.alloc.Global.{Global}
 use Rattle.resp_containers.specs.Lossy.{lossy}
 use Rattle.resp_errors.specs.ServerErrors.{server_error}
 use Rattle.resp_value.specs.declared.value.Value.{Value, ServerError}
 use Rattle.example_server.specs.Lines.{end_at}
 use Rattle.example_server.specs.Names.{text_of}
-use Rattle.example_server.specs.ProtocolErrors.{spaced}
+use Rattle.example_server.specs.ProtocolErrors.{is_line_end, spaced}
 use Rattle.example_server.specs.declared.refusal.Refusal.{Refusal}
 use Rattle.example_server.specs.declared.refusal.Refusal.TheVariants as refusal
 
@@ -80,6 +81,10 @@ line_of (refusal.ExpireTime name) =
     codes "ERR invalid expire time in '" ++ text_of name ++ codes "' command"
 line_of why = fixed_line why
 
--- the error reply: the line without a CR or LF, and U+FFFD for what is no UTF-8
+-- the line without the CRs and LFs at its end
+abbrev pub trimmed : List ℕ → List ℕ
+trimmed line = take (length line - suffix_len is_line_end line) line
+
+-- the error reply: a space for each other CR or LF, and U+FFFD for what is no UTF-8
 abbrev pub error_of : Refusal → Value
-error_of why = ServerError (server_error (lossy (map spaced (line_of why))))
+error_of why = ServerError (server_error (lossy (map spaced (trimmed (line_of why)))))

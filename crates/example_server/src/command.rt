@@ -1,5 +1,6 @@
 //! Commands.
 
+use crate::clock::Time;
 use crate::refusal::Refusal;
 use resp_core::{Bytes, ProtocolVersion};
 
@@ -46,21 +47,29 @@ pub enum KeyCommand {
     Exists(Vec<Vec<u8>>),
     /// `INCR key`
     Incr(Vec<u8>),
-    /// `EXPIRE key seconds`, and to which keys it gives a time.
-    Expire(Vec<u8>, Reach),
+    /// `EXPIRE key seconds`: the time, and to which keys it is given.
+    Expire(Vec<u8>, Time, Reach),
     /// `HSET key`, with fields and their values.
     HSet(Vec<u8>, Vec<(Vec<u8>, Bytes)>),
     /// `HGETALL key`
     HGetAll(Vec<u8>),
 }
 
-/// To which keys `EXPIRE` gives a time. No key has one, since times are forgotten.
+/// To which keys `EXPIRE` gives a time.
 #[derive(Clone, Copy)]
 pub enum Reach {
-    /// No option, `NX` or `LT`: to keys without a time, too.
+    /// No option: to every key.
     EveryKey,
-    /// `XX` or `GT`: to keys that have one.
-    KeysWithTime,
+    /// `NX`: to keys that have none.
+    WithoutTime,
+    /// `XX`: to keys that have one.
+    WithTime,
+    /// `GT`: to keys that have an earlier one.
+    WithEarlierTime,
+    /// `XX` and `LT`: to keys that have a later one.
+    WithLaterTime,
+    /// `LT`: to keys that have a later one, or none.
+    WithLaterOrNoTime,
 }
 
 /// A command about the connection.
@@ -88,13 +97,26 @@ pub enum ConnectionCommand {
     Documents,
 }
 
-/// The options of `SET` but for the expiry, which is forgotten.
+/// The options of `SET`.
 #[derive(Clone, Copy)]
 pub struct SetOptions {
     /// When the key is set.
     pub condition: Condition,
     /// `GET`: whether the reply is the string that the key held before.
     pub get: bool,
+    /// When the key expires.
+    pub expiry: Expiry,
+}
+
+/// When a key that is set expires.
+#[derive(Clone, Copy)]
+pub enum Expiry {
+    /// Never.
+    Never,
+    /// `KEEPTTL`: when it would have before.
+    Kept,
+    /// `EX`, `PX`, `EXAT` or `PXAT`: at this time.
+    At(Time),
 }
 
 /// When a key is set.

@@ -1,17 +1,20 @@
 //! Options of `EXPIRE`.
 
+use crate::clock::{Time, in_seconds};
 use crate::command::Reach;
 use crate::integers::integer_of;
 use crate::names::CommandName;
 use crate::refusal::Refusal;
-use crate::set_options::EARLIEST;
 use std::vec;
 
-/// The options of these words, after a number of seconds; a word may stand twice.
+/// The time in so many seconds, and to which keys these words give it; a word may stand twice.
 ///
 /// What is wrong is refused in the order in which a server looks: an unknown option, options that
 /// exclude each other, a time that is no integer, and one whose milliseconds aren't of 64 bits.
-pub fn expire_options(seconds: &[u8], words: vec::IntoIter<Vec<u8>>) -> Result<Reach, Refusal> {
+pub fn expire_options(
+    seconds: &[u8],
+    words: vec::IntoIter<Vec<u8>>,
+) -> Result<(Time, Reach), Refusal> {
     let mut options = Options {
         nx: false,
         xx: false,
@@ -22,8 +25,7 @@ pub fn expire_options(seconds: &[u8], words: vec::IntoIter<Vec<u8>>) -> Result<R
         options.read(word)?;
     }
     options.check()?;
-    check_seconds(seconds)?;
-    Ok(options.reach())
+    Ok((time_of(seconds)?, options.reach()))
 }
 
 /// The options that were read so far.
@@ -63,20 +65,25 @@ impl Options {
     }
 
     fn reach(&self) -> Reach {
-        if self.xx || self.gt {
-            Reach::KeysWithTime
+        if self.nx {
+            Reach::WithoutTime
+        } else if self.gt {
+            Reach::WithEarlierTime
+        } else if self.lt && self.xx {
+            Reach::WithLaterTime
+        } else if self.lt {
+            Reach::WithLaterOrNoTime
+        } else if self.xx {
+            Reach::WithTime
         } else {
             Reach::EveryKey
         }
     }
 }
 
-fn check_seconds(number: &[u8]) -> Result<(), Refusal> {
+fn time_of(number: &[u8]) -> Result<Time, Refusal> {
     let Some(seconds) = integer_of(number) else {
         return Err(Refusal::NotInteger);
     };
-    if seconds > (i64::MAX - EARLIEST) / 1000 || seconds < i64::MIN / 1000 {
-        return Err(Refusal::ExpireTime(CommandName::Expire));
-    }
-    Ok(())
+    in_seconds(seconds).ok_or(Refusal::ExpireTime(CommandName::Expire))
 }

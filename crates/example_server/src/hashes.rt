@@ -3,11 +3,12 @@
 ghost use Rattle.std.specs.Prelude.{◌≡◌, ◌-◌, IfOk, OnOk, MatchResult, map, length};
 ghost use Rattle.std.specs.BTreeMap.{IsUnchanged};
 ghost use Rattle.example_server.specs.KeyCommands.{GetsAll, SetsFields, PutsFields, KeepsOtherKeys};
-ghost use Rattle.example_server.specs.KeyCommands.{held, fields_in, with_fields, shown};
+ghost use Rattle.example_server.specs.KeyCommands.{held, content_of, fields_in, with_fields, shown};
 
+use crate::clock::Time;
 use crate::refusal::Refusal;
 use crate::reply::Reply;
-use crate::store::{Entry, Fields, Store};
+use crate::store::{Content, Entry, Fields, Store, content_of, time_of};
 use resp_core::{Bytes, Items};
 use std::alloc::{AllocError, Global};
 use std::collections::BTreeMap;
@@ -21,8 +22,9 @@ pub fn hset(
 ) -> Result<Reply, AllocError>
     ensures { IfOk result (SetsFields store.old store.new key pairs.items) }
 {
+    let expires = time_of(store.get(&key));
     match take_fields(alloc, store, &key) {
-        Ok(fields) => put_fields(store, key, fields, pairs),
+        Ok(fields) => put_fields(store, key, fields, expires, pairs),
         Err(refusal) => Ok(Reply::Refused(refusal)),
     }
 }
@@ -30,16 +32,16 @@ pub fn hset(
 /// Takes the fields out of the hash that a key holds; there are none where nothing is held.
 fn take_fields(alloc: Global, store: &mut Store, key: &Vec<u8>) -> Result<Fields, Refusal>
     ensures { MatchResult result
-        (λ fields. (fields_in (held store.old key.now) ≡ Ok fields.entries)
+        (λ fields. (fields_in (content_of (held store.old key.now)) ≡ Ok fields.entries)
         × KeepsOtherKeys store.old store.new key.now)
-        (λ why. (fields_in (held store.old key.now) ≡ Err why)
+        (λ why. (fields_in (content_of (held store.old key.now)) ≡ Err why)
         × IsUnchanged store.old store.new) }
 {
-    match store.get(key) {
-        Some(Entry::Text(_)) => Err(Refusal::WrongType),
-        Some(Entry::Hash(_)) => match store.remove(key) {
-            Some(Entry::Hash(fields)) => Ok(fields),
-            Some(Entry::Text(_text)) => unreachable!(),
+    match content_of(store.get(key)) {
+        Some(Content::Text(_)) => Err(Refusal::WrongType),
+        Some(Content::Hash(_)) => match store.remove(key).map(Entry::into_content) {
+            Some(Content::Hash(fields)) => Ok(fields),
+            Some(Content::Text(_text)) => unreachable!(),
             None => unreachable!(),
         },
         None => Ok(BTreeMap::new(alloc)),
@@ -51,13 +53,15 @@ fn put_fields(
     store: &mut Store,
     key: Vec<u8>,
     fields: Fields,
+    expires: Option<Time>,
     pairs: Vec<(Vec<u8>, Bytes)>,
 ) -> Result<Reply, AllocError>
-    ensures { IfOk result (PutsFields store.old store.new key fields.entries pairs.items) }
+    ensures { IfOk result (PutsFields store.old store.new key fields.entries expires pairs.items) }
 {
     let mut fields = fields;
     let added = set_fields(&mut fields, pairs)?;
-    store.insert(key, Entry::Hash(fields))?;
+    let content = Content::Hash(fields);
+    store.insert(key, Entry { content, expires })?;
     Ok(Reply::Count(added))
 }
 
@@ -78,9 +82,9 @@ fn set_fields(fields: &mut Fields, pairs: Vec<(Vec<u8>, Bytes)>) -> Result<usize
 pub fn hgetall(alloc: Global, store: &Store, key: &Vec<u8>) -> Result<Reply, AllocError>
     ensures { IfOk result (GetsAll store.now store.now key.now) }
 {
-    match store.get(key) {
-        Some(Entry::Hash(fields)) => Ok(Reply::Fields(copies(alloc, fields)?)),
-        Some(Entry::Text(_)) => Ok(Reply::Refused(Refusal::WrongType)),
+    match content_of(store.get(key)) {
+        Some(Content::Hash(fields)) => Ok(Reply::Fields(copies(alloc, fields)?)),
+        Some(Content::Text(_)) => Ok(Reply::Refused(Refusal::WrongType)),
         None => Ok(Reply::Fields(Items::new(alloc))),
     }
 }

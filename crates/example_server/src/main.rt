@@ -10,14 +10,16 @@
 //!   fields, `HGETALL`;
 //! - `MULTI`, `EXEC` and `DISCARD`.
 //!
-//! Any other command is answered with an error. No key ever expires: times are read and forgotten,
-//! so a key has none. There is one client and one database, which live as long as the program runs.
-//! After a request that can't be read the client is told why, and nothing more is answered.
+//! Any other command is answered with an error. The clock stands still, in November 2023: a key
+//! keeps its time, and goes at once where that has come. There is one client and one database, which
+//! live as long as the program runs. After a request that can't be read the client is told why, and
+//! nothing more is answered.
 //!
 //! The exit status is 0 where the input ends between two requests, after `QUIT` or after what can't
 //! be read, and 1 where it ends within a request or a stream fails.
 #![tactic(auto)]
 
+mod clock;
 mod command;
 mod connection;
 mod counting;

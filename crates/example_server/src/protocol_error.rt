@@ -1,7 +1,7 @@
 //! What is wrong with bytes that are no request, in the words of a server.
 
 ghost use Rattle.std.specs.Prelude.{◌≡◌, IfOk};
-ghost use Rattle.example_server.specs.ProtocolErrors.{spaced, text_of, told};
+ghost use Rattle.example_server.specs.ProtocolErrors.{is_line_end, spaced, text_of, told};
 
 use std::alloc::{AllocError, Global};
 
@@ -58,9 +58,12 @@ impl ProtocolError {
 fn shown(byte: u8) -> u8
     ensures { result ≡ spaced byte }
 {
-    if byte == b'\r' || byte == b'\n' {
-        b' '
-    } else {
-        byte
-    }
+    if is_line_end(byte) { b' ' } else { byte }
+}
+
+/// Whether it is a CR or LF.
+pub fn is_line_end(byte: u8) -> bool
+    ensures { result ≡ is_line_end byte }
+{
+    byte == b'\r' || byte == b'\n'
 }

@@ -146,7 +146,7 @@ fn expire(arguments: Vec<Vec<u8>>) -> Option<Command> {
     let key = arguments.next()?;
     let seconds = arguments.next()?;
     match expire_options(seconds.as_slice(), arguments) {
-        Ok(reach) => Some(Command::Keys(KeyCommand::Expire(key, reach))),
+        Ok((time, reach)) => Some(Command::Keys(KeyCommand::Expire(key, time, reach))),
         Err(refusal) => Some(Command::Refused(refusal)),
     }
 }

@@ -3,12 +3,13 @@
 ghost use Rattle.std.specs.Prelude.{◌≡◌, ◌++◌, IfOk, OnOk, [], map, take, codes};
 ghost use Rattle.std.specs.Char.{to_ascii_uppercase};
 ghost use Rattle.example_server.specs.Names.{text_of};
-ghost use Rattle.example_server.specs.Refusals.{error_of, line_of, fixed_line, unknown_line};
+ghost use Rattle.example_server.specs.Refusals.{error_of, line_of, fixed_line, unknown_line, trimmed};
 ghost use Rattle.example_server.specs.Refusals.{c_string, front, quoted_after, with_quoted};
 ghost use Rattle.example_server.specs.ProtocolErrors.{spaced};
 
 use crate::lines::end_of;
 use crate::names::CommandName;
+use crate::protocol_error::is_line_end;
 use resp_core::{RedisResult, ServerError, Text, Value};
 use std::alloc::{AllocError, Global};
 
@@ -65,12 +66,13 @@ const REPEATED: usize = 128;
 impl Refusal {
     /// The refusal as an error reply.
     ///
-    /// A word that it repeats ends before a NUL, a CR or LF in it is a space, and what isn't UTF-8 is
-    /// U+FFFD.
+    /// A word that it repeats ends before a NUL, a CR or LF in it is a space, but left out at the end
+    /// of the line, and what isn't UTF-8 is U+FFFD.
     pub fn into_value(self, alloc: Global) -> RedisResult<Value>
         ensures { IfOk result (λ value. value ≡ error_of self) }
     {
-        let line = without_ends(alloc, self.line(alloc)?.as_slice())?;
+        let line = self.line(alloc)?;
+        let line = without_ends(alloc, trimmed(line.as_slice()))?;
         let text = Text::from_utf8_lossy(alloc, line.as_slice())?;
         Ok(Value::ServerError(ServerError::from_text(alloc, text.as_str())?))
     }
@@ -127,14 +129,24 @@ impl Refusal {
     }
 }
 
+/// The line without the CRs and LFs at its end.
+fn trimmed(line: &[u8]) -> &[u8]
+    ensures { result.now ≡ trimmed line.now }
+{
+    let mut len = line.len();
+    while len > 0 && is_line_end(line[len - 1]) {
+        len -= 1;
+    }
+    &line[..len]
+}
+
 /// The bytes with a space for each CR and LF.
 fn without_ends(alloc: Global, line: &[u8]) -> Result<Vec<u8>, AllocError>
     ensures { IfOk result (λ out. out.items ≡ map spaced line.now) }
 {
     let mut out = Vec::new(alloc);
     for byte in line {
-        let is_end = *byte == b'\r' || *byte == b'\n';
-        out.push(if is_end { b' ' } else { *byte })?;
+        out.push(if is_line_end(*byte) { b' ' } else { *byte })?;
     }
     Ok(out)
 }

@@ -1,6 +1,7 @@
 //! Options of `SET`.
 
-use crate::command::{Condition, SetOptions};
+use crate::clock::{Time, at_second, in_milliseconds, in_seconds};
+use crate::command::{Condition, Expiry, SetOptions};
 use crate::integers::integer_of;
 use crate::names::CommandName;
 use crate::refusal::Refusal;
@@ -15,9 +16,6 @@ pub fn set_options(words: vec::IntoIter<Vec<u8>>) -> Result<SetOptions, Refusal>
     }
     reading.options()
 }
-
-/// No clock shows less, in milliseconds since 1970: it stands for the time at which a command comes.
-pub const EARLIEST: i64 = 1_700_000_000_000;
 
 /// When the key expires.
 #[derive(Clone, Copy, PartialEq, Eq)]
@@ -46,6 +44,7 @@ impl Reading {
             options: SetOptions {
                 condition: Condition::Always,
                 get: false,
+                expiry: Expiry::Never,
             },
             lifetime: None,
             number: None,
@@ -95,10 +94,11 @@ impl Reading {
         if self.awaits_number {
             return Err(Refusal::Syntax);
         }
-        if let (Some(lifetime), Some(number)) = (self.lifetime, &self.number) {
-            check_time(lifetime, number.as_slice())?;
+        let mut options = self.options;
+        if let Some(lifetime) = self.lifetime {
+            options.expiry = expiry_of(lifetime, self.number)?;
         }
-        Ok(self.options)
+        Ok(options)
     }
 }
 
@@ -128,19 +128,27 @@ fn condition_named(word: &[u8]) -> Result<Condition, Refusal> {
     }
 }
 
-/// A time is a positive number, and the milliseconds at which it passes are of 64 bits.
-fn check_time(lifetime: Lifetime, number: &[u8]) -> Result<(), Refusal> {
-    let Some(time) = integer_of(number) else {
+/// The lifetime, of this number if it has one.
+fn expiry_of(lifetime: Lifetime, number: Option<Vec<u8>>) -> Result<Expiry, Refusal> {
+    match number {
+        Some(number) => Ok(Expiry::At(time_of(lifetime, number.as_slice())?)),
+        None => Ok(Expiry::Kept),
+    }
+}
+
+/// A lifetime has a positive number, and its time is of 64 bits.
+fn time_of(lifetime: Lifetime, number: &[u8]) -> Result<Time, Refusal> {
+    let Some(number) = integer_of(number) else {
         return Err(Refusal::NotInteger);
     };
-    let most = match lifetime {
-        Lifetime::Seconds => (i64::MAX - EARLIEST) / 1000,
-        Lifetime::Milliseconds => i64::MAX - EARLIEST,
-        Lifetime::TimeInSeconds => i64::MAX / 1000,
-        _ => i64::MAX,
-    };
-    if time <= 0 || time > most {
+    if number <= 0 {
         return Err(Refusal::ExpireTime(CommandName::Set));
     }
-    Ok(())
+    let time = match lifetime {
+        Lifetime::Seconds => in_seconds(number),
+        Lifetime::Milliseconds => in_milliseconds(number),
+        Lifetime::TimeInSeconds => at_second(number),
+        _ => Some(number),
+    };
+    time.ok_or(Refusal::ExpireTime(CommandName::Set))
 }
