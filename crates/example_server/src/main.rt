@@ -11,9 +11,9 @@
 //! - `MULTI`, `EXEC` and `DISCARD`.
 //!
 //! Any other command is answered with an error. The clock stands still, in November 2023: a key
-//! keeps its time, and goes at once where that has come. There is one client and one database, which
-//! live as long as the program runs. After a request that can't be read the client is told why, and
-//! nothing more is answered.
+//! keeps its time, and goes at once where that has come. There is one client and one database,
+//! which live as long as the program runs. After a request that can't be read the client is told
+//! why, and nothing more is answered.
 //!
 //! The exit status is 0 where the input ends between two requests, after `QUIT` or after what can't
 //! be read, and 1 where it ends within a request or a stream fails.

@@ -3,8 +3,9 @@
 ghost use Rattle.std.specs.Prelude.{◌≡◌, ◌++◌, IfOk, OnOk, [], map, take, codes};
 ghost use Rattle.std.specs.Char.{to_ascii_uppercase};
 ghost use Rattle.example_server.specs.Names.{text_of};
-ghost use Rattle.example_server.specs.Refusals.{error_of, line_of, fixed_line, unknown_line, trimmed};
+ghost use Rattle.example_server.specs.Refusals.{error_of, line_of, fixed_line, unknown_line};
 ghost use Rattle.example_server.specs.Refusals.{c_string, front, quoted_after, with_quoted};
+ghost use Rattle.example_server.specs.Refusals.{trimmed};
 ghost use Rattle.example_server.specs.ProtocolErrors.{spaced};
 
 use crate::lines::end_of;
@@ -66,8 +67,8 @@ const REPEATED: usize = 128;
 impl Refusal {
     /// The refusal as an error reply.
     ///
-    /// A word that it repeats ends before a NUL, a CR or LF in it is a space, but left out at the end
-    /// of the line, and what isn't UTF-8 is U+FFFD.
+    /// A word that it repeats ends before a NUL, a CR or LF in it is a space, but left out at the
+    /// end of the line, and what isn't UTF-8 is U+FFFD.
     pub fn into_value(self, alloc: Global) -> RedisResult<Value>
         ensures { IfOk result (λ value. value ≡ error_of self) }
     {

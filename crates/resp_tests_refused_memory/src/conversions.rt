@@ -138,6 +138,17 @@ fn what_a_cursor_stands_at(rt: HostRuntime) {
     );
 }
 
+/// The conversions of a type, by its own functions.
+#[test]
+fn by_the_types_functions(rt: HostRuntime) {
+    let alloc = rt.alloc();
+    let (moved, borrowed) = (value_of(&rt, ABC), value_of(&rt, ABC));
+    makes! { rt;
+        String::from_redis_value_ref(alloc, &borrowed) => "abc",
+        String::from_redis_value(alloc, moved) => "abc",
+    }
+}
+
 /// Lists that the type makes of several replies.
 #[test]
 fn several_replies(rt: HostRuntime) {

@@ -120,8 +120,17 @@ fn fields_by_name(rt: HostRuntime) {
     }
 }
 
+/// The name in the hash, by the type's own function.
+fn own_fields(alloc: Global) -> RedisResult<Named> {
+    let mut fields: Fields = of_hash(alloc)?;
+    Ok(Named::from_fields(alloc, &mut fields)?)
+}
+
 #[test]
 fn structs_of_fields(rt: HostRuntime) {
+    refuse(rt.alloc());
+    let own = own_fields(rt.alloc());
+    shows(&rt, own, "Ok(Named { name: \"ann\" })");
     refuse(rt.alloc());
     let named = of_hash::<Named>(rt.alloc());
     shows(&rt, named, "Ok(Named { name: \"ann\" })");

@@ -182,18 +182,29 @@ fn one_command(rt: HostRuntime) {
     }
 }
 
-/// A sink that has no room for a request: memory ran out, and the link is broken.
+/// What comes in after `:1` for a first call: `abc` for the next, and `:7`.
+const LATER: &[u8] = b">1\r\n+own\r\n:1\r\n>1\r\n+x\r\n$3\r\nabc\r\n:7\r\n";
+
+/// A link over which one call was answered, and one push is set aside.
+fn called_once(rt: &impl Test) -> Link {
+    let mut con = link(rt, LATER);
+    let first: i64 = get(rt).query(&mut con).expect(rt, "no refusal");
+    equal(rt, first, 1);
+    equal(rt, con.pushes().len(), 1);
+    con
+}
+
+/// The pushes of an earlier call stay where the next one is refused.
 #[test]
-fn sinks_without_room(rt: HostRuntime) {
-    let incoming = Vec::from_slice(rt.alloc(), b":7\r\n").expect(&rt, "no refusal");
-    let mut con = ByteLink::new(rt.alloc(), Cursor::new(incoming), Vec::new(rt.alloc()));
+fn pushes_of_an_earlier_call(rt: HostRuntime) {
+    let command = get(&rt);
+    let mut con = called_once(&rt);
     refuse(rt.alloc());
-    let answer = con.req_packed_command(GET_K);
-    let ran_out = matches!(&answer, Err(RedisError::OutOfMemory));
-    shows(&rt, answer, "Ok(int(7))");
-    equal(&rt, con.is_broken(), ran_out);
-    let sent = sent(con);
-    assert!(rt; sent.as_slice() == GET_K || ran_out && sent.is_empty());
+    let answer = con.req_command(&command);
+    let least = if answer.is_ok() { 2 } else { 1 };
+    shows(&rt, answer, "Ok(bulk-string('\"abc\"'))");
+    let aside = set_aside(&rt, &con, pushes_in(&rt, LATER).as_slice());
+    assert!(rt; aside >= least);
 }
 
 const TWO: &[u8] = b"+a\r\n>2\r\n+message\r\n+x\r\n*2\r\n$1\r\nb\r\n$1\r\nc\r\n:7\r\n";
