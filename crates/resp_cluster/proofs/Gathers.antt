@@ -5,6 +5,7 @@ use Rattle.std.proofs.Common.{slice_index_or, slice_set, eqb-true, eq-eqb, ne_eq
 use Rattle.std.proofs.lemmas.Bool.{eqb-false}
 use Rattle.std.proofs.lemmas.List.{take_more, drop_more, take_all, drop_all, get_or-set_same, get_or-set_other, length-set}
 use Rattle.std.proofs.lemmas.List.{length-append}
+use Rattle.std.specs.Global.{Vec}
 use Rattle.resp_value.specs.declared.value.Value.{Value}
 use Rattle.resp_errors.specs.declared.redis_error.RedisError.{RedisError}
 use Rattle.resp_command.specs.Command.{Command}
@@ -222,7 +223,7 @@ pub node_at : (nodes : List NodeAddr) (place n : ℕ) (node : NodeAddr) → plac
     → slice_get nodes n ≡ Some node
 node_at nodes place n node same within is = rw (← same) (at_place nodes place node within ∙ ap Some (sym is))
 
-module _ {S : Type 0} (sends : S → S → NodeAddr → List ℕ → ℕ → Result (List Value) RedisError → Type 0)
+module _ {S : Type 0} (sends : S → S → NodeAddr → List ℕ → ℕ → Result (Vec Value) RedisError → Type 0)
     (commands : List Command) (targets : List ℕ) where
   pub one_more : (first : ℕ) (nodes : List NodeAddr) (old : S) (groups : List (List Value)) (between : S) (place : ℕ)
       (node : NodeAddr) (replies : List Value) (new : S) → SentEach sends commands targets first nodes old groups between

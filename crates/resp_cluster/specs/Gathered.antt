@@ -1,6 +1,7 @@
 -- Several commands over the nodes of a cluster, each of which is sent those that go there as one request.
 use Rattle.std.specs.Prelude.{◌≡◌, ◌≢◌, ℕ, ◌+◌, ◌<◌, ◌==◌, List, [], ◌∷◌, map, length, slice_get, slice_index_or, Result, Ok, Err, Some}
 use Rattle.std.specs.Prelude.{if◌then◌else◌}
+use Rattle.std.specs.Global.{Vec}
 use Rattle.std.specs.List.{flat_map}
 use Rattle.resp_value.specs.declared.value.Value.{Value}
 use Rattle.resp_errors.specs.declared.redis_error.RedisError.{RedisError}
@@ -27,12 +28,13 @@ given_by groups node = slice_index_or groups node []
 abbrev pub InPlaces : List (List Value) → List ℕ → List Value → Type 0
 InPlaces groups targets replies = (node : ℕ) → node < length groups → of_node node targets replies ≡ given_by groups node
 
-module _ {S : Type 0} (sends : S → S → NodeAddr → List ℕ → ℕ → Result (List Value) RedisError → Type 0) where
+module _ {S : Type 0} (sends : S → S → NodeAddr → List ℕ → ℕ → Result (Vec Value) RedisError → Type 0) where
   -- a node is sent commands as one request, and gives as many replies; where there are none, nothing is sent
   pub record SentGroup (group : List Command) (old : S) (node : NodeAddr) (replies : List Value) (new : S) : Type 0 where
     pub counted : length replies ≡ length group
     pub none : group ≡ [] → new ≡ old
-    pub some : group ≢ [] → sends old new node (request_of group) (length group) (Ok replies)
+    pub some : group ≢ [] → (given : Vec Value)
+        × ((given.items ≡ replies) × sends old new node (request_of group) (length group) (Ok given))
 
   module _ (commands : List Command) (targets : List ℕ) where
     -- nodes in order, of which the first is at this place, are sent each its commands, and give these replies

@@ -8,19 +8,20 @@ ghost use Rattle.resp_cluster.specs.Gathering.{Enough, from_last};
 
 use crate::node::NodeAddr;
 use resp_command::Cmd;
-use resp_value::{Items, RedisError, RedisResult, Value};
+use resp_value::{RedisError, RedisResult, Value};
 use std::alloc::Global;
 
 /// What several commands are sent by: the nodes of a cluster, and the links to them.
 pub trait SendGroups {
     ghost use Rattle.std.specs.Prelude.{◌≡◌, ℕ, IfOk, List, Result, length};
+    ghost use Rattle.std.specs.Global.{Vec};
     ghost use Rattle.resp_value.specs.declared.value.Value.{Value};
     ghost use Rattle.resp_errors.specs.declared.redis_error.RedisError.{RedisError};
     ghost use Rattle.resp_command.specs.Command.{Command};
     ghost use Rattle.resp_cluster.specs.declared.node.NodeAddr.{NodeAddr};
 
     /// What sending a node a request of so many commands does, and which replies it gives.
-    ghost sends: { Self → Self → NodeAddr → List ℕ → ℕ → Result (List Value) RedisError
+    ghost sends: { Self → Self → NodeAddr → List ℕ → ℕ → Result (Vec Value) RedisError
         → Type 0 };
 
     /// Sends a node a request of so many commands, and answers as many replies.
@@ -29,9 +30,9 @@ pub trait SendGroups {
         node: &NodeAddr,
         request: &[u8],
         count: usize,
-    ) -> RedisResult<Items<Value>>
+    ) -> RedisResult<Vec<Value>>
         ensures sent { sends self.old self.new node.now request.now count result }
-        ensures counted { IfOk result (λ replies. length replies ≡ count) };
+        ensures counted { IfOk result (λ replies. length replies.items ≡ count) };
 
     /// What following the reply of a node to a command does, and what is answered then.
     ghost follows: { Self → Self → NodeAddr → Command → Value → Result Value RedisError → Type 0 };
@@ -142,7 +143,7 @@ fn send_to<C: SendGroups>(
         return Ok(Vec::new(alloc));
     }
     let replies = cluster.send_group(node, group.request.as_slice(), group.count)?;
-    Ok(replies.into_vec())
+    Ok(replies)
 }
 
 /// The commands that go to a node.
