@@ -242,6 +242,13 @@ impl Pipeline {
         self.commands.as_slice().iter()
     }
 
+    /// The commands, in order.
+    pub fn commands(&self) -> &[Cmd]
+        ensures { result.now ≡ self.now.commands }
+    {
+        &self.commands[..]
+    }
+
     /// Takes all commands away; a transaction stays one, and ignored errors stay ignored. Takes no
     /// memory.
     pub fn clear(&mut self)
