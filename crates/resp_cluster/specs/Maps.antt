@@ -1,6 +1,7 @@
 -- Which nodes serve which slots.
-use Rattle.std.specs.Prelude.{ℕ, Bool, ◌&&◌, nat_le, List, [], Option, Some, find}
-use Rattle.std.specs.Option.{option_and_then}
+use Rattle.std.specs.Prelude.{◌≡◌, ℕ, ◌<◌, ◌==◌, Bool, true, false, ◌&&◌, nat_le, List, [], ◌∷◌, Option, None, Some, find}
+use Rattle.std.specs.Prelude.{length, slice_set, if◌then◌else◌}
+use Rattle.std.specs.Option.{option_and_then, option_map_or}
 use Rattle.resp_cluster.specs.declared.node.NodeAddr.{NodeAddr}
 use Rattle.resp_cluster.specs.declared.node.SlotRange.{SlotRange}
 
@@ -19,3 +20,27 @@ moved slot node = record { first = slot; last = slot; primary = Some node; repli
 -- the primary of a slot, if the map knows one
 abbrev pub primary_at : List SlotRange → ℕ → Option NodeAddr
 primary_at map slot = option_and_then (λ range. range.primary) (range_at map slot)
+
+-- the range has this slot and no other
+abbrev pub is_of : ℕ → SlotRange → Bool
+is_of slot range = (range.first == slot) && (range.last == slot)
+
+-- the first range that has this slot has no other
+abbrev pub has_own_range : ℕ → List SlotRange → Bool
+has_own_range slot map = option_map_or (is_of slot) (range_at map slot) false
+
+-- a map with this range in place of the first that has this slot
+abbrev pub with_range : ℕ → SlotRange → List SlotRange → List SlotRange
+with_range slot new [] = []
+with_range slot new (range ∷ map) = if covers slot range then new ∷ map else range ∷ with_range slot new map
+
+-- a map that says that a slot is at this node: in a range of its own, where it had one, or before all others
+abbrev pub with_primary : ℕ → NodeAddr → List SlotRange → List SlotRange
+with_primary slot node map =
+    if has_own_range slot map then with_range slot (moved slot node) map else moved slot node ∷ map
+
+-- the place of the first range that has this slot, if that has no other
+abbrev pub IsOwnPlace : ℕ → List SlotRange → Option ℕ → Type 0
+IsOwnPlace slot map None = has_own_range slot map ≡ false
+IsOwnPlace slot map (Some place) = (has_own_range slot map ≡ true) × (place < length map)
+    × ((new : SlotRange) → with_range slot new map ≡ slice_set map place new)

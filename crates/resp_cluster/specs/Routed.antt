@@ -1,17 +1,17 @@
 -- One command over the nodes of a cluster.
 use Rattle.std.specs.Prelude.{◌≡◌, ℕ, ◌≤◌, ◌⊎◌, Bool, true, false, List, ◌∷◌, length, Option, Some, None}
 use Rattle.std.specs.List.{FoldsTo}
-use Rattle.resp_cluster.specs.Maps.{moved, primary_at}
+use Rattle.resp_cluster.specs.Maps.{primary_at, with_primary}
 use Rattle.resp_cluster.specs.declared.node.NodeAddr.{NodeAddr}
 use Rattle.resp_cluster.specs.declared.node.SlotRange.{SlotRange}
-use Rattle.resp_cluster.specs.declared.router.Redirect.{Redirect}
-use Rattle.resp_cluster.specs.declared.router.Redirect.TheVariants.{Stays, Moved, Ask}
+use Rattle.resp_cluster.specs.declared.redirect.Redirect.{Redirect}
+use Rattle.resp_cluster.specs.declared.redirect.Redirect.TheVariants.{Stays, Moved, Ask}
 use Rattle.resp_cluster.specs.declared.router.Reply.{Reply}
 
 -- the map after a reply: a MOVED says where its slot is, and nothing else changes it
 abbrev pub map_after : Redirect → List SlotRange → List SlotRange
 map_after Stays map = map
-map_after (Moved slot node) map = moved slot node ∷ map
+map_after (Moved slot node) map = with_primary slot node map
 map_after (Ask node) map = map
 
 -- where a reply sends the command: to the node that it names, after ASKING only where it is an ASK

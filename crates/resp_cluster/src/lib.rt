@@ -5,6 +5,7 @@ mod equality;
 mod gather;
 mod merge;
 mod node;
+mod redirect;
 mod router;
 mod shards_reply;
 mod slot_map;
@@ -12,6 +13,7 @@ mod slots_reply;
 mod split;
 
 pub use node::{NodeAddr, PortKind, SlotRange, TopologyError};
-pub use router::{Nodes, Redirect, Reply, RouteError, route};
+pub use redirect::{Redirect, redirect_of};
+pub use router::{Nodes, Reply, RouteError, route};
 pub use slot_map::SlotMap;
 pub use split::{Merge, Parts};

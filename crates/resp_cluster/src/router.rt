@@ -6,20 +6,9 @@ ghost use Rattle.resp_cluster.specs.Routed.{CutShort, Followed, Interrupted, Rou
 ghost use Rattle.resp_cluster.specs.Routed.{map_after, next_of};
 
 use crate::node::NodeAddr;
+use crate::redirect::Redirect;
 use crate::slot_map::SlotMap;
 use std::alloc::{AllocError, Global};
-
-/// Where a reply sends its command.
-#[derive(Debug, Drop)]
-pub enum Redirect {
-    /// Nowhere: it is the answer. So are `TRYAGAIN` and `CLUSTERDOWN`, and the failure of a link:
-    /// a command that may have run isn't sent again.
-    Stays,
-    /// To this node, where the slot is from now on: `MOVED`.
-    Moved(u16, NodeAddr),
-    /// To this node, this once and after `ASKING`: `ASK`.
-    Ask(NodeAddr),
-}
 
 /// A reply, and where it sends its command.
 #[derive(Drop)]

@@ -1,6 +1,6 @@
 //! The map of slots.
 
-ghost use Rattle.std.specs.Prelude.{◌≡◌, ◌∷◌, [], OnErr, OnOk};
+ghost use Rattle.std.specs.Prelude.{◌≡◌, ◌≢◌, ℕ, [], OnErr, OnOk, Some};
 ghost use Rattle.std.specs.Option.{option_copied};
 
 use crate::node::{NodeAddr, PortKind, SlotRange, TopologyError};
@@ -31,7 +31,7 @@ impl Model for SlotMap {
 }
 
 impl SlotMap {
-    ghost use Rattle.resp_cluster.specs.Maps.{moved, primary_at, range_at};
+    ghost use Rattle.resp_cluster.specs.Maps.{primary_at, range_at, with_primary, IsOwnPlace};
     ghost use Rattle.resp_cluster.specs.Replies.{Gives, map_in};
     ghost use Rattle.resp_cluster.specs.Shards.{map_of_shards};
 
@@ -115,10 +115,14 @@ impl SlotMap {
         self.range_at(slot)?.primary.as_ref()
     }
 
-    /// Says that a slot is now at this node, as a server does by `MOVED`: a range of this slot alone
-    /// comes before the others. On `AllocError` the map is as it was.
+    /// Says that a slot is now at this node, as a server does by `MOVED`; no replica of it is known.
+    /// Where the first range that has the slot has no other, its place is taken; else a range of this
+    /// slot alone comes before the others. On `AllocError` the map is as it was.
     pub fn set_primary(&mut self, slot: u16, node: NodeAddr) -> Result<(), AllocError>
-        ensures set { OnOk result (self.new ≡ moved slot node ∷ self.old) }
+        ensures set { OnOk result (self.new ≡ with_primary slot node self.old) }
+        ensures there { OnOk result (primary_at self.new slot ≡ Some node) }
+        ensures elsewhere { OnOk result ((other : ℕ) → other ≢ slot
+            → primary_at self.new other ≡ primary_at self.old other) }
         ensures unchanged { OnErr result (self.new ≡ self.old) }
     {
         let range = SlotRange {
@@ -127,7 +131,31 @@ impl SlotMap {
             primary: Some(node),
             replicas: Items::new(self.alloc),
         };
-        self.ranges.insert(0, range)?;
-        Ok(())
+        match self.own_place(slot) {
+            Some(place) => {
+                self.ranges[place] = range;
+                Ok(())
+            }
+            None => {
+                self.ranges.insert(0, range)?;
+                Ok(())
+            }
+        }
+    }
+
+    /// The place of the first range that has a slot, if that range has no other.
+    fn own_place(&self, slot: u16) -> Option<usize>
+        ensures { IsOwnPlace slot self.now result }
+    {
+        for (place, range) in self.ranges.iter().enumerate() {
+            if range.covers(slot) {
+                return if range.is_of(slot) {
+                    Some(place)
+                } else {
+                    None
+                };
+            }
+        }
+        None
     }
 }

@@ -2,7 +2,7 @@
 
 ghost use Rattle.std.specs.Prelude.{◌≡◌};
 ghost use Rattle.std.specs.Option.{option_copied};
-ghost use Rattle.resp_cluster.specs.Maps.{covers};
+ghost use Rattle.resp_cluster.specs.Maps.{covers, is_of};
 ghost use Rattle.resp_cluster.specs.Replies.{Gives, IsHost, address, host_in, host_named};
 ghost use Rattle.resp_cluster.specs.Replies.{node_in, node_of, nodes_in, number_below, range_in, range_of};
 ghost use Rattle.resp_cluster.specs.Replies.{range_over, ranges_in, slots_in};
@@ -187,5 +187,11 @@ impl SlotRange {
         ensures { result ≡ covers slot self.now }
     {
         self.first <= slot && slot <= self.last
+    }
+    /// Whether it has this slot and no other.
+    pub(crate) fn is_of(&self, slot: u16) -> bool
+        ensures { result ≡ is_of slot self.now }
+    {
+        self.first == slot && self.last == slot
     }
 }
