@@ -3,3 +3,6 @@ pub mod Replies
 pub mod Shards
 pub mod Redirects
 pub mod Routed
+pub mod Primaries
+pub mod Links
+pub mod Cluster

@@ -6,7 +6,8 @@ use Rattle.resp_cluster.specs.declared.node.NodeAddr.{NodeAddr}
 use Rattle.resp_cluster.specs.declared.node.SlotRange.{SlotRange}
 use Rattle.resp_cluster.specs.declared.redirect.Redirect.{Redirect}
 use Rattle.resp_cluster.specs.declared.redirect.Redirect.TheVariants.{Stays, Moved, Ask}
-use Rattle.resp_cluster.specs.declared.router.Reply.{Reply}
+use Rattle.resp_cluster.specs.declared.router.RouteError.{RouteError}
+use Rattle.resp_cluster.specs.declared.router.RouteError.TheVariants.{NoNode, OutOfMemory, Unfollowed}
 
 -- the map after a reply: a MOVED says where its slot is, and nothing else changes it
 abbrev pub map_after : Redirect → List SlotRange → List SlotRange
@@ -26,26 +27,35 @@ pub record Turn (S : Type 0) : Type 0 where
   pub map : List SlotRange
   pub to : NodeAddr × Bool
 
-module _ {S T : Type 0} (sends : S → S → NodeAddr → Bool → Reply T → Type 0) where
+-- a map learns of where a reply sends its command, and that is the next node
+pub record Learns (Redirects : Redirect → Type 0) (old new : List SlotRange) (next : Option (NodeAddr × Bool)) : Type 0 where
+  pub redirect : Redirect
+  pub reads : Redirects redirect
+  pub learnt : new ≡ map_after redirect old
+  pub next_is : next ≡ next_of redirect
+
+module _ {S T : Type 0} (sends : S → S → NodeAddr → Bool → T → Type 0) (redirects : NodeAddr → T → Redirect → Type 0) where
   -- the command is sent, and the reply sends it on
-  pub record SentOn (old : Turn S) (reply : Reply T) (new : Turn S) : Type 0 where
+  pub record SentOn (old : Turn S) (reply : T) (new : Turn S) : Type 0 where
     pub sent : sends old.nodes new.nodes old.to.0 old.to.1 reply
-    pub learnt : new.map ≡ map_after reply.redirect old.map
-    pub next_is : next_of reply.redirect ≡ Some new.to
+    pub learns : Learns (redirects old.to.0 reply) old.map new.map (Some new.to)
 
   -- the first send goes to this node, and each later one to where the reply before it points; there are at most budget
-  -- later ones; the last one's reply is the answer, and it points nowhere, or the budget is used up
+  -- later ones, and these were the replies before the last
+  pub record Leads (node : NodeAddr) (budget : ℕ) (old : S) (old_map : List SlotRange) (earlier : List T) (last : Turn S) : Type 0 where
+    pub followed : FoldsTo SentOn (record { nodes = old; map = old_map; to = (node, false) }) earlier last
+    pub within : length earlier ≤ budget
+
+  -- the last send's reply is the answer; it points nowhere, or the budget is used up
   pub record Followed (node : NodeAddr) (budget : ℕ) (old : S) (old_map : List SlotRange) (new : S)
       (new_map : List SlotRange) (answer : T) : Type 0 where
-    pub redirects : List (Reply T)
+    pub earlier : List T
     pub last : Turn S
-    pub reply : Reply T
-    pub followed : FoldsTo SentOn (record { nodes = old; map = old_map; to = (node, false) }) redirects last
-    pub within : length redirects ≤ budget
-    pub sent : sends last.nodes new last.to.0 last.to.1 reply
-    pub learnt : new_map ≡ map_after reply.redirect last.map
-    pub answers : answer ≡ reply.answer
-    pub stops : (next_of reply.redirect ≡ None) ⊎ (length redirects ≡ budget)
+    pub next : Option (NodeAddr × Bool)
+    pub leads : Leads node budget old old_map earlier last
+    pub sent : sends last.nodes new last.to.0 last.to.1 answer
+    pub learns : Learns (redirects last.to.0 answer) last.map new_map next
+    pub stops : (next ≡ None) ⊎ (length earlier ≡ budget)
 
   -- the first node is the primary of the slot
   abbrev pub Routed : ℕ → ℕ → S → List SlotRange → S → List SlotRange → T → Type 0
@@ -53,18 +63,26 @@ module _ {S T : Type 0} (sends : S → S → NodeAddr → Bool → Reply T → T
       (primary : NodeAddr) × ((primary_at old_map slot ≡ Some primary)
       × Followed primary budget old old_map new new_map answer)
 
-  -- the same sends, of which the last one's reply came to nothing
-  pub record Interrupted (node : NodeAddr) (budget : ℕ) (old : S) (old_map : List SlotRange) (new : S) : Type 0 where
-    pub redirects : List (Reply T)
+  -- the same sends; the last one's reply is this, and the map has not learnt of it
+  pub record Interrupted (node : NodeAddr) (budget : ℕ) (old : S) (old_map : List SlotRange) (new : S)
+      (new_map : List SlotRange) (answer : T) : Type 0 where
+    pub earlier : List T
     pub last : Turn S
-    pub reply : Reply T
-    pub followed : FoldsTo SentOn (record { nodes = old; map = old_map; to = (node, false) }) redirects last
-    pub within : length redirects ≤ budget
-    pub sent : sends last.nodes new last.to.0 last.to.1 reply
+    pub leads : Leads node budget old old_map earlier last
+    pub sent : sends last.nodes new last.to.0 last.to.1 answer
+    pub unlearnt : new_map ≡ last.map
 
-  -- nothing was sent, or the first node is the primary of the slot
-  abbrev pub CutShort : ℕ → ℕ → S → List SlotRange → S → Type 0
-  CutShort slot budget old old_map new =
-      (new ≡ old)
-      ⊎ ((primary : NodeAddr) × ((primary_at old_map slot ≡ Some primary)
-      × Interrupted primary budget old old_map new))
+  abbrev pub NotFollowed : NodeAddr → ℕ → S → List SlotRange → S → List SlotRange → RouteError T → Type 0
+  NotFollowed node budget old old_map new new_map (Unfollowed answer) =
+      Interrupted node budget old old_map new new_map answer
+  NotFollowed node budget old old_map new new_map _ = ⊥
+
+  -- nothing was sent, since the map knows no primary of the slot, or for lack of memory; or the last reply was not
+  -- followed for lack of memory
+  abbrev pub NotRouted : ℕ → ℕ → S → List SlotRange → S → List SlotRange → RouteError T → Type 0
+  NotRouted slot budget old old_map new new_map NoNode =
+      (primary_at old_map slot ≡ None) × (new ≡ old) × (new_map ≡ old_map)
+  NotRouted slot budget old old_map new new_map OutOfMemory = (new ≡ old) × (new_map ≡ old_map)
+  NotRouted slot budget old old_map new new_map (Unfollowed answer) =
+      (primary : NodeAddr) × ((primary_at old_map slot ≡ Some primary)
+      × Interrupted primary budget old old_map new new_map answer)

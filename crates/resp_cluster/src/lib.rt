@@ -1,9 +1,10 @@
 //! A Redis Cluster: which nodes serve which slots, and one command over its nodes.
 #![tactic(auto)]
 
+mod cluster_link;
 mod equality;
-mod gather;
-mod merge;
+mod links;
+mod map_source;
 mod node;
 mod redirect;
 mod router;
@@ -12,8 +13,11 @@ mod slot_map;
 mod slots_reply;
 mod split;
 
+pub use cluster_link::ClusterLink;
+pub use links::{NodeLink, Nodes, Sent};
+pub use map_source::MapError;
 pub use node::{NodeAddr, PortKind, SlotRange, TopologyError};
 pub use redirect::{Redirect, redirect_of};
-pub use router::{Nodes, Reply, RouteError, route};
+pub use router::{RouteError, SendCommand, route};
 pub use slot_map::SlotMap;
 pub use split::{Merge, Parts};

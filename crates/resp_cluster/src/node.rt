@@ -1,6 +1,6 @@
 //! Nodes, and the slots that they serve.
 
-ghost use Rattle.std.specs.Prelude.{◌≡◌, IfOk};
+ghost use Rattle.std.specs.Prelude.{◌≡◌, ◌↔◌, IfOk, IsTrue};
 
 use resp_containers::{Items, Text};
 use std::alloc::{AllocError, Global};
@@ -69,5 +69,11 @@ impl NodeAddr {
             host: self.host.try_clone(alloc)?,
             port: self.port,
         })
+    }
+    /// Whether it is this address.
+    pub(crate) fn is(&self, other: &NodeAddr) -> bool
+        ensures { IsTrue result ↔ (self.now ≡ other.now) }
+    {
+        self.port == other.port && self.host.eq_str(other.host.as_str())
     }
 }

@@ -1,102 +1,102 @@
 //! One command over the nodes of a cluster.
 
-ghost use Rattle.std.specs.Prelude.{◌≡◌, IfOk, IfErr, OnOk, None};
-ghost use Rattle.resp_cluster.specs.Maps.{primary_at};
-ghost use Rattle.resp_cluster.specs.Routed.{CutShort, Followed, Interrupted, Routed};
-ghost use Rattle.resp_cluster.specs.Routed.{map_after, next_of};
+ghost use Rattle.std.specs.Prelude.{◌≡◌, IfOk, IfErr, OnErr};
+ghost use Rattle.resp_cluster.specs.Routed.{Followed, Learns, NotFollowed, NotRouted, Routed};
 
 use crate::node::NodeAddr;
 use crate::redirect::Redirect;
 use crate::slot_map::SlotMap;
+use resp_command::Cmd;
 use std::alloc::{AllocError, Global};
 
-/// A reply, and where it sends its command.
-#[derive(Drop)]
-pub struct Reply<T: Drop> {
-    /// What a caller is answered, if it is the last reply.
-    pub answer: T,
-    /// Where it sends the command.
-    pub redirect: Redirect,
-}
-
-/// The nodes of a cluster, over which one command is sent.
-pub trait Nodes<T: Drop> {
-    ghost use Rattle.std.specs.Prelude.{Bool};
+/// What one command is sent by: the nodes of a cluster, and the links to them.
+pub trait SendCommand<T: Drop> {
+    ghost use Rattle.std.specs.Prelude.{Bool, IfOk};
+    ghost use Rattle.resp_command.specs.Command.{Command};
     ghost use Rattle.resp_cluster.specs.declared.node.NodeAddr.{NodeAddr};
-    ghost use Rattle.resp_cluster.specs.declared.router.Reply.{Reply};
+    ghost use Rattle.resp_cluster.specs.declared.redirect.Redirect.{Redirect};
 
-    /// What sending it to a node does, after `ASKING` or not, and what is replied.
-    ghost sends: { Self → Self → NodeAddr → Bool → Reply T → Type 0 };
+    /// What sending a command to a node does, after `ASKING` or not, and what comes of it.
+    ghost sends: { Command → Self → Self → NodeAddr → Bool → T → Type 0 };
+
+    /// Where what came of it at a node sends the command.
+    ghost redirects: { NodeAddr → T → Redirect → Type 0 };
 
     /// Sends the command to a node, after `ASKING` where that is so.
-    fn send(&mut self, node: &NodeAddr, asking: bool) -> Reply<T>
-        ensures { sends self.old self.new node.now asking result };
+    fn send(&mut self, command: &Cmd, node: &NodeAddr, asking: bool) -> T
+        ensures { sends command.now self.old self.new node.now asking result };
+
+    /// Where what came of it at a node sends the command. Fails only when out of memory.
+    fn redirect_of(&self, node: &NodeAddr, sent: &T) -> Result<Redirect, AllocError>
+        ensures { IfOk result (redirects node.now sent.now) };
 }
 
-/// Why a command has no answer.
-#[derive(Debug, Drop)]
-pub enum RouteError {
+/// Why a command wasn't sent as far as redirects ask for.
+#[derive(Drop)]
+pub enum RouteError<T: Drop> {
     /// The map knows no primary of the slot. Nothing was sent.
     NoNode,
-    /// There was no memory for an address. The command may have been sent, as often as redirects
-    /// asked for.
+    /// There was no memory for the primary's address. Nothing was sent.
     OutOfMemory,
+    /// There was no memory for where this, which came of the last send, sends the command.
+    Unfollowed(T),
 }
 
-impl From<AllocError> for RouteError {
+impl<T: Drop> From<AllocError> for RouteError<T> {
     ghost use Rattle.std.specs.Prelude.{◌≡◌};
     ghost use Rattle.resp_cluster.specs.declared.router.RouteError.TheVariants.{OutOfMemory};
 
     ghost from_gives = { λ _ e. e ≡ OutOfMemory };
 
-    fn from(_error: AllocError) -> RouteError {
+    fn from(_error: AllocError) -> RouteError<T> {
         RouteError::OutOfMemory
     }
 }
 
 /// Sends a command to the primary of its slot, and follows redirects with at most `budget` more
 /// sends. The map learns from each `MOVED`.
-pub fn route<T: Drop, N: Nodes<T>>(
+pub fn route<T: Drop, S: SendCommand<T>>(
     alloc: Global,
-    nodes: &mut N,
+    nodes: &mut S,
     map: &mut SlotMap,
+    command: &Cmd,
     slot: u16,
     budget: u64,
-) -> Result<T, RouteError>
-    ensures routed { IfOk result (λ answer. Routed (N.sends) slot budget nodes.old map.old nodes.new
-        map.new answer) }
-    ensures unsent { IfErr result (λ e. e ≡ RouteError.NoNode → (primary_at map.old slot ≡ None)
-        × (nodes.new ≡ nodes.old) × (map.new ≡ map.old)) }
-    ensures cut_short { IfErr result (λ e. e ≡ RouteError.OutOfMemory
-        → CutShort (N.sends) slot budget nodes.old map.old nodes.new) }
+) -> Result<T, RouteError<T>>
+    ensures routed { IfOk result (λ answer. Routed (S.sends command.now) S.redirects slot budget
+        nodes.old map.old nodes.new map.new answer) }
+    ensures not_routed { IfErr result (NotRouted (S.sends command.now) S.redirects slot budget
+        nodes.old map.old nodes.new map.new) }
 {
     let Some(primary) = map.primary_at(slot) else {
         return Err(RouteError::NoNode);
     };
     let primary = primary.try_clone(alloc)?;
-    follow(alloc, nodes, map, primary, budget)
+    follow(alloc, nodes, map, command, primary, budget)
 }
 
 /// Sends a command to this node, and on to where redirects point.
-fn follow<T: Drop, N: Nodes<T>>(
+pub(crate) fn follow<T: Drop, S: SendCommand<T>>(
     alloc: Global,
-    nodes: &mut N,
+    nodes: &mut S,
     map: &mut SlotMap,
+    command: &Cmd,
     first: NodeAddr,
     budget: u64,
-) -> Result<T, RouteError>
-    ensures followed { IfOk result (λ answer. Followed (N.sends) first budget nodes.old map.old
-        nodes.new map.new answer) }
-    ensures memory { IfErr result (λ e. (e ≡ RouteError.OutOfMemory)
-        × Interrupted (N.sends) first budget nodes.old map.old nodes.new) }
+) -> Result<T, RouteError<T>>
+    ensures followed { IfOk result (λ answer. Followed (S.sends command.now) S.redirects first budget
+        nodes.old map.old nodes.new map.new answer) }
+    ensures not_followed { IfErr result (NotFollowed (S.sends command.now) S.redirects first budget
+        nodes.old map.old nodes.new map.new) }
 {
     let mut node = first;
     let mut asking = false;
     let mut left = budget;
     loop {
-        let reply = nodes.send(&node, asking);
-        let next = learn(alloc, map, &reply.redirect)?;
-        let answer = reply.into_answer();
+        let answer = nodes.send(command, &node, asking);
+        let Ok(next) = learn(alloc, nodes, map, &node, &answer) else {
+            return Err(RouteError::Unfollowed(answer));
+        };
         let Some((to, ask)) = next else {
             return Ok(answer);
         };
@@ -109,33 +109,24 @@ fn follow<T: Drop, N: Nodes<T>>(
     }
 }
 
-impl<T: Drop> Reply<T> {
-    fn into_answer(self) -> T
-        ensures { result ≡ self.answer }
-    {
-        let Reply {
-            answer,
-            redirect: _,
-        } = self;
-        answer
-    }
-}
-
-/// Has the map learn of a redirect, and says where it points.
-fn learn(
+/// Has the map learn of where an answer sends its command, and says where that is.
+fn learn<T: Drop, S: SendCommand<T>>(
     alloc: Global,
+    nodes: &S,
     map: &mut SlotMap,
-    redirect: &Redirect,
+    node: &NodeAddr,
+    answer: &T,
 ) -> Result<Option<(NodeAddr, bool)>, AllocError>
-    ensures next { IfOk result (λ next. next ≡ next_of redirect.now) }
-    ensures learnt { OnOk result (map.new ≡ map_after redirect.now map.old) }
+    ensures learns { IfOk result (Learns (S.redirects node.now answer.now) map.old map.new) }
+    ensures unchanged { OnErr result (map.new ≡ map.old) }
 {
-    match redirect {
+    match nodes.redirect_of(node, answer)? {
         Redirect::Stays => Ok(None),
         Redirect::Moved(slot, node) => {
-            map.set_primary(*slot, node.try_clone(alloc)?)?;
-            Ok(Some((node.try_clone(alloc)?, false)))
+            let to = node.try_clone(alloc)?;
+            map.set_primary(slot, node)?;
+            Ok(Some((to, false)))
         }
-        Redirect::Ask(node) => Ok(Some((node.try_clone(alloc)?, true))),
+        Redirect::Ask(node) => Ok(Some((node, true))),
     }
 }

@@ -1,6 +1,7 @@
 //! The map of slots.
 
-ghost use Rattle.std.specs.Prelude.{◌≡◌, ◌≢◌, ℕ, [], OnErr, OnOk, Some};
+ghost use Rattle.std.specs.Prelude.{◌≡◌, ◌≢◌, ◌↔◌, ℕ, [], Contains, IfOk, IsTrue, OnErr, OnOk, Some};
+ghost use Rattle.resp_cluster.specs.Primaries.{ArePrimaries, IsWithNew, IsWithPrimary};
 ghost use Rattle.std.specs.Option.{option_copied};
 
 use crate::node::{NodeAddr, PortKind, SlotRange, TopologyError};
@@ -158,4 +159,45 @@ impl SlotMap {
         }
         None
     }
+    /// The primaries that the map knows, each once.
+    pub fn primaries(&self, alloc: Global) -> Result<Items<NodeAddr>, AllocError>
+        ensures { IfOk result (ArePrimaries self.now) }
+    {
+        let mut nodes = Items::new(alloc);
+        for range in &self.ranges {
+            push_primary(alloc, &mut nodes, range)?;
+        }
+        Ok(nodes)
+    }
+}
+
+/// Adds the primary of a range, if it has one that isn't among these.
+fn push_primary(
+    alloc: Global,
+    nodes: &mut Items<NodeAddr>,
+    range: &SlotRange,
+) -> Result<(), AllocError>
+    ensures { OnOk result (IsWithPrimary range.now.primary nodes.old nodes.new) }
+{
+    match &range.primary {
+        Some(node) => push_new(alloc, nodes, node),
+        None => Ok(()),
+    }
+}
+
+/// Adds an address that isn't among these.
+fn push_new(alloc: Global, nodes: &mut Items<NodeAddr>, node: &NodeAddr) -> Result<(), AllocError>
+    ensures { OnOk result (IsWithNew node.now nodes.old nodes.new) }
+{
+    if is_among(nodes.as_slice(), node) {
+        return Ok(());
+    }
+    nodes.push(node.try_clone(alloc)?)
+}
+
+/// Whether an address is among these.
+fn is_among(nodes: &[NodeAddr], node: &NodeAddr) -> bool
+    ensures { IsTrue result ↔ Contains nodes.now node.now }
+{
+    nodes.iter().any(|other| other.is(node))
 }

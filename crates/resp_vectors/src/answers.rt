@@ -59,6 +59,7 @@ fn routing_answer(alloc: Global, row: &Row) -> RedisResult<String> {
         "route-error" => routing::route_error(alloc, row),
         "slot" => routing::slot(alloc, row),
         "follow" => topology::follow(alloc, row),
+        "redirect" => topology::redirect(alloc, row),
         "slot-at" => topology::primaries(alloc, row),
         "shards-map" => topology::of_shards(alloc, row),
         "slots-map" => topology::of_slots(alloc, row),

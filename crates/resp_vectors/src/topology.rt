@@ -3,10 +3,11 @@
 use crate::rows::{Row, malformed, number_of, text_of};
 use crate::texts::add_part;
 use resp_cluster::{
-    NodeAddr, Nodes, PortKind, Redirect, Reply, SlotMap, SlotRange, TopologyError, route,
+    NodeAddr, PortKind, Redirect, RouteError, SendCommand, SlotMap, SlotRange, TopologyError, redirect_of,
+    route,
 };
-use resp_core::{RedisError, RedisResult, Text, parse_redis_value};
-use std::alloc::Global;
+use resp_core::{Cmd, RedisError, RedisResult, Text, parse_redis_value};
+use std::alloc::{AllocError, Global};
 
 /// `slots-map HOST < BYTES`
 pub fn of_slots(alloc: Global, row: &Row) -> RedisResult<String> {
@@ -117,9 +118,11 @@ pub fn follow(alloc: Global, row: &Row) -> RedisResult<String> {
             let mut script = Script::new(alloc, replies)?;
             let slot = slot_number(slot.as_slice())?;
             let budget = number_of(budget.as_slice())?;
-            let end = match route(alloc, &mut script, &mut map, slot, budget) {
-                Ok(number) => format!(in alloc; "reply {number}")?,
-                Err(error) => format!(in alloc; "refused: {error:?}")?,
+            let command = Cmd::new(alloc);
+            let end = match route(alloc, &mut script, &mut map, &command, slot, budget) {
+                Ok(reply) => format!(in alloc; "reply {}", reply.number)?,
+                Err(RouteError::NoNode) => String::from_str(alloc, "refused: NoNode")?,
+                Err(_) => return Err(RedisError::OutOfMemory),
             };
             let mut text = script.into_sends();
             add_part(&mut text, end.as_str())?;
@@ -143,7 +146,7 @@ impl Script {
     fn new(alloc: Global, replies: &[Vec<u8>]) -> RedisResult<Script> {
         let mut redirects = Vec::new(alloc);
         for reply in replies.iter().rev() {
-            redirects.push(redirect_of(alloc, text_of(reply.as_slice())?)?)?;
+            redirects.push(redirect_named(alloc, text_of(reply.as_slice())?)?)?;
         }
         Ok(Script {
             alloc,
@@ -171,23 +174,60 @@ impl Script {
     }
 }
 
-impl Nodes<u64> for Script {
+/// A reply: which it is, and where it sends its command.
+#[derive(Drop)]
+struct Reply {
+    number: u64,
+    redirect: Redirect,
+}
+
+impl SendCommand<Reply> for Script {
     ghost use Rattle.std.specs.Prelude.{⊤};
 
-    ghost sends = { λ _ _ _ _ _. ⊤ };
+    ghost sends = { λ _ _ _ _ _ _. ⊤ };
 
-    fn send(&mut self, node: &NodeAddr, asking: bool) -> Reply<u64> {
+    ghost redirects = { λ _ _ _. ⊤ };
+
+    fn send(&mut self, _command: &Cmd, node: &NodeAddr, asking: bool) -> Reply {
         let _ = self.note(node, asking);
         self.count = self.count.saturating_add(1);
         Reply {
-            answer: self.count,
+            number: self.count,
             redirect: self.redirects.pop().unwrap_or(Redirect::Stays),
+        }
+    }
+
+    fn redirect_of(&self, _node: &NodeAddr, sent: &Reply) -> Result<Redirect, AllocError> {
+        match &sent.redirect {
+            Redirect::Stays => Ok(Redirect::Stays),
+            Redirect::Moved(slot, node) => {
+                Ok(Redirect::Moved(*slot, node.try_clone(self.alloc)?))
+            }
+            Redirect::Ask(node) => Ok(Redirect::Ask(node.try_clone(self.alloc)?)),
         }
     }
 }
 
+/// `redirect HOST < BYTES`
+pub fn redirect(alloc: Global, row: &Row) -> RedisResult<String> {
+    match row.question()? {
+        ([host], incoming) => {
+            let reply = parse_redis_value(alloc, incoming)?;
+            let redirect = redirect_of(alloc, &reply, text_of(host.as_slice())?)?;
+            match &redirect {
+                Redirect::Stays => Ok(String::from_str(alloc, "stays")?),
+                Redirect::Moved(slot, node) => {
+                    Ok(format!(in alloc; "moved {slot} {}", named(alloc, node)?)?)
+                }
+                Redirect::Ask(node) => Ok(format!(in alloc; "ask {}", named(alloc, node)?)?),
+            }
+        }
+        _ => Err(malformed()),
+    }
+}
+
 /// The redirect of a word: `ok`, `moved:SLOT:PORT` or `ask:PORT`.
-fn redirect_of(alloc: Global, word: &str) -> RedisResult<Redirect> {
+fn redirect_named(alloc: Global, word: &str) -> RedisResult<Redirect> {
     match word.split_once(':') {
         None => Ok(Redirect::Stays),
         Some(("ask", port)) => Ok(Redirect::Ask(node_of(alloc, port)?)),

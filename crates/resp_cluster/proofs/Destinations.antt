@@ -1,0 +1,88 @@
+-- Where a command goes, and where the first primary is.
+use Rattle.std.proofs.Common.{◌≡◌, ◌≢◌, ℕ, ◌+◌, ◌<◌, ◌≤◌, List, [], ◌∷◌, length, drop, get_or, Option, None, Some}
+use Rattle.std.proofs.Common.{refl, sym, ap, subst, ◌∙◌, arith, Bool, true, false, Result, Ok, Err, MatchResult, IfErr}
+use Rattle.std.proofs.lemmas.List.{drop_more, drop_all}
+use Rattle.resp_args.specs.Args.{Args}
+use Rattle.resp_errors.specs.declared.redis_error.RedisError.{RedisError}
+use Rattle.resp_errors.specs.declared.redis_error.RedisError.TheVariants as form
+use Rattle.resp_command.specs.Command.{Command}
+use Rattle.resp_routing.specs.Refusals.{redis_error_of}
+use Rattle.resp_routing.specs.Routes.{HasNoRoute, IsRoute}
+use Rattle.resp_routing.specs.declared.errors.RoutingError.{RoutingError}
+use Rattle.resp_routing.specs.declared.errors.RoutingError.TheVariants as refused
+use Rattle.resp_cluster.specs.Cluster.{CannotGo, is_to_one, several, unrouted, several_nodes, routed_args, first_primary, first_node, has_failed}
+use Rattle.resp_cluster.specs.Cluster.{Cluster, Round, followed, cut_short, AsksInTurn, Refreshes, learnt, kept}
+use Rattle.resp_cluster.specs.Links.{Links, SendsTo, SentRedirects}
+use Rattle.resp_cluster.specs.Routed.{Followed, Interrupted}
+use Rattle.resp_cluster.specs.declared.links.Sent.{Sent}
+use Rattle.resp_cluster.specs.declared.map_source.MapError.{MapError}
+use Rattle.resp_cluster.specs.Primaries.{ArePrimaries}
+use Rattle.resp_command.specs.Connection.{Connection}
+use Rattle.resp_routing.specs.declared.routes.Route.{Route}
+use Rattle.resp_cluster.specs.declared.node.NodeAddr.{NodeAddr}
+use Rattle.resp_cluster.specs.declared.node.SlotRange.{SlotRange}
+
+module _ (c : Command) (args : Args) (shown : args ≡ routed_args c) (e : RedisError) where
+  pub several_then : (route : Route) → IsRoute args route → is_to_one route ≡ false → e ≡ several_nodes → CannotGo c e
+  several_then route goes several_is is = several route (subst (λ a. IsRoute a route) shown goes) several_is is
+
+  pub unrouted_then : (why : RoutingError) → (why ≢ refused.OutOfMemory → HasNoRoute args why)
+      → e ≡ redis_error_of why → e ≢ form.OutOfMemory → CannotGo c e
+  unrouted_then why none is differ = unrouted why
+      (subst (λ a. HasNoRoute a why) shown (none (λ same. differ (is ∙ ap redis_error_of same)))) is
+
+module _ (map : List SlotRange) where
+  pub next_lacks : (i : ℕ) (range : SlotRange) → i < length map → range ≡ get_or map i range → range.primary ≡ None
+      → first_primary map ≡ first_primary (drop i map) → first_primary map ≡ first_primary (drop (i + 1) map)
+  next_lacks i range lt is lacks so_far = so_far ∙ ap first_primary (drop_more map i range lt)
+      ∙ ap (λ r. first_primary (r ∷ drop (i + 1) map)) (sym is)
+      ∙ ap (λ p. elim p as (λ _. Option NodeAddr) [ None ↦ first_primary (drop (i + 1) map) | Some node ↦ Some node ]) lacks
+
+  pub first_is : (i : ℕ) (range : SlotRange) (node : NodeAddr) → i < length map → range ≡ get_or map i range
+      → range.primary ≡ Some node → first_primary map ≡ first_primary (drop i map) → first_primary map ≡ Some node
+  first_is i range node lt is has so_far = so_far ∙ ap first_primary (drop_more map i range lt)
+      ∙ ap (λ r. first_primary (r ∷ drop (i + 1) map)) (sym is)
+      ∙ ap (λ p. elim p as (λ _. Option NodeAddr) [ None ↦ first_primary (drop (i + 1) map) | Some n ↦ Some n ]) has
+
+-- a round that was made from these parts of a cluster
+module _ {L : Type 0} (of_link : L → Connection) (c : Command) (route : Route) (links : Links L) (map : List SlotRange)
+    (budget : ℕ) (stale : Bool) (old : Cluster L) (view : record { links = links; map = map; budget = budget; stale = stale } ≡ old)
+    (node : NodeAddr) (first : first_node route old ≡ Some node) (new_links : Links L) (new_map : List SlotRange) (sent : Sent) where
+  abbrev after : Bool → Cluster L
+  after failed = record { links = new_links; map = new_map; budget = budget; stale = failed }
+
+  pub round_followed : Followed (SendsTo of_link c) SentRedirects node budget links map new_links new_map sent
+      → Round of_link c route old (after (has_failed sent)) (Ok sent)
+  round_followed f = subst (λ o. first_node route o ≡ Some node → Round of_link c route o (after (has_failed sent)) (Ok sent))
+      view (λ is. followed node new_links new_map sent is f refl refl) first
+
+  pub round_cut_short : Interrupted (SendsTo of_link c) SentRedirects node budget links map new_links new_map sent
+      → Round of_link c route old (after true) (Ok sent)
+  round_cut_short f = subst (λ o. first_node route o ≡ Some node → Round of_link c route o (after true) (Ok sent))
+      view (λ is. cut_short node new_links new_map sent is f refl refl) first
+
+-- a route that may be to one node
+module _ (c : Command) (args : Args) (shown : args ≡ routed_args c) (route : Route) (goes : IsRoute args route) where
+  pub one_only : (r : Result Route RedisError)
+      → MatchResult r (λ x. (x ≡ route) × (is_to_one x ≡ true)) (λ e. (is_to_one route ≡ false) × (e ≡ several_nodes))
+      → IfErr r (λ e. e ≢ form.OutOfMemory → CannotGo c e)
+  one_only (Ok x) h = tt
+  one_only (Err e) h = λ differ. several_then c args shown e route goes h.0 h.1
+
+-- the map was asked for from these parts of a cluster
+module _ {L : Type 0} (of_link : L → Connection) (links : Links L) (map : List SlotRange)
+    (budget : ℕ) (stale : Bool) (old : Cluster L) (view : record { links = links; map = map; budget = budget; stale = stale } ≡ old)
+    (nodes asked : List NodeAddr) (same : asked ≡ nodes) (are : ArePrimaries map nodes) (new_links : Links L) where
+  abbrev with_map : List SlotRange → Cluster L
+  with_map new_map = record { links = new_links; map = new_map; budget = budget; stale = false }
+
+  asked_are : ArePrimaries map asked
+  asked_are = subst (ArePrimaries map) (sym same) are
+
+  pub learnt_then : (new_map : List SlotRange) → AsksInTurn of_link asked links new_links (Ok new_map)
+      → Refreshes of_link old (with_map new_map)
+  learnt_then new_map asks = subst (λ o. Refreshes of_link o (with_map new_map)) view
+      (learnt asked new_links new_map asked_are asks refl)
+
+  pub kept_then : (e : MapError) → AsksInTurn of_link asked links new_links (Err e) → Refreshes of_link old (with_map map)
+  kept_then e asks = subst (λ o. Refreshes of_link o (with_map map)) view (kept asked new_links e asked_are asks refl)

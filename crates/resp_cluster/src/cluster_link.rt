@@ -1,0 +1,319 @@
+//! A cluster's links, and one command over them.
+
+ghost use Rattle.std.specs.Prelude.{◌≡◌, ◌≢◌, true, false, IfOk, IfErr, MatchResult};
+ghost use Rattle.std.specs.Option.{option_copied};
+ghost use Rattle.resp_errors.specs.declared.redis_error.RedisError.TheVariants as form;
+ghost use Rattle.resp_cluster.specs.Cluster.{CannotGo, Goes, any_node, first_node, first_primary};
+ghost use Rattle.resp_cluster.specs.Cluster.{has_failed, is_to_one, last_link, new_cluster, several_nodes, Round};
+ghost use Rattle.resp_cluster.specs.Cluster.{answer_of, reached, OnceMore, Opens, Readies, ReachesOne, Refreshes, Rounds, RoutedCall};
+
+use crate::links::{NodeLinks, Nodes, Sent};
+use crate::map_source::MapError;
+use crate::node::NodeAddr;
+use crate::router::{RouteError, follow};
+use crate::slot_map::SlotMap;
+use resp_command::Cmd;
+use resp_routing::{Route, args_of, route_of};
+use resp_value::{ErrorKind, RedisError, RedisResult, Value};
+use std::alloc::Global;
+use std::marker::Model;
+
+/// Links to the nodes of a cluster: a command goes over the link of the node that serves its slot.
+///
+/// Contracts see its links, its map, its budget, and whether the map is to be asked for before the
+/// next command.
+pub struct ClusterLink<N: Nodes> {
+    alloc: Global,
+    links: NodeLinks<N>,
+    map: SlotMap,
+    budget: u64,
+    stale: bool,
+}
+
+/// By hand, so that the proof of a function that owns one has a call where it is dropped, and not a
+/// case for each part.
+impl<N: Nodes + Drop> Drop for ClusterLink<N> {
+    #[inline(always)]
+    fn drop(self) {
+        let ClusterLink {
+            alloc: _,
+            links: _,
+            map: _,
+            budget: _,
+            stale: _,
+        } = self;
+    }
+}
+
+impl<N: Nodes> Model for ClusterLink<N> {
+    ghost use Rattle.resp_cluster.specs.Cluster.{Cluster};
+
+    ghost Value = { Cluster N.Link };
+
+    ghost view = { λ c. record { links = c.links; map = c.map; budget = c.budget; stale = c.stale } };
+}
+
+/// Where a command goes, if to one node.
+fn route_for(alloc: Global, command: &Cmd) -> RedisResult<Route>
+    ensures goes { IfOk result (Goes command.now) }
+    ensures refused { IfErr result (λ e. e ≢ form.OutOfMemory → CannotGo command.now e) }
+{
+    if command.is_empty() {
+        return Err(RedisError::from((ErrorKind::Client, "empty command")));
+    }
+    if command.is_unanswered() {
+        return Err(RedisError::from((
+            ErrorKind::Client,
+            "a subscription has no reply: set_no_response, then next_push",
+        )));
+    }
+    let args = args_of(alloc, command, b"0")?;
+    match route_of(alloc, args.as_slice()) {
+        Ok(route) => only_to_one(route),
+        Err(refusal) => Err(refusal.to_redis_error(alloc)?),
+    }
+}
+
+/// A route, if it is to one node.
+fn only_to_one(route: Route) -> RedisResult<Route>
+    ensures { MatchResult result (λ r. (r ≡ route) × (is_to_one r ≡ true))
+        (λ e. (is_to_one route ≡ false) × (e ≡ several_nodes)) }
+{
+    if is_to_one(&route) {
+        return Ok(route);
+    }
+    Err(RedisError::from((
+        ErrorKind::Client,
+        "the command goes to several nodes: use link_to",
+    )))
+}
+
+/// Whether a route is to one node.
+fn is_to_one(route: &Route) -> bool
+    ensures { result ≡ is_to_one route.now }
+{
+    match route {
+        Route::Slot(_) | Route::Keyless(None) => true,
+        Route::Keyless(Some(_)) => false,
+    }
+}
+
+impl SlotMap {
+    /// The first primary that the map knows.
+    fn first_primary(&self) -> Option<&NodeAddr>
+        ensures { option_copied result ≡ first_primary self.now }
+    {
+        for range in self.ranges() {
+            if let Some(node) = &range.primary {
+                return Some(node);
+            }
+        }
+        None
+    }
+}
+
+impl Sent {
+    /// Whether it is the failure of a call.
+    fn has_failed(&self) -> bool
+        ensures { result ≡ has_failed self.now }
+    {
+        match self {
+            Sent::Answered(answer) => answer.is_err(),
+            Sent::Unreached(_) => false,
+        }
+    }
+}
+
+impl<N: Nodes + Drop> ClusterLink<N> {
+    /// One that has the map of the first of these nodes that gives one: they are asked in turn. The link
+    /// to that node is the one that was used last. A command is sent on at most `budget` times.
+    ///
+    /// Fails where no node gives a map, as the last one did.
+    pub fn open(
+        alloc: Global,
+        nodes: N,
+        seeds: &[NodeAddr],
+        budget: u64,
+    ) -> Result<ClusterLink<N>, MapError>
+        ensures { IfOk result (Opens N.Link.connection seeds.now budget) }
+    {
+        let mut links = NodeLinks::new(alloc, nodes);
+        let map = links.ask_in_turn(seeds)?;
+        Ok(ClusterLink {
+            alloc,
+            links,
+            map,
+            budget,
+            stale: false,
+        })
+    }
+}
+
+impl<N: Nodes> ClusterLink<N> {
+    /// One that has this map and opens links to nodes as commands need them. A command is sent on at
+    /// most `budget` times. Takes no memory.
+    pub fn new(alloc: Global, nodes: N, map: SlotMap, budget: u64) -> ClusterLink<N>
+        ensures { result ≡ new_cluster map budget }
+    {
+        ClusterLink {
+            alloc,
+            links: NodeLinks::new(alloc, nodes),
+            map,
+            budget,
+            stale: false,
+        }
+    }
+
+    /// The map of slots.
+    pub fn map(&self) -> &SlotMap
+        ensures { result.now ≡ self.now.map }
+    {
+        &self.map
+    }
+
+    /// The link that was used last, if one was opened.
+    pub fn link(&self) -> Option<&N::Link>
+        ensures { option_copied result ≡ last_link self.now.links }
+    {
+        match self.links.last_used() {
+            Some(used) => Some(&used.link),
+            None => None,
+        }
+    }
+
+    /// Has a link to a node that works, as the one that was used last: what was opened before, or
+    /// another in its place where that broke. Fails where the node isn't reached; nothing changes then.
+    pub fn reach(&mut self, node: &NodeAddr) -> RedisResult<()>
+        ensures { ReachesOne N.Link.connection node.now self.old self.new result }
+    {
+        self.links.reach(node)
+    }
+
+    /// The node of the last used link, or the first primary.
+    fn any_node(&self) -> Option<&NodeAddr>
+        ensures { option_copied result ≡ any_node self.now }
+    {
+        match self.links.last_used() {
+            Some(link) => Some(&link.node),
+            None => self.map.first_primary(),
+        }
+    }
+
+    /// The node that a command is sent to first.
+    fn first_node(&self, route: &Route) -> Option<&NodeAddr>
+        ensures { option_copied result ≡ first_node route.now self.now }
+    {
+        match route {
+            Route::Slot(slot) => self.map.primary_at(*slot),
+            Route::Keyless(_) => self.any_node(),
+        }
+    }
+
+    /// Sends a command to its first node, and on to where redirects point.
+    fn round(&mut self, route: &Route, command: &Cmd) -> RedisResult<Sent>
+        ensures { Round N.Link.connection command.now route.now self.old self.new result }
+    {
+        let Some(node) = self.first_node(route) else {
+            return Err(RedisError::from((
+                ErrorKind::ClusterConnectionNotFound,
+                "the map has no node for the command",
+            )));
+        };
+        let node = node.try_clone(self.alloc)?;
+        let budget = self.budget;
+        match follow(self.alloc, &mut self.links, &mut self.map, command, node, budget) {
+            Ok(sent) => {
+                self.stale = sent.has_failed();
+                Ok(sent)
+            }
+            Err(RouteError::Unfollowed(sent)) => {
+                self.stale = true;
+                Ok(sent)
+            }
+            Err(_) => unreachable!(),
+        }
+    }
+    /// Asks for the map, as `Refreshes` says: the primaries that it knows are asked in turn, and where
+    /// none gives one the map stays.
+    fn refresh(&mut self)
+        ensures { Refreshes N.Link.connection self.old self.new }
+    {
+        self.stale = false;
+        let Ok(nodes) = self.map.primaries(self.alloc) else {
+            return;
+        };
+        let Ok(map) = self.links.ask_in_turn(nodes.as_slice()) else {
+            return;
+        };
+        self.map = map;
+    }
+
+    /// Asks for the map where it is stale.
+    fn make_ready(&mut self)
+        ensures { Readies N.Link.connection self.old self.new }
+    {
+        if self.stale {
+            self.refresh();
+        }
+    }
+
+    /// Sends a command over the link of the node that it belongs to, and answers its reply.
+    ///
+    /// Refused unsent, with kind `Client`: an empty command; one that subscribes or unsubscribes and
+    /// whose reply is waited for; one that goes to several nodes; one whose keys aren't known. Keys in
+    /// several slots are refused as a server does, with `CROSSSLOT`.
+    ///
+    /// It goes to the primary of its slot; without keys to the node of the last used link, or to the
+    /// first primary. After `MOVED` the map has learnt, and it goes there; after `ASK` it goes there
+    /// after `ASKING`; at most so often as the budget says. Every other reply is the answer, and so is
+    /// the failure of a call: a command that may have run isn't sent again, but the map is asked for
+    /// before the next command. A link that broke is opened anew before anything is sent over it. Where
+    /// that fails, the map is asked for, and the command is sent once more by it. Where memory runs out
+    /// for a redirect, that is the answer.
+    pub fn req_routed(&mut self, command: &Cmd) -> RedisResult<Value>
+        ensures { RoutedCall N.Link.connection command.now self.old self.new result }
+    {
+        let route = route_for(self.alloc, command)?;
+        self.make_ready();
+        self.rounds(&route, command)
+    }
+
+    /// Sends a command by its route, and once more where the last node wasn't reached.
+    fn rounds(&mut self, route: &Route, command: &Cmd) -> RedisResult<Value>
+        ensures { Rounds N.Link.connection command.now route.now self.old self.new result }
+    {
+        match reached(self.round(route, command)) {
+            Some(answer) => answer,
+            None => self.once_more(route, command),
+        }
+    }
+
+    /// Asks for the map, and sends a command by its route.
+    fn once_more(&mut self, route: &Route, command: &Cmd) -> RedisResult<Value>
+        ensures { OnceMore N.Link.connection command.now route.now self.old self.new result }
+    {
+        self.refresh();
+        answer_of(self.round(route, command))
+    }
+}
+
+/// What a caller is answered, but where the last node wasn't reached.
+fn reached(outcome: RedisResult<Sent>) -> Option<RedisResult<Value>>
+    ensures { result ≡ reached outcome }
+{
+    match outcome {
+        Ok(Sent::Answered(answer)) => Some(answer),
+        Ok(Sent::Unreached(_)) => None,
+        Err(error) => Some(Err(error)),
+    }
+}
+
+/// What a caller is answered.
+fn answer_of(outcome: RedisResult<Sent>) -> RedisResult<Value>
+    ensures { result ≡ answer_of outcome }
+{
+    match outcome {
+        Ok(Sent::Answered(answer)) => answer,
+        Ok(Sent::Unreached(error)) | Err(error) => Err(error),
+    }
+}

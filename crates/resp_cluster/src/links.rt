@@ -1,0 +1,219 @@
+//! Links to the nodes of a cluster.
+
+ghost use Rattle.std.specs.Prelude.{◌≡◌, ◌≢◌, false, IfOk, Some, None};
+ghost use Rattle.resp_cluster.specs.Links.{IsAsked, SendsOver, without_reply};
+
+use crate::node::NodeAddr;
+use crate::redirect::{Redirect, redirect_of};
+use crate::router::SendCommand;
+use resp_command::{Cmd, ConnectionLike, Unrouted};
+use resp_value::{RedisError, RedisResult, Value};
+use std::alloc::{AllocError, Global};
+use std::marker::Model;
+
+/// A way to the nodes of a cluster: it opens a connection to any of them and greets it, as often as it
+/// is asked.
+pub trait Nodes {
+    /// The connections that it opens.
+    type Link: Unrouted + Drop;
+
+    /// Opens a connection to a node and greets it. Fails where the node isn't reached, or refuses the
+    /// greeting.
+    fn connect(&mut self, node: &NodeAddr) -> RedisResult<Self::Link>
+        ensures works { IfOk result (λ link. (Self.Link.connection link).broken ≡ false) };
+}
+
+/// A link, and the node that it leads to.
+#[derive(Drop)]
+pub struct NodeLink<L> {
+    /// The node.
+    pub node: NodeAddr,
+    /// The link.
+    pub link: L,
+}
+
+/// What came of sending a command to a node.
+#[derive(Drop)]
+pub enum Sent {
+    /// No link to the node was had, and nothing was sent.
+    Unreached(RedisError),
+    /// What its link answered.
+    Answered(RedisResult<Value>),
+}
+
+/// The links that were opened to nodes, and which of them was used last.
+pub(crate) struct NodeLinks<N: Nodes> {
+    pub(crate) alloc: Global,
+    nodes: N,
+    pub(crate) links: Vec<NodeLink<N::Link>>,
+    pub(crate) last: usize,
+}
+
+/// By hand, so that the proof of a function that owns one has a call where it is dropped, and not a
+/// case for each part.
+impl<N: Nodes + Drop> Drop for NodeLinks<N> {
+    #[inline(always)]
+    fn drop(self) {
+        let NodeLinks {
+            alloc: _,
+            nodes: _,
+            links: _,
+            last: _,
+        } = self;
+    }
+}
+
+impl<N: Nodes> Model for NodeLinks<N> {
+    ghost use Rattle.resp_cluster.specs.Links.{Links};
+
+    ghost Value = { Links N.Link };
+
+    ghost view = { λ l. record { links = l.links.items; last = l.last } };
+}
+
+impl<N: Nodes> NodeLinks<N> {
+    ghost use Rattle.resp_cluster.specs.Links.{IsAt, IsPlaceOf, HasNoLink, Reaches, SendsOver, UsesLast};
+    ghost use Rattle.resp_cluster.specs.Links.{last_used, no_links};
+    ghost use Rattle.std.specs.Prelude.{◌<◌, length, option_map};
+    ghost use Rattle.std.specs.Option.{option_copied};
+
+    /// No link yet. Takes no memory.
+    pub(crate) fn new(alloc: Global, nodes: N) -> NodeLinks<N>
+        ensures { result ≡ no_links }
+    {
+        NodeLinks {
+            alloc,
+            nodes,
+            links: Vec::new(alloc),
+            last: 0,
+        }
+    }
+
+    /// The link that was used last, with its node.
+    pub(crate) fn last_used(&self) -> Option<&NodeLink<N::Link>>
+        ensures { option_copied result ≡ last_used self.now }
+    {
+        self.links.get(self.last)
+    }
+
+    /// Has a link to a node that works, as the one that was used last.
+    pub(crate) fn reach(&mut self, node: &NodeAddr) -> RedisResult<()>
+        ensures { Reaches N.Link.connection node.now self.old self.new result }
+    {
+        match self.place_of(node) {
+            Some(place) => self.reach_at(place, node),
+            None => self.open(node),
+        }
+    }
+
+    /// The place of the link to a node.
+    fn place_of(&self, node: &NodeAddr) -> Option<usize>
+        ensures { IsPlaceOf node.now self.now result }
+    {
+        for (place, link) in self.links.iter().enumerate() {
+            if link.node.is(node) {
+                return Some(place);
+            }
+        }
+        None
+    }
+
+    /// The same of a node whose link is at this place.
+    fn reach_at(&mut self, place: usize, node: &NodeAddr) -> RedisResult<()>
+        requires { IsPlaceOf node.now self.old (Some place) }
+        ensures { Reaches N.Link.connection node.now self.old self.new result }
+    {
+        if self.links[place].link.is_open() {
+            self.last = place;
+            return Ok(());
+        }
+        let link = self.nodes.connect(node)?;
+        self.links[place].link = link;
+        self.last = place;
+        Ok(())
+    }
+
+    /// The same of a node to which no link was opened.
+    fn open(&mut self, node: &NodeAddr) -> RedisResult<()>
+        requires { HasNoLink node.now self.old }
+        ensures { Reaches N.Link.connection node.now self.old self.new result }
+    {
+        let node_of_link = node.try_clone(self.alloc)?;
+        let link = self.nodes.connect(node)?;
+        let place = self.links.len();
+        self.links.push(NodeLink {
+            node: node_of_link,
+            link,
+        })?;
+        self.last = place;
+        Ok(())
+    }
+
+    /// Sends a command over the link that was used last, after `ASKING` where that is so.
+    fn send_over_last(&mut self, command: &Cmd, asking: bool) -> RedisResult<Value>
+        requires { last_used self.old ≢ None }
+        ensures { UsesLast N.Link.connection (λ before after. SendsOver before after asking command.now
+            result) self.old self.new }
+    {
+        let last = self.last;
+        send_over(&mut self.links[last].link, command, asking)
+    }
+}
+
+/// The bytes of the command `ASKING`.
+const ASKING: &[u8] = b"*1\r\n$6\r\nASKING\r\n";
+
+/// Sends a command over a link, after `ASKING` where that is so.
+fn send_over<L: ConnectionLike>(
+    link: &mut L,
+    command: &Cmd,
+    asking: bool,
+) -> RedisResult<Value>
+    ensures { SendsOver (L.connection link.old) (L.connection link.new) asking command.now result }
+{
+    if !asking {
+        return link.req_command(command);
+    }
+    ask(link)?;
+    link.req_command(command)
+}
+
+/// Sends `ASKING` over a link.
+fn ask<L: ConnectionLike>(link: &mut L) -> RedisResult<()>
+    ensures { IsAsked (L.connection link.old) (L.connection link.new) result }
+{
+    let answer = link.req_packed_command(ASKING);
+    without_reply(answer)
+}
+
+/// An answer without its reply.
+fn without_reply(answer: RedisResult<Value>) -> RedisResult<()>
+    ensures { result ≡ without_reply answer }
+{
+    match answer {
+        Ok(_) => Ok(()),
+        Err(error) => Err(error),
+    }
+}
+
+impl<N: Nodes> SendCommand<Sent> for NodeLinks<N> {
+    ghost use Rattle.resp_cluster.specs.Links.{SendsTo, SentRedirects};
+
+    ghost sends = { SendsTo N.Link.connection };
+
+    ghost redirects = { SentRedirects };
+
+    fn send(&mut self, command: &Cmd, node: &NodeAddr, asking: bool) -> Sent {
+        match self.reach(node) {
+            Ok(()) => Sent::Answered(self.send_over_last(command, asking)),
+            Err(error) => Sent::Unreached(error),
+        }
+    }
+
+    fn redirect_of(&self, node: &NodeAddr, sent: &Sent) -> Result<Redirect, AllocError> {
+        match sent {
+            Sent::Answered(Ok(reply)) => redirect_of(self.alloc, reply, node.host.as_str()),
+            _ => Ok(Redirect::Stays),
+        }
+    }
+}

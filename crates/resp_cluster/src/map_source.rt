@@ -1,0 +1,112 @@
+//! The map of slots, as nodes give it.
+
+ghost use Rattle.std.specs.Prelude.{◌≡◌, ◌≢◌, IfOk, None};
+ghost use Rattle.resp_cluster.specs.Cluster.{IsMapAnswer, IsMapOf};
+
+use crate::links::{NodeLinks, Nodes};
+use crate::node::{NodeAddr, TopologyError};
+use crate::slot_map::SlotMap;
+use resp_command::ConnectionLike;
+use resp_value::{RedisError, RedisResult, Value};
+use std::alloc::Global;
+
+/// Why no map was had.
+pub enum MapError {
+    /// There was no node to ask.
+    NoNode,
+    /// The node wasn't reached.
+    Unreached(RedisError),
+    /// The node was asked, and the call failed.
+    Failed(RedisError),
+    /// Its reply gives no map.
+    NoMap(TopologyError),
+}
+
+/// By hand, so that the proof of a function that owns one has a call where it is dropped, and not a
+/// case for each part.
+impl Drop for MapError {
+    #[inline(always)]
+    fn drop(self) {
+        match self {
+            MapError::NoNode => {}
+            MapError::Unreached(_) | MapError::Failed(_) => {}
+            MapError::NoMap(_) => {}
+        }
+    }
+}
+
+/// The bytes of the command `CLUSTER SLOTS`.
+const CLUSTER_SLOTS: &[u8] = b"*2\r\n$7\r\nCLUSTER\r\n$5\r\nSLOTS\r\n";
+
+/// The map that a node's answer gives.
+fn map_of_answer(
+    alloc: Global,
+    answer: RedisResult<Value>,
+    node: &NodeAddr,
+) -> Result<SlotMap, MapError>
+    ensures { IsMapAnswer node.now answer result }
+{
+    match answer {
+        Ok(reply) => map_of_reply(alloc, reply, node),
+        Err(error) => Err(MapError::Failed(error)),
+    }
+}
+
+/// The map that a node's reply gives.
+fn map_of_reply(alloc: Global, reply: Value, node: &NodeAddr) -> Result<SlotMap, MapError>
+    ensures { IsMapOf node.now reply result }
+{
+    match SlotMap::from_slots_reply(alloc, &reply, node.host.as_str()) {
+        Ok(map) => Ok(map),
+        Err(error) => Err(MapError::NoMap(error)),
+    }
+}
+
+impl<N: Nodes> NodeLinks<N> {
+    ghost use Rattle.resp_command.specs.Call.{PackedCall};
+    ghost use Rattle.resp_cluster.specs.Cluster.{AsksInTurn, AsksMap, AsksReached, slots_bytes};
+    ghost use Rattle.resp_cluster.specs.Links.{UsesLast, last_used};
+
+    /// Asks nodes for the map, one after another, until one gives it.
+    pub(crate) fn ask_in_turn(&mut self, nodes: &[NodeAddr]) -> Result<SlotMap, MapError>
+        ensures { AsksInTurn N.Link.connection nodes.now self.old self.new result }
+    {
+        let mut refused = MapError::NoNode;
+        for node in nodes {
+            match self.ask_map(node) {
+                Ok(map) => return Ok(map),
+                Err(error) => refused = error,
+            }
+        }
+        Err(refused)
+    }
+
+    /// Asks a node for the map.
+    fn ask_map(&mut self, node: &NodeAddr) -> Result<SlotMap, MapError>
+        ensures { AsksMap N.Link.connection node.now self.old self.new result }
+    {
+        match self.reach(node) {
+            Ok(()) => self.ask_reached(node),
+            Err(error) => Err(MapError::Unreached(error)),
+        }
+    }
+
+    /// Asks the node of the link that was used last.
+    fn ask_reached(&mut self, node: &NodeAddr) -> Result<SlotMap, MapError>
+        requires { last_used self.old ≢ None }
+        ensures { AsksReached N.Link.connection node.now self.old self.new result }
+    {
+        let answer = self.ask_slots();
+        map_of_answer(self.alloc, answer, node)
+    }
+
+    /// Sends `CLUSTER SLOTS` over the link that was used last.
+    fn ask_slots(&mut self) -> RedisResult<Value>
+        requires { last_used self.old ≢ None }
+        ensures { UsesLast N.Link.connection (λ before after. PackedCall before after slots_bytes result)
+            self.old self.new }
+    {
+        let last = self.last;
+        self.links[last].link.req_packed_command(CLUSTER_SLOTS)
+    }
+}
