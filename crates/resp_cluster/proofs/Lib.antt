@@ -5,4 +5,6 @@ pub mod Linking
 pub mod MorePrimaries
 pub mod Moves
 pub mod RedirectTexts
+pub mod RoutedCalls
+pub mod OverLinks
 pub mod SoFar

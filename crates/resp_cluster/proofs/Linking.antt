@@ -17,8 +17,11 @@ module _ {L : Type 0} (links : Links L) (node : NodeAddr) where
 
   pub found : (i : ℕ) (item : NodeLink L) → i < length links.links → item ≡ get_or links.links i item
       → item.node ≡ node → IsPlaceOf node links (Some i)
-  found i item lt is same = (item.link, slice_get_read links.links (length links.links) i item refl lt is
-      ∙ ap (λ n. Some (link_to n item.link)) same)
+  found i item lt is same = (
+    item.link,
+    slice_get_read links.links (length links.links) i item refl lt is
+        ∙ ap (λ n. Some (link_to n item.link)) same,
+  )
 
   one : (item : NodeLink L) → Lacks item → All Lacks (item ∷ [])
   one item lacks zero d lt = lacks

@@ -74,9 +74,13 @@ module _ (map : List SlotRange) (range : SlotRange) where
             ∙ same ∙ get_or-append nodes (node ∷ []) b j before))
             (λ last. let count = length-append nodes (node ∷ []) in
             let at_end : j ≡ length nodes = omega (arith, last, within, count) in
-            new (i, omega (arith, lt, at_end), sym (get_or-append nodes (node ∷ []) node i (omega (arith, lt, at_end)))
-            ∙ get_or_default (nodes ++ node ∷ []) i node a (omega (arith, lt, within))
-            ∙ same ∙ ap (λ k. get_or (nodes ++ node ∷ []) k b) at_end ∙ get_or-append_seam nodes node [] b))
+            new (
+              i,
+              omega (arith, lt, at_end),
+              sym (get_or-append nodes (node ∷ []) node i (omega (arith, lt, at_end)))
+                  ∙ get_or_default (nodes ++ node ∷ []) i node a (omega (arith, lt, within))
+                  ∙ same ∙ ap (λ k. get_or (nodes ++ node ∷ []) k b) at_end ∙ get_or-append_seam nodes node [] b,
+            ))
             (cases_lt j (length nodes))
 
   pub with_primary : (nodes new : List NodeAddr) → ArePrimaries map nodes → IsWithPrimary range.primary nodes new

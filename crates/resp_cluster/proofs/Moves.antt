@@ -118,13 +118,15 @@ module _ (slot : ℕ) (map : List SlotRange) where
 
   pub found_own : (i : ℕ) (range : SlotRange) → NoneSoFar slot map i → i < length map → range ≡ get_or map i range
       → covers slot range ≡ true → is_of slot range ≡ true → IsOwnPlace slot map (Some i)
-  found_own i range none lt is has own =
-      (none.own ∙ ap (has_own_range slot) at_place ∙ own_here slot range (drop (i + 1) map) has ∙ own, lt,
-      λ new. none.placed new ∙ ap (λ rest. take i map ++ with_range slot new rest) at_place
-      ∙ ap (λ b. take i map ++ cond b (new ∷ drop (i + 1) map) (range ∷ with_range slot new (drop (i + 1) map))) has
-      ∙ ap (λ back. take i map ++ back) (sym (drop-set map i new lt))
-      ∙ ap (λ front. front ++ drop i (set map i new)) (sym (take-set map i new))
-      ∙ take-append-drop i (set map i new))
+  found_own i range none lt is has own = (
+    none.own ∙ ap (has_own_range slot) at_place ∙ own_here slot range (drop (i + 1) map) has ∙ own,
+    lt,
+    λ new. none.placed new ∙ ap (λ rest. take i map ++ with_range slot new rest) at_place
+        ∙ ap (λ b. take i map ++ cond b (new ∷ drop (i + 1) map) (range ∷ with_range slot new (drop (i + 1) map))) has
+        ∙ ap (λ back. take i map ++ back) (sym (drop-set map i new lt))
+        ∙ ap (λ front. front ++ drop i (set map i new)) (sym (take-set map i new))
+        ∙ take-append-drop i (set map i new),
+  )
     where
       at_place : drop i map ≡ range ∷ drop (i + 1) map
       at_place = drop_more map i range lt ∙ ap (λ r. r ∷ drop (i + 1) map) (sym is)

@@ -6,3 +6,4 @@ pub mod Routed
 pub mod Primaries
 pub mod Links
 pub mod Cluster
+pub mod Routing

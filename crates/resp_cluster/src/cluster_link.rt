@@ -221,7 +221,14 @@ impl<N: Nodes> ClusterLink<N> {
         };
         let node = node.try_clone(self.alloc)?;
         let budget = self.budget;
-        match follow(self.alloc, &mut self.links, &mut self.map, command, node, budget) {
+        match follow(
+            self.alloc,
+            &mut self.links,
+            &mut self.map,
+            command,
+            node,
+            budget,
+        ) {
             Ok(sent) => {
                 self.stale = sent.has_failed();
                 Ok(sent)

@@ -1,6 +1,7 @@
 //! A Redis Cluster: which nodes serve which slots, and one command over its nodes.
 #![tactic(auto)]
 
+mod cluster_connection;
 mod cluster_link;
 mod equality;
 mod links;

@@ -164,11 +164,7 @@ impl<N: Nodes> NodeLinks<N> {
 const ASKING: &[u8] = b"*1\r\n$6\r\nASKING\r\n";
 
 /// Sends a command over a link, after `ASKING` where that is so.
-fn send_over<L: ConnectionLike>(
-    link: &mut L,
-    command: &Cmd,
-    asking: bool,
-) -> RedisResult<Value>
+fn send_over<L: ConnectionLike>(link: &mut L, command: &Cmd, asking: bool) -> RedisResult<Value>
     ensures { SendsOver (L.connection link.old) (L.connection link.new) asking command.now result }
 {
     if !asking {

@@ -59,11 +59,7 @@ fn redirect_of_error(
 }
 
 /// The slot and the node of a text, if it is `SLOT HOST:PORT`.
-fn place_of(
-    alloc: Global,
-    text: &str,
-    asked: &str,
-) -> Result<Option<(u16, NodeAddr)>, AllocError>
+fn place_of(alloc: Global, text: &str, asked: &str) -> Result<Option<(u16, NodeAddr)>, AllocError>
     ensures { IfOk result (λ place. MatchOption place
         ((slot : ℕ) (node : NodeAddr) → NamesPlace asked.now text.now slot node → ⊥)
         (λ p. NamesPlace asked.now text.now p.0 p.1)) }
@@ -87,13 +83,7 @@ fn slot_number(text: &str) -> Option<u16>
         (λ slot. UnsignedText 16 text.now slot × (slot < SLOT_COUNT)) }
 {
     match text.parse::<u16>() {
-        Ok(slot) => {
-            if slot < SLOT_COUNT {
-                Some(slot)
-            } else {
-                None
-            }
-        }
+        Ok(slot) => { if slot < SLOT_COUNT { Some(slot) } else { None } }
         Err(_) => None,
     }
 }

@@ -150,11 +150,7 @@ impl SlotMap {
     {
         for (place, range) in self.ranges.iter().enumerate() {
             if range.covers(slot) {
-                return if range.is_of(slot) {
-                    Some(place)
-                } else {
-                    None
-                };
+                return if range.is_of(slot) { Some(place) } else { None };
             }
         }
         None
