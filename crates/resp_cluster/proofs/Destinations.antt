@@ -51,12 +51,12 @@ module _ {L : Type 0} (of_link : L → Connection) (c : Command) (route : Route)
   abbrev after : Bool → Cluster L
   after failed = record { links = new_links; map = new_map; budget = budget; stale = failed }
 
-  pub round_followed : Followed (SendsTo of_link c) SentRedirects node budget links map new_links new_map sent
+  pub round_followed : Followed (SendsTo of_link c) SentRedirects (node, false) budget links map new_links new_map sent
       → Round of_link c route old (after (has_failed sent)) (Ok sent)
   round_followed f = subst (λ o. first_node route o ≡ Some node → Round of_link c route o (after (has_failed sent)) (Ok sent))
       view (λ is. followed node new_links new_map sent is f refl refl) first
 
-  pub round_cut_short : Interrupted (SendsTo of_link c) SentRedirects node budget links map new_links new_map sent
+  pub round_cut_short : Interrupted (SendsTo of_link c) SentRedirects (node, false) budget links map new_links new_map sent
       → Round of_link c route old (after true) (Ok sent)
   round_cut_short f = subst (λ o. first_node route o ≡ Some node → Round of_link c route o (after true) (Ok sent))
       view (λ is. cut_short node new_links new_map sent is f refl refl) first

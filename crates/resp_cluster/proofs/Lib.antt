@@ -1,3 +1,4 @@
+pub mod GoingOn
 pub mod Asking
 pub mod Destinations
 pub mod Entries
@@ -8,3 +9,5 @@ pub mod RedirectTexts
 pub mod RoutedCalls
 pub mod OverLinks
 pub mod SoFar
+pub mod Splitting
+pub mod Spreading

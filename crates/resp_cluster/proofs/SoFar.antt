@@ -8,13 +8,13 @@ use Rattle.resp_cluster.specs.declared.node.SlotRange.{SlotRange}
 use Rattle.resp_cluster.specs.declared.redirect.Redirect.{Redirect}
 
 module _ {S T : Type 0} (sends : S → S → NodeAddr → Bool → T → Type 0) (redirects : NodeAddr → T → Redirect → Type 0)
-    (first : NodeAddr) (budget : ℕ) (old : S) (old_map : List SlotRange) where
+    (first : NodeAddr × Bool) (budget : ℕ) (old : S) (old_map : List SlotRange) where
   pub record SoFar (left : ℕ) (now : Turn S) : Type 0 where
     pub earlier : List T
-    pub followed : FoldsTo (SentOn sends redirects) (record { nodes = old; map = old_map; to = (first, false) }) earlier now
+    pub followed : FoldsTo (SentOn sends redirects) (record { nodes = old; map = old_map; to = first }) earlier now
     pub count : length earlier + left ≡ budget
 
-  pub none_yet : SoFar budget (record { nodes = old; map = old_map; to = (first, false) })
+  pub none_yet : SoFar budget (record { nodes = old; map = old_map; to = first })
   none_yet = record { earlier = []; followed = refl; count = zero-add budget }
 
   pub one_more : (left : ℕ) (now : Turn S) (reply : T) (new : Turn S) → SoFar left now → 0 < left

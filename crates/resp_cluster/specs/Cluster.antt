@@ -126,12 +126,12 @@ module _ {L : Type 0} (of_link : L → Connection) where
   pub data Round (c : Command) (route : Route) (old new : Cluster L) (r : Result Sent RedisError) : Type 0 where
     followed : (node : NodeAddr) (links : Links L) (map : List SlotRange) (sent : Sent)
         → first_node route old ≡ Some node
-        → Followed (SendsTo of_link c) SentRedirects node old.budget old.links old.map links map sent
+        → Followed (SendsTo of_link c) SentRedirects (node, false) old.budget old.links old.map links map sent
         → new ≡ record { links = links; map = map; budget = old.budget; stale = has_failed sent }
         → r ≡ Ok sent → Round c route old new r
     cut_short : (node : NodeAddr) (links : Links L) (map : List SlotRange) (sent : Sent)
         → first_node route old ≡ Some node
-        → Interrupted (SendsTo of_link c) SentRedirects node old.budget old.links old.map links map sent
+        → Interrupted (SendsTo of_link c) SentRedirects (node, false) old.budget old.links old.map links map sent
         → new ≡ record { links = links; map = map; budget = old.budget; stale = true }
         → r ≡ Ok sent → Round c route old new r
     nowhere : first_node route old ≡ None → new ≡ old → r ≡ Err no_node → Round c route old new r

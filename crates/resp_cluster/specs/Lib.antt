@@ -1,9 +1,5 @@
 pub mod Maps
 pub mod Replies
 pub mod Shards
-pub mod Redirects
-pub mod Routed
-pub mod Primaries
-pub mod Links
-pub mod Cluster
-pub mod Routing
+pub mod Splits
+pub mod Spread

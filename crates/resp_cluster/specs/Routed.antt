@@ -1,5 +1,5 @@
 -- One command over the nodes of a cluster.
-use Rattle.std.specs.Prelude.{◌≡◌, ℕ, ◌≤◌, ◌⊎◌, Bool, true, false, List, ◌∷◌, length, Option, Some, None}
+use Rattle.std.specs.Prelude.{◌≡◌, ℕ, ◌-◌, ◌<◌, ◌≤◌, ◌⊎◌, Bool, true, false, List, ◌∷◌, length, Option, Some, None}
 use Rattle.std.specs.List.{FoldsTo}
 use Rattle.resp_cluster.specs.Maps.{primary_at, with_primary}
 use Rattle.resp_cluster.specs.declared.node.NodeAddr.{NodeAddr}
@@ -40,19 +40,19 @@ module _ {S T : Type 0} (sends : S → S → NodeAddr → Bool → T → Type 0)
     pub sent : sends old.nodes new.nodes old.to.0 old.to.1 reply
     pub learns : Learns (redirects old.to.0 reply) old.map new.map (Some new.to)
 
-  -- the first send goes to this node, and each later one to where the reply before it points; there are at most budget
+  -- the first send goes to this node, after ASKING or not, and each later one to where the reply before it points; there are at most budget
   -- later ones, and these were the replies before the last
-  pub record Leads (node : NodeAddr) (budget : ℕ) (old : S) (old_map : List SlotRange) (earlier : List T) (last : Turn S) : Type 0 where
-    pub followed : FoldsTo SentOn (record { nodes = old; map = old_map; to = (node, false) }) earlier last
+  pub record Leads (first : NodeAddr × Bool) (budget : ℕ) (old : S) (old_map : List SlotRange) (earlier : List T) (last : Turn S) : Type 0 where
+    pub followed : FoldsTo SentOn (record { nodes = old; map = old_map; to = first }) earlier last
     pub within : length earlier ≤ budget
 
   -- the last send's reply is the answer; it points nowhere, or the budget is used up
-  pub record Followed (node : NodeAddr) (budget : ℕ) (old : S) (old_map : List SlotRange) (new : S)
+  pub record Followed (first : NodeAddr × Bool) (budget : ℕ) (old : S) (old_map : List SlotRange) (new : S)
       (new_map : List SlotRange) (answer : T) : Type 0 where
     pub earlier : List T
     pub last : Turn S
     pub next : Option (NodeAddr × Bool)
-    pub leads : Leads node budget old old_map earlier last
+    pub leads : Leads first budget old old_map earlier last
     pub sent : sends last.nodes new last.to.0 last.to.1 answer
     pub learns : Learns (redirects last.to.0 answer) last.map new_map next
     pub stops : (next ≡ None) ⊎ (length earlier ≡ budget)
@@ -61,21 +61,21 @@ module _ {S T : Type 0} (sends : S → S → NodeAddr → Bool → T → Type 0)
   abbrev pub Routed : ℕ → ℕ → S → List SlotRange → S → List SlotRange → T → Type 0
   Routed slot budget old old_map new new_map answer =
       (primary : NodeAddr) × ((primary_at old_map slot ≡ Some primary)
-      × Followed primary budget old old_map new new_map answer)
+      × Followed (primary, false) budget old old_map new new_map answer)
 
   -- the same sends; the last one's reply is this, and the map has not learnt of it
-  pub record Interrupted (node : NodeAddr) (budget : ℕ) (old : S) (old_map : List SlotRange) (new : S)
+  pub record Interrupted (first : NodeAddr × Bool) (budget : ℕ) (old : S) (old_map : List SlotRange) (new : S)
       (new_map : List SlotRange) (answer : T) : Type 0 where
     pub earlier : List T
     pub last : Turn S
-    pub leads : Leads node budget old old_map earlier last
+    pub leads : Leads first budget old old_map earlier last
     pub sent : sends last.nodes new last.to.0 last.to.1 answer
     pub unlearnt : new_map ≡ last.map
 
-  abbrev pub NotFollowed : NodeAddr → ℕ → S → List SlotRange → S → List SlotRange → RouteError T → Type 0
-  NotFollowed node budget old old_map new new_map (Unfollowed answer) =
-      Interrupted node budget old old_map new new_map answer
-  NotFollowed node budget old old_map new new_map _ = ⊥
+  abbrev pub NotFollowed : NodeAddr × Bool → ℕ → S → List SlotRange → S → List SlotRange → RouteError T → Type 0
+  NotFollowed first budget old old_map new new_map (Unfollowed answer) =
+      Interrupted first budget old old_map new new_map answer
+  NotFollowed first budget old old_map new new_map _ = ⊥
 
   -- nothing was sent, since the map knows no primary of the slot, or for lack of memory; or the last reply was not
   -- followed for lack of memory
@@ -85,4 +85,27 @@ module _ {S T : Type 0} (sends : S → S → NodeAddr → Bool → T → Type 0)
   NotRouted slot budget old old_map new new_map OutOfMemory = (new ≡ old) × (new_map ≡ old_map)
   NotRouted slot budget old old_map new new_map (Unfollowed answer) =
       (primary : NodeAddr) × ((primary_at old_map slot ≡ Some primary)
-      × Interrupted primary budget old old_map new new_map answer)
+      × Interrupted (primary, false) budget old old_map new new_map answer)
+
+  -- a command that a node replied to goes on from the reply: nowhere, or to where that points
+  pub data WentOn (node : NodeAddr) (reply : T) (budget : ℕ) (old : S) (old_map : List SlotRange) (new : S)
+      (new_map : List SlotRange) (answer : T) : Type 0 where
+    nowhere : (next : Option (NodeAddr × Bool)) → Learns (redirects node reply) old_map new_map next
+        → (next ≡ None) ⊎ (budget ≡ 0) → new ≡ old → answer ≡ reply
+        → WentOn node reply budget old old_map new new_map answer
+    onwards : (to : NodeAddr × Bool) (map : List SlotRange) → Learns (redirects node reply) old_map map (Some to)
+        → 0 < budget → Followed to (budget - 1) old map new new_map answer
+        → WentOn node reply budget old old_map new new_map answer
+
+  -- memory ran out for where the last reply points
+  pub data StoppedShort (node : NodeAddr) (reply : T) (budget : ℕ) (old : S) (old_map : List SlotRange) (new : S)
+      (new_map : List SlotRange) (answer : T) : Type 0 where
+    at_once : new ≡ old → new_map ≡ old_map → answer ≡ reply → StoppedShort node reply budget old old_map new new_map answer
+    on_the_way : (to : NodeAddr × Bool) (map : List SlotRange) → Learns (redirects node reply) old_map map (Some to)
+        → 0 < budget → Interrupted to (budget - 1) old map new new_map answer
+        → StoppedShort node reply budget old old_map new new_map answer
+
+  abbrev pub DidNotGoOn : NodeAddr → T → ℕ → S → List SlotRange → S → List SlotRange → RouteError T → Type 0
+  DidNotGoOn node reply budget old old_map new new_map (Unfollowed answer) =
+      StoppedShort node reply budget old old_map new new_map answer
+  DidNotGoOn node reply budget old old_map new new_map _ = ⊥

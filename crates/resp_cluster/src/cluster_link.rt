@@ -7,6 +7,8 @@ ghost use Rattle.resp_cluster.specs.Cluster.{CannotGo, Goes, any_node, first_nod
 ghost use Rattle.resp_cluster.specs.Cluster.{has_failed, is_to_one, last_link, new_cluster, several_nodes, Round};
 ghost use Rattle.resp_cluster.specs.Cluster.{answer_of, reached, OnceMore, Opens, Readies, ReachesOne, Refreshes, Rounds, RoutedCall};
 
+mod spread;
+
 use crate::links::{NodeLinks, Nodes, Sent};
 use crate::map_source::MapError;
 use crate::node::NodeAddr;
@@ -226,7 +228,7 @@ impl<N: Nodes> ClusterLink<N> {
             &mut self.links,
             &mut self.map,
             command,
-            node,
+            (node, false),
             budget,
         ) {
             Ok(sent) => {

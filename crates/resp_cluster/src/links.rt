@@ -72,6 +72,7 @@ impl<N: Nodes> Model for NodeLinks<N> {
 }
 
 impl<N: Nodes> NodeLinks<N> {
+    ghost use Rattle.resp_command.specs.Call.{AnswersFrom, Call};
     ghost use Rattle.resp_cluster.specs.Links.{IsAt, IsPlaceOf, HasNoLink, Reaches, SendsOver, UsesLast};
     ghost use Rattle.resp_cluster.specs.Links.{last_used, no_links};
     ghost use Rattle.std.specs.Prelude.{◌<◌, length, option_map};
@@ -157,6 +158,21 @@ impl<N: Nodes> NodeLinks<N> {
     {
         let last = self.last;
         send_over(&mut self.links[last].link, command, asking)
+    }
+
+    /// Sends a request of so many commands over the link that was used last.
+    pub(crate) fn send_request_over_last(
+        &mut self,
+        request: &[u8],
+        count: usize,
+    ) -> RedisResult<Vec<Value>>
+        requires { last_used self.old ≢ None }
+        ensures sent { UsesLast N.Link.connection (λ before after. Call before after ⊥ ⊥ request.now count
+            result (AnswersFrom (λ vs. vs.items) 0 result)) self.old self.new }
+        ensures counted { IfOk result (λ vs. length vs.items ≡ count) }
+    {
+        let last = self.last;
+        self.links[last].link.req_packed_commands(request, 0, count)
     }
 }
 

@@ -1,7 +1,7 @@
 //! One command over the nodes of a cluster.
 
 ghost use Rattle.std.specs.Prelude.{◌≡◌, IfOk, IfErr, OnErr};
-ghost use Rattle.resp_cluster.specs.Routed.{Followed, Learns, NotFollowed, NotRouted, Routed};
+ghost use Rattle.resp_cluster.specs.Routed.{DidNotGoOn, Followed, Learns, NotFollowed, NotRouted, Routed, WentOn};
 
 use crate::node::NodeAddr;
 use crate::redirect::Redirect;
@@ -72,16 +72,16 @@ pub fn route<T: Drop, S: SendCommand<T>>(
         return Err(RouteError::NoNode);
     };
     let primary = primary.try_clone(alloc)?;
-    follow(alloc, nodes, map, command, primary, budget)
+    follow(alloc, nodes, map, command, (primary, false), budget)
 }
 
-/// Sends a command to this node, and on to where redirects point.
+/// Sends a command to this node, after `ASKING` where that is so, and on to where redirects point.
 pub(crate) fn follow<T: Drop, S: SendCommand<T>>(
     alloc: Global,
     nodes: &mut S,
     map: &mut SlotMap,
     command: &Cmd,
-    first: NodeAddr,
+    first: (NodeAddr, bool),
     budget: u64,
 ) -> Result<T, RouteError<T>>
     ensures followed { IfOk result (λ answer. Followed (S.sends command.now) S.redirects first budget
@@ -89,8 +89,7 @@ pub(crate) fn follow<T: Drop, S: SendCommand<T>>(
     ensures not_followed { IfErr result (NotFollowed (S.sends command.now) S.redirects first budget
         nodes.old map.old nodes.new map.new) }
 {
-    let mut node = first;
-    let mut asking = false;
+    let (mut node, mut asking) = first;
     let mut left = budget;
     loop {
         let answer = nodes.send(command, &node, asking);
@@ -107,6 +106,34 @@ pub(crate) fn follow<T: Drop, S: SendCommand<T>>(
         asking = ask;
         left -= 1;
     }
+}
+
+/// Sends a command that a node replied to on to where the reply points; one that points nowhere is the
+/// answer.
+pub(crate) fn go_on<T: Drop, S: SendCommand<T>>(
+    alloc: Global,
+    nodes: &mut S,
+    map: &mut SlotMap,
+    command: &Cmd,
+    node: &NodeAddr,
+    reply: T,
+    budget: u64,
+) -> Result<T, RouteError<T>>
+    ensures went { IfOk result (λ answer. WentOn (S.sends command.now) S.redirects node.now reply
+        budget nodes.old map.old nodes.new map.new answer) }
+    ensures did_not { IfErr result (DidNotGoOn (S.sends command.now) S.redirects node.now reply budget
+        nodes.old map.old nodes.new map.new) }
+{
+    let Ok(next) = learn(alloc, nodes, map, node, &reply) else {
+        return Err(RouteError::Unfollowed(reply));
+    };
+    let Some(to) = next else {
+        return Ok(reply);
+    };
+    if budget == 0 {
+        return Ok(reply);
+    }
+    follow(alloc, nodes, map, command, to, budget - 1)
 }
 
 /// Has the map learn of where an answer sends its command, and says where that is.

@@ -1,0 +1,115 @@
+-- Several commands over the nodes of a cluster.
+use Rattle.std.specs.Prelude.{◌≡◌, ◌≢◌, ℕ, ◌<◌, ◌∷◌, ◌++◌, ◌⊎◌, Bool, true, false, List, [], All, AllPairs, length, slice_get, slice_index_or}
+use Rattle.std.specs.Prelude.{Option, Some, None, Result, Ok, Err, is_err, ◌||◌}
+use Rattle.std.specs.Global.{Vec}
+use Rattle.std.specs.List.{flat_map}
+use Rattle.resp_args.specs.Args.{Args}
+use Rattle.resp_value.specs.declared.value.Value.{Value}
+use Rattle.resp_errors.specs.declared.redis_error.RedisError.{RedisError}
+use Rattle.resp_command.specs.Call.{Call, AnswersFrom}
+use Rattle.resp_command.specs.Command.{Command}
+use Rattle.resp_command.specs.Connection.{Connection}
+use Rattle.resp_pipeline.specs.Outcome.{Composes}
+use Rattle.resp_pipeline.specs.Pipeline.{Plan}
+use Rattle.resp_routing.specs.Commands.{command_of}
+use Rattle.resp_routing.specs.declared.commands.CommandInfo.{CommandInfo}
+use Rattle.resp_routing.specs.declared.routes.Route.{Route}
+use Rattle.resp_cluster.specs.Cluster.{Cluster, Goes, Readies, answer_of, first_node, has_failed, routed_args}
+use Rattle.resp_cluster.specs.Gathered.{FollowedEach, Gathered}
+use Rattle.resp_cluster.specs.Links.{Links, Reaches, SendsTo, SentRedirects, UsesLast}
+use Rattle.resp_cluster.specs.Merges.{Merges}
+use Rattle.resp_cluster.specs.Routed.{StoppedShort, WentOn}
+use Rattle.resp_cluster.specs.Splits.{IsSplit, merge_of, width_of}
+use Rattle.resp_cluster.specs.declared.links.Sent.{Sent}
+use Rattle.resp_cluster.specs.declared.links.Sent.TheVariants.{Unreached, Answered}
+use Rattle.resp_cluster.specs.declared.node.NodeAddr.{NodeAddr}
+use Rattle.resp_cluster.specs.declared.node.SlotRange.{SlotRange}
+use Rattle.resp_cluster.specs.declared.split.Merge.{Merge}
+
+-- the node that a command is sent to first
+pub record IsDestination {L : Type 0} (cluster : Cluster L) (c : Command) (node : NodeAddr) : Type 0 where
+  pub route : Route
+  pub goes : Goes c route
+  pub first : first_node route cluster ≡ Some node
+
+-- the nodes that commands are sent to first, each once, and for each command the place of its node
+pub record AreDestinations {L : Type 0} (cluster : Cluster L) (commands : List Command) (nodes : List NodeAddr)
+    (targets : List ℕ) : Type 0 where
+  pub whole : length targets ≡ length commands
+  pub known : All (λ target. target < length nodes) targets
+  pub each : (i : ℕ) (c : Command) (node : NodeAddr) → slice_get commands i ≡ Some c
+      → slice_get nodes (slice_index_or targets i 0) ≡ Some node → IsDestination cluster c node
+  pub apart : AllPairs (λ one other. one ≢ other) nodes
+
+-- the place of a node among others, to which it was added at the end where it wasn't there
+pub record IsPlaceAmong (old : List NodeAddr) (node : NodeAddr) (new : List NodeAddr) (place : ℕ) : Type 0 where
+  pub inside : place < length new
+  pub there : slice_get new place ≡ Some node
+  pub grown : (new ≡ old) ⊎ ((new ≡ old ++ node ∷ []) × All (λ other. other ≢ node) old)
+
+-- the parts of a command, given its arguments, and how their replies are put together
+pub record IsPartsOf (args : Args) (merge : Merge) (parts : List Command) (places : List ℕ) : Type 0 where
+  pub name : List ℕ
+  pub entries : List Args
+  pub row : CommandInfo
+  pub row_of : command_of args ≡ Some row
+  pub merges : merge_of row ≡ Some merge
+  pub args_are : args ≡ name ∷ flat_map (λ entry. entry) entries
+  pub wide : All (λ entry. length entry ≡ width_of row.keys) entries
+  pub is_split : IsSplit name entries parts places
+
+-- these links and this map; the map is asked for before the next command where a call failed, now or before
+abbrev pub with_links : {L : Type 0} → Cluster L → Links L → List SlotRange → Bool → Cluster L
+with_links old links map failed =
+    record { links = links; map = map; budget = old.budget; stale = old.stale || failed }
+
+module _ {L : Type 0} (of_link : L → Connection) where
+  -- a node is sent a request of so many commands: it is not reached, or its link makes the call
+  pub data SendsGroup (old new : Cluster L) (node : NodeAddr) (request : List ℕ) (count : ℕ)
+      (r : Result (Vec Value) RedisError) : Type 0 where
+    unreached : (e : RedisError) (links : Links L) → Reaches of_link node old.links links (Err e)
+        → new ≡ with_links old links old.map true → r ≡ Err e → SendsGroup old new node request count r
+    called : (reached links : Links L) → Reaches of_link node old.links reached (Ok tt)
+        → UsesLast of_link (λ before after. Call before after ⊥ ⊥ request count r (AnswersFrom (λ vs. vs.items) 0 r)) reached links
+        → new ≡ with_links old links old.map (is_err r) → SendsGroup old new node request count r
+
+  -- a command goes on from the reply of a node
+  pub data FollowsReply (old new : Cluster L) (node : NodeAddr) (c : Command) (reply : Value)
+      (r : Result Value RedisError) : Type 0 where
+    went : (links : Links L) (map : List SlotRange) (sent : Sent)
+        → WentOn (SendsTo of_link c) SentRedirects node (Answered (Ok reply)) old.budget old.links old.map links map sent
+        → new ≡ with_links old links map (has_failed sent) → r ≡ answer_of (Ok sent) → FollowsReply old new node c reply r
+    stopped : (links : Links L) (map : List SlotRange) (sent : Sent)
+        → StoppedShort (SendsTo of_link c) SentRedirects node (Answered (Ok reply)) old.budget old.links old.map links map sent
+        → new ≡ with_links old links map true → r ≡ answer_of (Ok sent) → FollowsReply old new node c reply r
+
+  -- commands over a cluster: each node is sent those that go there as one request, and each reply stands in the place
+  -- of its command; those that are redirected go on one by one, in order
+  pub record SpreadCall (commands : List Command) (old : Cluster L) (answers : List Value) (new : Cluster L) : Type 0 where
+    pub ready : Cluster L
+    pub nodes : List NodeAddr
+    pub targets : List ℕ
+    pub gathered : Cluster L
+    pub replies : List Value
+    pub readies : Readies of_link old ready
+    pub destinations : AreDestinations ready commands nodes targets
+    pub sent : Gathered SendsGroup commands targets nodes ready replies gathered
+    pub followed : FollowedEach FollowsReply nodes gathered targets commands replies answers new
+
+  -- a pipeline over a cluster: its commands are sent over the nodes, and their replies make what they make together; or it
+  -- is refused
+  pub data SpreadQuery {X : Type 0} (p : Plan) (of_value : Value → X → Type 0) (old new : Cluster L)
+      (result : Result X RedisError) : Type 0 where
+    answered : (answers : List Value) → SpreadCall p.commands old answers new → Composes p of_value result answers
+        → SpreadQuery p of_value old new result
+    refused : (e : RedisError) → result ≡ Err e → SpreadQuery p of_value old new result
+
+  -- a command in parts over a cluster: what the replies to its parts make together
+  pub record SplitCall (c : Command) (old : Cluster L) (answer : Value) (new : Cluster L) : Type 0 where
+    pub merge : Merge
+    pub parts : List Command
+    pub places : List ℕ
+    pub replies : List Value
+    pub parted : IsPartsOf (routed_args c) merge parts places
+    pub sent : SpreadCall parts old replies new
+    pub merged : Merges merge places replies answer

@@ -1,0 +1,192 @@
+//! Several commands over the nodes of a cluster, and commands whose keys are in several slots.
+
+ghost use Rattle.std.specs.Prelude.{◌≡◌, ◌≢◌, IfOk, IfErr, OnOk};
+ghost use Rattle.resp_errors.specs.declared.redis_error.RedisError.TheVariants as form;
+ghost use Rattle.resp_cluster.specs.Spread.{AreDestinations, IsDestination, IsPlaceAmong};
+ghost use Rattle.resp_routing.specs.Commands.{words};
+ghost use Rattle.resp_cluster.specs.Spread.{IsPartsOf, SplitCall, SpreadCall, SpreadQuery};
+
+use super::{ClusterLink, answer_of, route_for};
+use crate::gather::{SendGroups, follow_each, gather};
+use crate::links::{Nodes, Sent};
+use crate::merge::merged;
+use crate::node::NodeAddr;
+use crate::router::{RouteError, go_on};
+use crate::split::{Merge, Parts, entries, merge_of, split, width_of};
+use resp_command::Cmd;
+use resp_from::FromRedisValue;
+use resp_pipeline::Pipeline;
+use resp_routing::{RoutingError, args_of, command_info};
+use resp_value::{ErrorKind, RedisError, RedisResult, Value};
+use std::alloc::{AllocError, Global};
+
+impl<N: Nodes> ClusterLink<N> {
+    /// Sends commands to the nodes that they go to, each node one request of its commands in order, and
+    /// answers a reply for each command, in its place. Those that `MOVED` and `ASK` redirect go on one
+    /// by one, in order, each as often as the budget says.
+    ///
+    /// Refused unsent where [`ClusterLink::req_routed`] refuses one of them. Where a node isn't reached,
+    /// or a call over its link fails, the error is answered: the commands of the nodes before it have
+    /// run.
+    pub fn req_commands(&mut self, commands: &[Cmd]) -> RedisResult<Vec<Value>>
+        ensures { IfOk result (λ answers. SpreadCall N.Link.connection commands.now self.old
+            answers.items self.new) }
+    {
+        self.make_ready();
+        let (nodes, targets) = self.destinations(commands)?;
+        let (nodes, targets) = (nodes.as_slice(), targets.as_slice());
+        let alloc = self.alloc;
+        let replies = gather(alloc, self, nodes, commands, targets)?;
+        let answers = follow_each(alloc, self, nodes, commands, targets, replies)?;
+        Ok(answers)
+    }
+
+    /// Sends a pipeline over the nodes that its commands go to, and converts their replies as
+    /// [`Pipeline::query`] does.
+    ///
+    /// A transaction goes to one node, by [`Pipeline::query`], which refuses it unsent where its
+    /// commands are of several slots. Fails as [`ClusterLink::req_commands`] and [`Pipeline::query`] do.
+    pub fn query_pipeline<T: FromRedisValue>(&mut self, pipeline: &Pipeline) -> RedisResult<T>
+        ensures { SpreadQuery N.Link.connection pipeline.now T.of_value self.old self.new result }
+    {
+        let answers = self.req_commands(pipeline.commands())?;
+        pipeline.compose(answers)
+    }
+
+    /// Sends a command whose keys may be in several slots as one command for each slot, as
+    /// [`ClusterLink::req_commands`] does, and answers what their replies make together: the values of
+    /// `MGET`, each in the place of its key; the sum of the numbers of `DEL`, `UNLINK`, `EXISTS` and
+    /// `TOUCH`; `OK` of `MSET`. Where a part is replied to with a server's error, that is answered.
+    ///
+    /// It isn't atomic: other clients may see some parts done and others not. Any other command is
+    /// refused unsent: as a server does, with `CROSSSLOT`.
+    pub fn req_split(&mut self, command: &Cmd) -> RedisResult<Value>
+        ensures { IfOk result (λ answer. SplitCall N.Link.connection command.now self.old answer
+            self.new) }
+    {
+        let args = args_of(self.alloc, command, b"0")?;
+        let (merge, parts) = match parts_of(self.alloc, args.as_slice()) {
+            Ok(found) => found,
+            Err(refusal) => return Err(refusal.to_redis_error(self.alloc)?),
+        };
+        let replies = self.req_commands(parts.commands.as_slice())?;
+        let answer = merged(self.alloc, merge, parts.places.as_slice(), replies)?;
+        Ok(answer)
+    }
+
+    /// The nodes that commands are sent to first, each once, and for each command the place of its node.
+    fn destinations(&self, commands: &[Cmd]) -> RedisResult<(Vec<NodeAddr>, Vec<usize>)>
+        ensures { IfOk result (λ found. AreDestinations self.now commands.now found.0.items
+            found.1.items) }
+    {
+        let mut nodes = Vec::new(self.alloc);
+        let mut targets = Vec::with_capacity(self.alloc, commands.len())?;
+        for command in commands {
+            let node = self.destination(command)?;
+            targets.push(place_among(&mut nodes, node)?)?;
+        }
+        Ok((nodes, targets))
+    }
+
+    /// The node that a command is sent to first.
+    fn destination(&self, command: &Cmd) -> RedisResult<NodeAddr>
+        ensures { IfOk result (IsDestination self.now command.now) }
+    {
+        let route = route_for(self.alloc, command)?;
+        match self.first_node(&route) {
+            Some(node) => Ok(node.try_clone(self.alloc)?),
+            None => Err(RedisError::from((
+                ErrorKind::ClusterConnectionNotFound,
+                "the map has no node for the command",
+            ))),
+        }
+    }
+}
+
+/// The parts of a command, given its arguments, and how their replies are put together.
+fn parts_of(alloc: Global, args: &[&[u8]]) -> Result<(Merge, Parts), RoutingError>
+    ensures { IfOk result (λ found. IsPartsOf (words args.now) found.0 found.1.commands.items
+        found.1.places.items) }
+{
+    let Some(info) = command_info(args) else {
+        return Err(RoutingError::UnknownCommand);
+    };
+    let Some(merge) = merge_of(info) else {
+        return Err(RoutingError::CrossSlot);
+    };
+    let [name, rest @ ..] = args else {
+        return Err(RoutingError::UnknownCommand);
+    };
+    let entries = entries(alloc, rest, width_of(&info.keys))?;
+    match split(alloc, name, entries.as_slice()) {
+        Ok(parts) => Ok((merge, parts)),
+        Err(_) => Err(RoutingError::OutOfMemory),
+    }
+}
+
+/// The place of a node among others; it is added where it isn't there.
+fn place_among(nodes: &mut Vec<NodeAddr>, node: NodeAddr) -> Result<usize, AllocError>
+    ensures { IfOk result (IsPlaceAmong nodes.old.items node nodes.new.items) }
+{
+    for place in 0..nodes.len() {
+        if nodes[place].is(&node) {
+            return Ok(place);
+        }
+    }
+    nodes.push(node)?;
+    Ok(nodes.len() - 1)
+}
+
+impl<N: Nodes> SendGroups for ClusterLink<N> {
+    ghost use Rattle.resp_cluster.specs.Spread.{FollowsReply, SendsGroup};
+
+    ghost sends = { SendsGroup N.Link.connection };
+
+    ghost follows = { FollowsReply N.Link.connection };
+
+    fn send_group(
+        &mut self,
+        node: &NodeAddr,
+        request: &[u8],
+        count: usize,
+    ) -> RedisResult<Vec<Value>> {
+        match self.links.reach(node) {
+            Ok(()) => {
+                let replies = self.links.send_request_over_last(request, count);
+                if replies.is_err() {
+                    self.stale = true;
+                }
+                replies
+            }
+            Err(error) => {
+                self.stale = true;
+                Err(error)
+            }
+        }
+    }
+
+    fn follow_reply(
+        &mut self,
+        node: &NodeAddr,
+        command: &Cmd,
+        reply: Value,
+    ) -> RedisResult<Value> {
+        let (alloc, budget) = (self.alloc, self.budget);
+        let sent = Sent::Answered(Ok(reply));
+        match go_on(alloc, &mut self.links, &mut self.map, command, node, sent, budget) {
+            Ok(sent) => {
+                let failed = sent.has_failed();
+                let answer = answer_of(Ok(sent));
+                if failed {
+                    self.stale = true;
+                }
+                answer
+            }
+            Err(RouteError::Unfollowed(sent)) => {
+                self.stale = true;
+                answer_of(Ok(sent))
+            }
+            Err(_) => unreachable!(),
+        }
+    }
+}
