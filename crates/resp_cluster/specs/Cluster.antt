@@ -18,6 +18,7 @@ use Rattle.resp_routing.specs.Routes.{HasNoRoute, IsRoute}
 use Rattle.resp_routing.specs.declared.errors.RoutingError.{RoutingError}
 use Rattle.resp_routing.specs.declared.routes.Route.{Route}
 use Rattle.resp_routing.specs.declared.routes.Route.TheVariants.{Slot, Keyless}
+use Rattle.resp_cluster.specs.LinkCommands.{is_link_command}
 use Rattle.resp_cluster.specs.Links.{Links, Reaches, UsesLast, SendsTo, SentRedirects, last_used, no_links}
 use Rattle.resp_cluster.specs.Maps.{primary_at}
 use Rattle.resp_cluster.specs.Primaries.{ArePrimaries}
@@ -62,6 +63,9 @@ routed_args c = args_with (codes "0") c
 abbrev pub several_nodes : RedisError
 several_nodes = General kind.Client (codes "the command goes to several nodes: use link_to") None
 
+abbrev pub of_link : RedisError
+of_link = General kind.Client (codes "the command changes a link: send it over one") None
+
 abbrev pub no_node : RedisError
 no_node = General kind.ClusterConnectionNotFound (codes "the map has no node for the command") None
 
@@ -77,11 +81,13 @@ pub record Goes (c : Command) (route : Route) : Type 0 where
   pub answered : IsUnanswered c → ⊥
   pub is_route : IsRoute (routed_args c) route
   pub to_one : is_to_one route ≡ true
+  pub changes_no_link : is_link_command (routed_args c) ≡ false
 
 -- why a command goes nowhere
 pub data CannotGo (c : Command) (e : RedisError) : Type 0 where
   empty : c.args ≡ [] → e ≡ no_command → CannotGo c e
   unanswered : IsUnanswered c → e ≡ no_reply → CannotGo c e
+  changes_link : is_link_command (routed_args c) ≡ true → e ≡ of_link → CannotGo c e
   several : (route : Route) → IsRoute (routed_args c) route → is_to_one route ≡ false → e ≡ several_nodes
       → CannotGo c e
   unrouted : (why : RoutingError) → HasNoRoute (routed_args c) why → e ≡ redis_error_of why → CannotGo c e

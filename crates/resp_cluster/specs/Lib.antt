@@ -1,5 +1,10 @@
 pub mod Maps
 pub mod Replies
 pub mod Shards
-pub mod Splits
-pub mod Spread
+pub mod Redirects
+pub mod Routed
+pub mod Primaries
+pub mod LinkCommands
+pub mod Links
+pub mod Cluster
+pub mod Routing

@@ -7,8 +7,7 @@ ghost use Rattle.resp_cluster.specs.Cluster.{CannotGo, Goes, any_node, first_nod
 ghost use Rattle.resp_cluster.specs.Cluster.{has_failed, is_to_one, last_link, new_cluster, several_nodes, Round};
 ghost use Rattle.resp_cluster.specs.Cluster.{answer_of, reached, OnceMore, Opens, Readies, ReachesOne, Refreshes, Rounds, RoutedCall};
 
-mod spread;
-
+use crate::link_commands::is_link_command;
 use crate::links::{NodeLinks, Nodes, Sent};
 use crate::map_source::MapError;
 use crate::node::NodeAddr;
@@ -70,7 +69,14 @@ fn route_for(alloc: Global, command: &Cmd) -> RedisResult<Route>
         )));
     }
     let args = args_of(alloc, command, b"0")?;
-    match route_of(alloc, args.as_slice()) {
+    let words = args.as_slice();
+    if is_link_command(words) {
+        return Err(RedisError::from((
+            ErrorKind::Client,
+            "the command changes a link: send it over one",
+        )));
+    }
+    match route_of(alloc, words) {
         Ok(route) => only_to_one(route),
         Err(refusal) => Err(refusal.to_redis_error(alloc)?),
     }
@@ -269,7 +275,8 @@ impl<N: Nodes> ClusterLink<N> {
     /// Sends a command over the link of the node that it belongs to, and answers its reply.
     ///
     /// Refused unsent, with kind `Client`: an empty command; one that subscribes or unsubscribes and
-    /// whose reply is waited for; one that goes to several nodes; one whose keys aren't known. Keys in
+    /// whose reply is waited for; one that goes to several nodes; one that changes what a link is, as `MULTI` and
+    /// `SELECT`; one whose keys aren't known. Keys in
     /// several slots are refused as a server does, with `CROSSSLOT`.
     ///
     /// It goes to the primary of its slot; without keys to the node of the last used link, or to the

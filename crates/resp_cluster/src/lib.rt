@@ -4,6 +4,7 @@
 mod cluster_connection;
 mod cluster_link;
 mod equality;
+mod link_commands;
 mod links;
 mod map_source;
 mod node;

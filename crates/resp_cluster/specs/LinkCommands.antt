@@ -1,0 +1,35 @@
+-- Commands that change what a link is, and not what a cluster holds: after one, the next command has to go over that link.
+use Rattle.std.specs.Prelude.{ℕ, ◌||◌, Bool, false, List, [], ◌∷◌, codes}
+use Rattle.std.specs.Str.{str_eq_ignore_ascii_case}
+use Rattle.resp_args.specs.Args.{Args}
+
+-- of transactions
+unfoldable pub is_of_transactions : List ℕ → Bool
+is_of_transactions name =
+    str_eq_ignore_ascii_case name (codes "DISCARD")
+    || str_eq_ignore_ascii_case name (codes "EXEC")
+    || str_eq_ignore_ascii_case name (codes "MULTI")
+    || str_eq_ignore_ascii_case name (codes "UNWATCH")
+    || str_eq_ignore_ascii_case name (codes "WATCH")
+
+-- of a link's mode
+unfoldable pub is_of_modes : List ℕ → Bool
+is_of_modes name =
+    str_eq_ignore_ascii_case name (codes "ASKING")
+    || str_eq_ignore_ascii_case name (codes "MONITOR")
+    || str_eq_ignore_ascii_case name (codes "READONLY")
+    || str_eq_ignore_ascii_case name (codes "READWRITE")
+
+-- of who speaks over a link, and of which database
+unfoldable pub is_of_sessions : List ℕ → Bool
+is_of_sessions name =
+    str_eq_ignore_ascii_case name (codes "AUTH")
+    || str_eq_ignore_ascii_case name (codes "HELLO")
+    || str_eq_ignore_ascii_case name (codes "QUIT")
+    || str_eq_ignore_ascii_case name (codes "RESET")
+    || str_eq_ignore_ascii_case name (codes "SELECT")
+
+-- the first argument is such a name, in letters of either case
+abbrev pub is_link_command : Args → Bool
+is_link_command [] = false
+is_link_command (name ∷ args) = is_of_transactions name || is_of_modes name || is_of_sessions name
