@@ -54,6 +54,12 @@ abbrev pub ReachesOne : {L : Type 0} → (L → Connection) → NodeAddr → Clu
 ReachesOne of_link node old new r =
     Reaches of_link node old.links new.links r × (new ≡ record old { links = new.links })
 
+-- a node is reached, over this link
+pub record IsReached {L : Type 0} (of_link : L → Connection) (node : NodeAddr) (old : Cluster L) (link : L) : Type 0 where
+  pub links : Links L
+  pub reaches : Reaches of_link node old.links links (Ok tt)
+  pub is_last : last_link links ≡ Some link
+
 -- ---- where a command goes
 
 -- the arguments by which a command is routed: a cursor argument counts as 0

@@ -5,7 +5,7 @@ ghost use Rattle.std.specs.Option.{option_copied};
 ghost use Rattle.resp_errors.specs.declared.redis_error.RedisError.TheVariants as form;
 ghost use Rattle.resp_cluster.specs.Cluster.{CannotGo, Goes, any_node, first_node, first_primary};
 ghost use Rattle.resp_cluster.specs.Cluster.{has_failed, is_to_one, last_link, new_cluster, several_nodes, Round};
-ghost use Rattle.resp_cluster.specs.Cluster.{answer_of, reached, OnceMore, Opens, Readies, ReachesOne, Refreshes, Rounds, RoutedCall};
+ghost use Rattle.resp_cluster.specs.Cluster.{answer_of, reached, OnceMore, Opens, Readies, IsReached, ReachesOne, Refreshes, Rounds, RoutedCall};
 
 use crate::link_commands::is_link_command;
 use crate::links::{NodeLinks, Nodes, Sent};
@@ -195,6 +195,18 @@ impl<N: Nodes> ClusterLink<N> {
         ensures { ReachesOne N.Link.connection node.now self.old self.new result }
     {
         self.links.reach(node)
+    }
+
+    /// The link to a node, as [`reach`](ClusterLink::reach) has it, to send commands over it: those that
+    /// go to several nodes, or a scan for each node. Fails where the node isn't reached.
+    ///
+    /// No clause says what this becomes while the link is lent.
+    pub fn link_to(&mut self, node: &NodeAddr) -> RedisResult<&mut N::Link>
+        ensures works { IfOk result (λ link. (N.Link.connection link.now).broken ≡ false) }
+        ensures reached { IfOk result (λ link. IsReached N.Link.connection node.now self.old link.now) }
+    {
+        self.links.reach(node)?;
+        Ok(self.links.last_mut())
     }
 
     /// The node of the last used link, or the first primary.

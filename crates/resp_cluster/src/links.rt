@@ -150,6 +150,15 @@ impl<N: Nodes> NodeLinks<N> {
         Ok(())
     }
 
+    /// The link that was used last.
+    pub(crate) fn last_mut(&mut self) -> &mut N::Link
+        requires { last_used self.old ≢ None }
+        ensures { option_map (λ link. link.link) (last_used self.old) ≡ Some result.now }
+    {
+        let last = self.last;
+        &mut self.links[last].link
+    }
+
     /// Sends a command over the link that was used last, after `ASKING` where that is so.
     fn send_over_last(&mut self, command: &Cmd, asking: bool) -> RedisResult<Value>
         requires { last_used self.old ≢ None }
