@@ -1,5 +1,6 @@
 -- A cluster's links, the map by which commands are sent, and one command over them.
-use Rattle.std.specs.Prelude.{◌≡◌, ◌≢◌, ℕ, Bool, true, false, List, [], ◌∷◌, ◌++◌, Option, None, Some, codes, option_map}
+use Rattle.std.specs.Prelude.{◌≡◌, ◌≢◌, ℕ, Bool, true, false, List, [], ◌∷◌, ◌++◌, Option, None, Some}
+use Rattle.std.specs.Prelude.{codes, option_map}
 use Rattle.std.specs.Prelude.{Result, Ok, Err}
 use Rattle.std.specs.List.{FoldsTo}
 use Rattle.std.specs.Option.{option_and_then}
@@ -55,7 +56,8 @@ ReachesOne of_link node old new r =
     Reaches of_link node old.links new.links r × (new ≡ record old { links = new.links })
 
 -- a node is reached, over this link
-pub record IsReached {L : Type 0} (of_link : L → Connection) (node : NodeAddr) (old : Cluster L) (link : L) : Type 0 where
+pub record IsReached {L : Type 0} (of_link : L → Connection) (node : NodeAddr) (old : Cluster L) (link : L) :
+    Type 0 where
   pub links : Links L
   pub reaches : Reaches of_link node old.links links (Ok tt)
   pub is_last : last_link links ≡ Some link

@@ -1,4 +1,4 @@
--- Commands that change what a link is, and not what a cluster holds: after one, the next command has to go over that link.
+-- Commands that change what a link is, and not what a cluster holds: after one, the next has to go over that link.
 use Rattle.std.specs.Prelude.{ℕ, ◌||◌, Bool, false, List, [], ◌∷◌, codes}
 use Rattle.std.specs.Str.{str_eq_ignore_ascii_case}
 use Rattle.resp_args.specs.Args.{Args}

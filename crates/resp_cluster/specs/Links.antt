@@ -1,5 +1,6 @@
 -- Links to the nodes of a cluster, and what is sent over them.
-use Rattle.std.specs.Prelude.{◌≡◌, ◌≢◌, ◌⊎◌, ℕ, ◌<◌, Bool, true, false, List, [], ◌∷◌, ◌++◌, All, length, slice_get, slice_set}
+use Rattle.std.specs.Prelude.{◌≡◌, ◌≢◌, ◌⊎◌, ℕ, ◌<◌, Bool, true, false, List, [], ◌∷◌, ◌++◌, All, length}
+use Rattle.std.specs.Prelude.{slice_get, slice_set}
 use Rattle.std.specs.Prelude.{Option, None, Some, option_map, Result, Ok, Err, codes}
 use Rattle.std.specs.List.{FoldsTo}
 use Rattle.resp_value.specs.declared.value.Value.{Value}

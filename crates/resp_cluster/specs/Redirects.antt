@@ -45,7 +45,8 @@ pub record NamesPlace (asked text : List ℕ) (slot : ℕ) (node : NodeAddr) : T
   pub node_is : NamesAddr asked address node
 
 -- an error of this kind that names a slot and a node
-pub record SendsTo (kind : ServerErrorKind) (asked : List ℕ) (e : ServerError) (slot : ℕ) (node : NodeAddr) : Type 0 where
+pub record SendsTo (kind : ServerErrorKind) (asked : List ℕ) (e : ServerError) (slot : ℕ) (node : NodeAddr) :
+    Type 0 where
   pub detail : List ℕ
   pub is_kind : server_kind_of e ≡ Some kind
   pub says : server_details_of e ≡ Some detail

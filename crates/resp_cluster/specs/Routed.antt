@@ -28,13 +28,15 @@ pub record Turn (S : Type 0) : Type 0 where
   pub to : NodeAddr × Bool
 
 -- a map learns of where a reply sends its command, and that is the next node
-pub record Learns (Redirects : Redirect → Type 0) (old new : List SlotRange) (next : Option (NodeAddr × Bool)) : Type 0 where
+pub record Learns (Redirects : Redirect → Type 0) (old new : List SlotRange) (next : Option (NodeAddr × Bool)) :
+    Type 0 where
   pub redirect : Redirect
   pub reads : Redirects redirect
   pub learnt : new ≡ map_after redirect old
   pub next_is : next ≡ next_of redirect
 
-module _ {S T : Type 0} (sends : S → S → NodeAddr → Bool → T → Type 0) (redirects : NodeAddr → T → Redirect → Type 0) where
+module _ {S T : Type 0} (sends : S → S → NodeAddr → Bool → T → Type 0)
+    (redirects : NodeAddr → T → Redirect → Type 0) where
   -- the command is sent, and the reply sends it on
   pub record SentOn (old : Turn S) (reply : T) (new : Turn S) : Type 0 where
     pub sent : sends old.nodes new.nodes old.to.0 old.to.1 reply
@@ -42,8 +44,9 @@ module _ {S T : Type 0} (sends : S → S → NodeAddr → Bool → T → Type 0)
 
   -- the first send goes to this node, after ASKING or not, and each later one to where the reply before it points; there are at most budget
   -- later ones, and these were the replies before the last
-  pub record Leads (first : NodeAddr × Bool) (budget : ℕ) (old : S) (old_map : List SlotRange) (earlier : List T) (last : Turn S) : Type 0 where
-    pub followed : FoldsTo SentOn (record { nodes = old; map = old_map; to = first }) earlier last
+  pub record Leads (node : NodeAddr) (budget : ℕ) (old : S) (old_map : List SlotRange) (earlier : List T)
+      (last : Turn S) : Type 0 where
+    pub followed : FoldsTo SentOn (record { nodes = old; map = old_map; to = (node, false) }) earlier last
     pub within : length earlier ≤ budget
 
   -- the last send's reply is the answer; it points nowhere, or the budget is used up

@@ -5,8 +5,8 @@ use crate::links::Nodes;
 use resp_command::{Cmd, ConnectionLike};
 use resp_value::{ErrorKind, RedisError, RedisResult, Value};
 
-/// A connection that routes: a command goes by [`ClusterLink::req_routed`]. It takes one command at a
-/// time, and refuses packed ones, which say no keys: kind `Client`.
+/// A connection that routes: a command goes by [`ClusterLink::req_routed`]. It takes one command at
+/// a time, and refuses packed ones, which say no keys: kind `Client`.
 impl<N: Nodes> ConnectionLike for ClusterLink<N> {
     ghost use Rattle.resp_cluster.specs.Routing.{cluster_connection};
 

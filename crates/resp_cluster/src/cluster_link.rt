@@ -4,8 +4,10 @@ ghost use Rattle.std.specs.Prelude.{◌≡◌, ◌≢◌, true, false, IfOk, IfE
 ghost use Rattle.std.specs.Option.{option_copied};
 ghost use Rattle.resp_errors.specs.declared.redis_error.RedisError.TheVariants as form;
 ghost use Rattle.resp_cluster.specs.Cluster.{CannotGo, Goes, any_node, first_node, first_primary};
-ghost use Rattle.resp_cluster.specs.Cluster.{has_failed, is_to_one, last_link, new_cluster, several_nodes, Round};
-ghost use Rattle.resp_cluster.specs.Cluster.{answer_of, reached, OnceMore, Opens, Readies, IsReached, ReachesOne, Refreshes, Rounds, RoutedCall};
+ghost use Rattle.resp_cluster.specs.Cluster.{has_failed, is_to_one, last_link, new_cluster};
+ghost use Rattle.resp_cluster.specs.Cluster.{several_nodes, Round};
+ghost use Rattle.resp_cluster.specs.Cluster.{answer_of, reached, OnceMore, Opens, Readies};
+ghost use Rattle.resp_cluster.specs.Cluster.{IsReached, ReachesOne, Refreshes, Rounds, RoutedCall};
 
 use crate::link_commands::is_link_command;
 use crate::links::{NodeLinks, Nodes, Sent};
@@ -51,7 +53,12 @@ impl<N: Nodes> Model for ClusterLink<N> {
 
     ghost Value = { Cluster N.Link };
 
-    ghost view = { λ c. record { links = c.links; map = c.map; budget = c.budget; stale = c.stale } };
+    ghost view = { λ c. record {
+      links = c.links;
+      map = c.map;
+      budget = c.budget;
+      stale = c.stale;
+    } };
 }
 
 /// Where a command goes, if to one node.
@@ -133,8 +140,9 @@ impl Sent {
 }
 
 impl<N: Nodes + Drop> ClusterLink<N> {
-    /// One that has the map of the first of these nodes that gives one: they are asked in turn. The link
-    /// to that node is the one that was used last. A command is sent on at most `budget` times.
+    /// One that has the map of the first of these nodes that gives one: they are asked in turn. The
+    /// link to that node is the one that was used last. A command is sent on at most `budget`
+    /// times.
     ///
     /// Fails where no node gives a map, as the last one did.
     pub fn open(
@@ -158,8 +166,8 @@ impl<N: Nodes + Drop> ClusterLink<N> {
 }
 
 impl<N: Nodes> ClusterLink<N> {
-    /// One that has this map and opens links to nodes as commands need them. A command is sent on at
-    /// most `budget` times. Takes no memory.
+    /// One that has this map and opens links to nodes as commands need them. A command is sent on
+    /// at most `budget` times. Takes no memory.
     pub fn new(alloc: Global, nodes: N, map: SlotMap, budget: u64) -> ClusterLink<N>
         ensures { result ≡ new_cluster map budget }
     {
@@ -190,20 +198,22 @@ impl<N: Nodes> ClusterLink<N> {
     }
 
     /// Has a link to a node that works, as the one that was used last: what was opened before, or
-    /// another in its place where that broke. Fails where the node isn't reached; nothing changes then.
+    /// another in its place where that broke. Fails where the node isn't reached; nothing changes
+    /// then.
     pub fn reach(&mut self, node: &NodeAddr) -> RedisResult<()>
         ensures { ReachesOne N.Link.connection node.now self.old self.new result }
     {
         self.links.reach(node)
     }
 
-    /// The link to a node, as [`reach`](ClusterLink::reach) has it, to send commands over it: those that
-    /// go to several nodes, or a scan for each node. Fails where the node isn't reached.
+    /// The link to a node, as [`reach`](ClusterLink::reach) has it, to send commands over it: those
+    /// that go to several nodes, or a scan for each node. Fails where the node isn't reached.
     ///
     /// No clause says what this becomes while the link is lent.
     pub fn link_to(&mut self, node: &NodeAddr) -> RedisResult<&mut N::Link>
         ensures works { IfOk result (λ link. (N.Link.connection link.now).broken ≡ false) }
-        ensures reached { IfOk result (λ link. IsReached N.Link.connection node.now self.old link.now) }
+        ensures reached { IfOk result (λ link. IsReached N.Link.connection node.now self.old
+            link.now) }
     {
         self.links.reach(node)?;
         Ok(self.links.last_mut())
@@ -260,8 +270,8 @@ impl<N: Nodes> ClusterLink<N> {
             Err(_) => unreachable!(),
         }
     }
-    /// Asks for the map, as `Refreshes` says: the primaries that it knows are asked in turn, and where
-    /// none gives one the map stays.
+    /// Asks for the map, as `Refreshes` says: the primaries that it knows are asked in turn, and
+    /// where none gives one the map stays.
     fn refresh(&mut self)
         ensures { Refreshes N.Link.connection self.old self.new }
     {
@@ -286,18 +296,18 @@ impl<N: Nodes> ClusterLink<N> {
 
     /// Sends a command over the link of the node that it belongs to, and answers its reply.
     ///
-    /// Refused unsent, with kind `Client`: an empty command; one that subscribes or unsubscribes and
-    /// whose reply is waited for; one that goes to several nodes; one that changes what a link is, as `MULTI` and
-    /// `SELECT`; one whose keys aren't known. Keys in
-    /// several slots are refused as a server does, with `CROSSSLOT`.
+    /// Refused unsent, with kind `Client`: an empty command; one that subscribes or unsubscribes
+    /// and whose reply is waited for; one that goes to several nodes; one that changes what a link
+    /// is, as `MULTI` and `SELECT`; one whose keys aren't known. Keys in several slots are refused
+    /// as a server does, with `CROSSSLOT`.
     ///
-    /// It goes to the primary of its slot; without keys to the node of the last used link, or to the
-    /// first primary. After `MOVED` the map has learnt, and it goes there; after `ASK` it goes there
-    /// after `ASKING`; at most so often as the budget says. Every other reply is the answer, and so is
-    /// the failure of a call: a command that may have run isn't sent again, but the map is asked for
-    /// before the next command. A link that broke is opened anew before anything is sent over it. Where
-    /// that fails, the map is asked for, and the command is sent once more by it. Where memory runs out
-    /// for a redirect, that is the answer.
+    /// It goes to the primary of its slot; without keys to the node of the last used link, or to
+    /// the first primary. After `MOVED` the map has learnt, and it goes there; after `ASK` it goes
+    /// there after `ASKING`; at most so often as the budget says. Every other reply is the answer,
+    /// and so is the failure of a call: a command that may have run isn't sent again, but the map
+    /// is asked for before the next command. A link that broke is opened anew before anything is
+    /// sent over it. Where that fails, the map is asked for, and the command is sent once more by
+    /// it. Where memory runs out for a redirect, that is the answer.
     pub fn req_routed(&mut self, command: &Cmd) -> RedisResult<Value>
         ensures { RoutedCall N.Link.connection command.now self.old self.new result }
     {

@@ -11,14 +11,14 @@ use resp_value::{RedisError, RedisResult, Value};
 use std::alloc::{AllocError, Global};
 use std::marker::Model;
 
-/// A way to the nodes of a cluster: it opens a connection to any of them and greets it, as often as it
-/// is asked.
+/// A way to the nodes of a cluster: it opens a connection to any of them and greets it, as often as
+/// it is asked.
 pub trait Nodes {
     /// The connections that it opens.
     type Link: Unrouted + Drop;
 
-    /// Opens a connection to a node and greets it. Fails where the node isn't reached, or refuses the
-    /// greeting.
+    /// Opens a connection to a node and greets it. Fails where the node isn't reached, or refuses
+    /// the greeting.
     fn connect(&mut self, node: &NodeAddr) -> RedisResult<Self::Link>
         ensures works { IfOk result (λ link. (Self.Link.connection link).broken ≡ false) };
 }
@@ -72,8 +72,8 @@ impl<N: Nodes> Model for NodeLinks<N> {
 }
 
 impl<N: Nodes> NodeLinks<N> {
-    ghost use Rattle.resp_command.specs.Call.{AnswersFrom, Call};
-    ghost use Rattle.resp_cluster.specs.Links.{IsAt, IsPlaceOf, HasNoLink, Reaches, SendsOver, UsesLast};
+    ghost use Rattle.resp_cluster.specs.Links.{IsAt, IsPlaceOf, HasNoLink, Reaches, SendsOver};
+    ghost use Rattle.resp_cluster.specs.Links.{UsesLast};
     ghost use Rattle.resp_cluster.specs.Links.{last_used, no_links};
     ghost use Rattle.std.specs.Prelude.{◌<◌, length, option_map};
     ghost use Rattle.std.specs.Option.{option_copied};
@@ -162,8 +162,8 @@ impl<N: Nodes> NodeLinks<N> {
     /// Sends a command over the link that was used last, after `ASKING` where that is so.
     fn send_over_last(&mut self, command: &Cmd, asking: bool) -> RedisResult<Value>
         requires { last_used self.old ≢ None }
-        ensures { UsesLast N.Link.connection (λ before after. SendsOver before after asking command.now
-            result) self.old self.new }
+        ensures { UsesLast N.Link.connection (λ before after. SendsOver before after asking
+            command.now result) self.old self.new }
     {
         let last = self.last;
         send_over(&mut self.links[last].link, command, asking)

@@ -103,8 +103,8 @@ impl<N: Nodes> NodeLinks<N> {
     /// Sends `CLUSTER SLOTS` over the link that was used last.
     fn ask_slots(&mut self) -> RedisResult<Value>
         requires { last_used self.old ≢ None }
-        ensures { UsesLast N.Link.connection (λ before after. PackedCall before after slots_bytes result)
-            self.old self.new }
+        ensures { UsesLast N.Link.connection (λ before after. PackedCall before after slots_bytes
+            result) self.old self.new }
     {
         let last = self.last;
         self.links[last].link.req_packed_command(CLUSTER_SLOTS)

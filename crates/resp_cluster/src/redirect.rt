@@ -27,8 +27,8 @@ pub enum Redirect {
 /// it to that node, and nothing else sends it anywhere. `asked` is the host of the node that
 /// replied: it stands for an empty host.
 ///
-/// The slot is below 16384, the port has 16 bits, and the host is what stands before the last colon,
-/// so that it may be an address of IPv6. Fails only when out of memory.
+/// The slot is below 16384, the port has 16 bits, and the host is what stands before the last
+/// colon, so that it may be an address of IPv6. Fails only when out of memory.
 pub fn redirect_of(alloc: Global, reply: &Value, asked: &str) -> Result<Redirect, AllocError>
     ensures { IfOk result (Redirects asked.now reply.now) }
 {

@@ -84,8 +84,8 @@ pub(crate) fn follow<T: Drop, S: SendCommand<T>>(
     first: (NodeAddr, bool),
     budget: u64,
 ) -> Result<T, RouteError<T>>
-    ensures followed { IfOk result (λ answer. Followed (S.sends command.now) S.redirects first budget
-        nodes.old map.old nodes.new map.new answer) }
+    ensures followed { IfOk result (λ answer. Followed (S.sends command.now) S.redirects first
+        budget nodes.old map.old nodes.new map.new answer) }
     ensures not_followed { IfErr result (NotFollowed (S.sends command.now) S.redirects first budget
         nodes.old map.old nodes.new map.new) }
 {

@@ -1,6 +1,7 @@
 //! The map of slots.
 
-ghost use Rattle.std.specs.Prelude.{◌≡◌, ◌≢◌, ◌↔◌, ℕ, [], Contains, IfOk, IsTrue, OnErr, OnOk, Some};
+ghost use Rattle.std.specs.Prelude.{◌≡◌, ◌≢◌, ◌↔◌, ℕ, [], Contains, IfOk, IsTrue, OnErr, OnOk};
+ghost use Rattle.std.specs.Prelude.{Some};
 ghost use Rattle.resp_cluster.specs.Primaries.{ArePrimaries, IsWithNew, IsWithPrimary};
 ghost use Rattle.std.specs.Option.{option_copied};
 
@@ -67,9 +68,9 @@ impl SlotMap {
         }
     }
 
-    /// The map that a reply to `CLUSTER SHARDS` gives: for each shard, in order, its ranges of slots
-    /// with the first of its nodes that is a primary, and the others as replicas, whatever their
-    /// health. A node has the host of its `endpoint`, as in
+    /// The map that a reply to `CLUSTER SHARDS` gives: for each shard, in order, its ranges of
+    /// slots with the first of its nodes that is a primary, and the others as replicas, whatever
+    /// their health. A node has the host of its `endpoint`, as in
     /// [`from_slots_reply`](SlotMap::from_slots_reply), and the port of this kind.
     ///
     /// Fails where the reply isn't as [`TopologyError`] says, and with `OutOfMemory`.
@@ -116,9 +117,9 @@ impl SlotMap {
         self.range_at(slot)?.primary.as_ref()
     }
 
-    /// Says that a slot is now at this node, as a server does by `MOVED`; no replica of it is known.
-    /// Where the first range that has the slot has no other, its place is taken; else a range of this
-    /// slot alone comes before the others. On `AllocError` the map is as it was.
+    /// Says that a slot is now at this node, as a server does by `MOVED`; no replica of it is
+    /// known. Where the first range that has the slot has no other, its place is taken; else a
+    /// range of this slot alone comes before the others. On `AllocError` the map is as it was.
     pub fn set_primary(&mut self, slot: u16, node: NodeAddr) -> Result<(), AllocError>
         ensures set { OnOk result (self.new ≡ with_primary slot node self.old) }
         ensures there { OnOk result (primary_at self.new slot ≡ Some node) }
