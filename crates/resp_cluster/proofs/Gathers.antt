@@ -44,7 +44,7 @@ module _ {A : Type 0} (node : ℕ) where
   pub up_to_next : (targets : List ℕ) (xs : List A) (place : ℕ) (x : A) → length targets ≡ length xs → place < length xs
       → of_node node (take (place + 1) targets) (take (place + 1) xs)
       ≡ of_node node (take place targets) (take place xs) ++ of_node node (get_or targets place 0 ∷ []) (get_or xs place x ∷ [])
-  up_to_next targets xs place x same within = 
+  up_to_next targets xs place x same within =
       ap (λ l. of_node node l (take (place + 1) xs)) (take_more targets place 0 (omega arith))
       ∙ ap (λ l. of_node node (take place targets ++ get_or targets place 0 ∷ []) l) (take_more xs place x within)
       ∙ push (take place targets) (take place xs) (get_or targets place 0) (get_or xs place x) (by_lengths targets xs place same)

@@ -37,7 +37,7 @@ module _ (name : List ℕ) (places : List ℕ) (slices : List (Bor (List (Bor (L
   part_grows slice is grown =
       let entry = words (get_or slices at slice).now in
       let next = next_here part places (entries_in slices) at entry (same ∙ sym long) (omega (arith, long))
-          (sym (entry_at slices at slice within)) is in
+      (sym (entry_at slices at slice within)) is in
       rw (grown, so_far, next) (ap (λ l. record new_command { args = name ∷ l })
       (sym (flat_push (of_node part (take at places) (take at (entries_in slices))) entry)))
 
@@ -74,8 +74,11 @@ module _ (slots : List ℕ) (slot : ℕ) (slots' : List ℕ) (place : ℕ) (has 
     old_each i inside =
         let whole = h.whole in
         let known : get_or places i 0 < length slots = h.known i 0 (omega arith) in
-        rw (get_or_append_left entries (entry ∷ []) [] i inside, get_or_append_left places (place ∷ []) 0 i (omega arith),
-            kept_at (get_or places i 0) known) (h.each i inside)
+        rw (
+          get_or_append_left entries (entry ∷ []) [] i inside,
+          get_or_append_left places (place ∷ []) 0 i (omega arith),
+          kept_at (get_or places i 0) known,
+        ) (h.each i inside)
 
     new_each : (i : ℕ) → length entries ≡ i → IsSlot (key_of (get_or (entries ++ entry ∷ []) i []))
         (get_or slots' (get_or (places ++ place ∷ []) i 0) 0)
@@ -109,7 +112,7 @@ pub next_by_slot : (slots : List ℕ) (slot : ℕ) (slots' : List ℕ) (place : 
     → BySlot slots' (places ++ place ∷ []) (entries_in (take (at + 1) slices))
 next_by_slot slots slot slots' place places slices at slice has within h is =
     let grown : entries_in (take (at + 1) slices) ≡ entries_in (take at slices) ++ words (get_or slices at slice).now ∷ [] =
-        ap entries_in (take_more slices at slice within) ∙ map_push (λ s. words s.now) (take at slices) (get_or slices at slice) in
+    ap entries_in (take_more slices at slice within) ∙ map_push (λ s. words s.now) (take at slices) (get_or slices at slice) in
     rw grown (one_entry_more slots slot slots' place has places (entries_in (take at slices)) _ h is)
 
 -- ---- arguments in entries
@@ -130,8 +133,8 @@ pub cut_once : (width : ℕ) (args : List (Bor (List ℕ))) (entries : List (Bor
     → Cut width args (entries ++ slice ∷ []) (drop width left)
 cut_once width args entries left slice h fits is =
     let parts : words left ≡ words slice.now ++ words (drop width left) =
-        ap words (sym (take-append-drop width left)) ∙ map-append (λ a. a.now) (take width left) (drop width left)
-        ∙ ap (λ l. words l ++ words (drop width left)) (sym is) in
+    ap words (sym (take-append-drop width left)) ∙ map-append (λ a. a.now) (take width left) (drop width left)
+    ∙ ap (λ l. words l ++ words (drop width left)) (sym is) in
     let grown : entries_in (entries ++ slice ∷ []) ≡ entries_in entries ++ words slice.now ∷ [] = map_push (λ s. words s.now) entries slice in
     let long = length-map slice.now (λ a. a.now) in
     let cut = length-take width left in

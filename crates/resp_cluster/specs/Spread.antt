@@ -1,11 +1,13 @@
 -- Several commands over the nodes of a cluster.
 use Rattle.std.specs.Prelude.{◌≡◌, ◌≢◌, ℕ, ◌<◌, ◌∷◌, ◌++◌, ◌⊎◌, Bool, true, false, List, [], All, AllPairs, length, slice_get, slice_index_or}
-use Rattle.std.specs.Prelude.{Option, Some, None, Result, Ok, Err, is_err, ◌||◌}
+use Rattle.std.specs.Prelude.{Option, Some, None, Result, Ok, Err, is_err, ◌||◌, codes}
 use Rattle.std.specs.Global.{Vec}
 use Rattle.std.specs.List.{flat_map}
 use Rattle.resp_args.specs.Args.{Args}
 use Rattle.resp_value.specs.declared.value.Value.{Value}
+use Rattle.resp_errors.specs.declared.kinds.ErrorKind.TheVariants as kind
 use Rattle.resp_errors.specs.declared.redis_error.RedisError.{RedisError}
+use Rattle.resp_errors.specs.declared.redis_error.RedisError.TheVariants.{General}
 use Rattle.resp_command.specs.Call.{Call, AnswersFrom}
 use Rattle.resp_command.specs.Command.{Command}
 use Rattle.resp_command.specs.Connection.{Connection}
@@ -25,6 +27,10 @@ use Rattle.resp_cluster.specs.declared.links.Sent.TheVariants.{Unreached, Answer
 use Rattle.resp_cluster.specs.declared.node.NodeAddr.{NodeAddr}
 use Rattle.resp_cluster.specs.declared.node.SlotRange.{SlotRange}
 use Rattle.resp_cluster.specs.declared.split.Merge.{Merge}
+
+-- what a transaction is refused with
+abbrev pub one_node : RedisError
+one_node = General kind.Client (codes "a transaction goes to one node: use link_to") None
 
 -- the node that a command is sent to first
 pub record IsDestination {L : Type 0} (cluster : Cluster L) (c : Command) (node : NodeAddr) : Type 0 where

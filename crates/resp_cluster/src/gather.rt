@@ -38,12 +38,7 @@ pub trait SendGroups {
     ghost follows: { Self → Self → NodeAddr → Command → Value → Result Value RedisError → Type 0 };
 
     /// Sends a command on to where the reply of a node points; one that points nowhere is the answer.
-    fn follow_reply(
-        &mut self,
-        node: &NodeAddr,
-        command: &Cmd,
-        reply: Value,
-    ) -> RedisResult<Value>
+    fn follow_reply(&mut self, node: &NodeAddr, command: &Cmd, reply: Value) -> RedisResult<Value>
         ensures { follows self.old self.new node.now command.now reply result };
 }
 
@@ -147,12 +142,7 @@ fn send_to<C: SendGroups>(
 }
 
 /// The commands that go to a node.
-fn group_of(
-    alloc: Global,
-    node: usize,
-    commands: &[Cmd],
-    targets: &[usize],
-) -> RedisResult<Group>
+fn group_of(alloc: Global, node: usize, commands: &[Cmd], targets: &[usize]) -> RedisResult<Group>
     requires each { length targets.now ≡ length commands.now }
     ensures request { IfOk result (λ group. group.request.items
         ≡ request_of (of_node node targets.now commands.now)) }

@@ -1,7 +1,6 @@
 //! Commands whose keys are in several slots.
 
 ghost use Rattle.std.specs.Prelude.{◌≡◌, ◌≢◌, ◌<◌, ◌%◌, ◌++◌, ◌∷◌, IfOk, IfErr, OnOk, All, length};
-
 ghost use Rattle.resp_errors.specs.Memory.{OnlyMemory};
 ghost use Rattle.resp_command.specs.Command.{new_command};
 ghost use Rattle.resp_routing.specs.Commands.{words};
@@ -91,10 +90,7 @@ pub(crate) fn entries<'a, 'b>(
 }
 
 /// The slots of the entries' keys, each once, and for each entry the position of its slot.
-fn by_slot(
-    alloc: Global,
-    entries: &[&[&[u8]]],
-) -> Result<(Vec<u16>, Vec<usize>), AllocError>
+fn by_slot(alloc: Global, entries: &[&[&[u8]]]) -> Result<(Vec<u16>, Vec<usize>), AllocError>
     ensures { IfOk result (λ found. BySlot found.0.items found.1.items (entries_in entries.now)) }
 {
     let mut slots = Vec::new(alloc);
@@ -163,11 +159,7 @@ fn push_all(command: &mut Cmd, args: &[&[u8]]) -> RedisResult<()>
 }
 
 /// A command in parts, one for each slot that the keys of its entries are in.
-pub(crate) fn split(
-    alloc: Global,
-    name: &[u8],
-    entries: &[&[&[u8]]],
-) -> RedisResult<Parts>
+pub(crate) fn split(alloc: Global, name: &[u8], entries: &[&[&[u8]]]) -> RedisResult<Parts>
     ensures split { IfOk result (λ parts. IsSplit name.now (entries_in entries.now) parts.commands.items
         parts.places.items) }
     ensures memory { OnlyMemory result }
@@ -177,8 +169,5 @@ pub(crate) fn split(
     for part in 0..slots.len() {
         commands.push(part_of(alloc, name, entries, places.as_slice(), part)?)?;
     }
-    Ok(Parts {
-        commands,
-        places,
-    })
+    Ok(Parts { commands, places })
 }

@@ -1,10 +1,9 @@
 //! Several commands over the nodes of a cluster, and commands whose keys are in several slots.
 
-ghost use Rattle.std.specs.Prelude.{◌≡◌, ◌≢◌, IfOk, IfErr, OnOk};
-ghost use Rattle.resp_errors.specs.declared.redis_error.RedisError.TheVariants as form;
+ghost use Rattle.std.specs.Prelude.{◌≡◌, true, Err, IfOk};
 ghost use Rattle.resp_cluster.specs.Spread.{AreDestinations, IsDestination, IsPlaceAmong};
 ghost use Rattle.resp_routing.specs.Commands.{words};
-ghost use Rattle.resp_cluster.specs.Spread.{IsPartsOf, SplitCall, SpreadCall, SpreadQuery};
+ghost use Rattle.resp_cluster.specs.Spread.{IsPartsOf, SplitCall, SpreadCall, SpreadQuery, one_node};
 
 use super::{ClusterLink, answer_of, route_for};
 use crate::gather::{SendGroups, follow_each, gather};
@@ -44,11 +43,21 @@ impl<N: Nodes> ClusterLink<N> {
     /// Sends a pipeline over the nodes that its commands go to, and converts their replies as
     /// [`Pipeline::query`] does.
     ///
-    /// A transaction goes to one node, by [`Pipeline::query`], which refuses it unsent where its
-    /// commands are of several slots. Fails as [`ClusterLink::req_commands`] and [`Pipeline::query`] do.
+    /// A transaction is refused unsent, with kind `Client`: it belongs to one node, over whose link
+    /// [`Pipeline::query`] sends it ([`ClusterLink::link_to`]). Fails as [`ClusterLink::req_commands`]
+    /// and [`Pipeline::query`] do.
     pub fn query_pipeline<T: FromRedisValue>(&mut self, pipeline: &Pipeline) -> RedisResult<T>
-        ensures { SpreadQuery N.Link.connection pipeline.now T.of_value self.old self.new result }
+        ensures spread { SpreadQuery N.Link.connection pipeline.now T.of_value self.old self.new
+            result }
+        ensures transaction { pipeline.now.atomic ≡ true → (result ≡ Err one_node)
+            × (self.new ≡ self.old) }
     {
+        if pipeline.is_transaction() {
+            return Err(RedisError::from((
+                ErrorKind::Client,
+                "a transaction goes to one node: use link_to",
+            )));
+        }
         let answers = self.req_commands(pipeline.commands())?;
         pipeline.compose(answers)
     }
@@ -165,15 +174,18 @@ impl<N: Nodes> SendGroups for ClusterLink<N> {
         }
     }
 
-    fn follow_reply(
-        &mut self,
-        node: &NodeAddr,
-        command: &Cmd,
-        reply: Value,
-    ) -> RedisResult<Value> {
+    fn follow_reply(&mut self, node: &NodeAddr, command: &Cmd, reply: Value) -> RedisResult<Value> {
         let (alloc, budget) = (self.alloc, self.budget);
         let sent = Sent::Answered(Ok(reply));
-        match go_on(alloc, &mut self.links, &mut self.map, command, node, sent, budget) {
+        match go_on(
+            alloc,
+            &mut self.links,
+            &mut self.map,
+            command,
+            node,
+            sent,
+            budget,
+        ) {
             Ok(sent) => {
                 let failed = sent.has_failed();
                 let answer = answer_of(Ok(sent));

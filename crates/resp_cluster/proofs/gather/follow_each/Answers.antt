@@ -10,7 +10,9 @@ returns g c =
 pub loop-place-preserved : goal.loop-place-preserved
 loop-place-preserved g c =
     let steps = c.in-Some.ensures.steps in
-    let so_far = c.loop-place.invariant.2 in
-    (search rules, search rules,
-    next_follows _ _ _ _ _ _ _ _ _ _ _ _ _ _ _ _ _ _ _ so_far steps.0.0 steps.1 steps.2 c.in_ok-push.ensures.items
-    (c.requires.known c.in-Some.place 0 (omega (arith, so_far.long, so_far.same, ap length steps.0.0, steps.1))) c.index-nodes-targets.is c.index-commands-place.is c.in_ok-follow_reply.ensures)
+    let so_far = c.loop-place.invariant.2 in (
+      search rules,
+      search rules,
+      next_follows _ _ _ _ _ _ _ _ _ _ _ _ _ _ _ _ _ _ _ so_far steps.0.0 steps.1 steps.2 c.in_ok-push.ensures.items
+          (c.requires.known c.in-Some.place 0 (omega (arith, so_far.long, so_far.same, ap length steps.0.0, steps.1))) c.index-nodes-targets.is c.index-commands-place.is c.in_ok-follow_reply.ensures,
+    )

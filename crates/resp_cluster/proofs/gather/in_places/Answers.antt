@@ -14,7 +14,7 @@ unreachable-requires c =
     let long' = length-map c.loop-target.groups.items from_last in
     let some = one_left _ _ _ _ _ c.loop-target.invariant c.loop-target-test.true (omega (arith, inside, long)) in
     let here = ap length (get_or-map from_last c.loop-target.groups.items t _ [] (omega (arith, inside, long, same, long'))
-        ∙ ap from_last (sym c.index_mut.ensures.value)) in
+    ∙ ap from_last (sym c.index_mut.ensures.value)) in
     let turned = length-reverse c.index_mut.result.now.items in
     omega (arith, some, here, turned, c.in-None.ensures.cases.0, c.index_mut.result.now.ok.0)
 
@@ -27,7 +27,7 @@ loop-target-preserved c =
     let same = c.loop-target.invariant.same in
     let long' = length-map c.loop-target.groups.items from_last in
     let next = get_or-map from_last c.loop-target.groups.items t _ [] (omega (arith, inside, long, same, long'))
-        ∙ ap from_last (sym c.index_mut.ensures.value)
-        ∙ ap reverse c.in-Some.ensures.items ∙ reverse-append c.pop.new.self.items (c.in-Some.reply ∷ []) in
+    ∙ ap from_last (sym c.index_mut.ensures.value)
+    ∙ ap reverse c.in-Some.ensures.items ∙ reverse-append c.pop.new.self.items (c.in-Some.reply ∷ []) in
     rw (c.in_ok-push-in-Some.ensures.items, map-set from_last c.loop-target.groups.items t c.pop.new.self)
-        (put _ _ _ _ _ _ _ c.loop-target.invariant c.loop-target-test.true (omega (arith, inside, long)) next)
+    (put _ _ _ _ _ _ _ c.loop-target.invariant c.loop-target-test.true (omega (arith, inside, long)) next)

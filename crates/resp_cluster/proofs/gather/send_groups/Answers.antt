@@ -9,11 +9,13 @@ pub loop-place-preserved : goal.loop-place-preserved
 loop-place-preserved g c =
     let held = c.loop-place.invariant in
     let long = length-map c.loop-place.groups.items from_last in
-    rw (c.in_ok-push.ensures.items) (length-append c.loop-place.groups.items (c.reverse.new.self ∷ []) ∙ ap (λ n. n + 1) held.0,
-        rw (map_push from_last c.loop-place.groups.items c.reverse.new.self) (one_more _ _ _ 0 _ _ _ _ c.loop-place.place c.index-nodes-place.result
-        (from_last c.reverse.new.self) c.send_to.new.cluster held.1 (omega (arith, held.0, long))
-        (node_at _ c.loop-place.place _ c.index-nodes-place.result (omega (arith, held.0, long)) c.loop-place-test.true c.index-nodes-place.is)
-        (rw (c.reverse.ensures.items, reverse-reverse c.in_ok-replies.replies.items) c.in_ok-replies.ensures.sent)))
+    rw (c.in_ok-push.ensures.items) (
+      length-append c.loop-place.groups.items (c.reverse.new.self ∷ []) ∙ ap (λ n. n + 1) held.0,
+      rw (map_push from_last c.loop-place.groups.items c.reverse.new.self) (one_more _ _ _ 0 _ _ _ _ c.loop-place.place c.index-nodes-place.result
+          (from_last c.reverse.new.self) c.send_to.new.cluster held.1 (omega (arith, held.0, long))
+          (node_at _ c.loop-place.place _ c.index-nodes-place.result (omega (arith, held.0, long)) c.loop-place-test.true c.index-nodes-place.is)
+          (rw (c.reverse.ensures.items, reverse-reverse c.in_ok-replies.replies.items) c.in_ok-replies.ensures.sent)),
+    )
 
 pub returns-in_err-replies-clause-refused : goal.returns-in_err-replies-clause-refused
 returns-in_err-replies-clause-refused g c =

@@ -7,6 +7,8 @@ returns-clause-sent g c =
     record {
       counted = c.in_ok-replies.ensures.counted ∙ group.count;
       none = λ empty. absurd (c.if-group-eq0.false (group.count ∙ ap length empty));
-      some = λ some. (c.in_ok-replies.replies,
-          (refl, rw (← group.request, ← group.count, ← c.as_slice.ensures.value) c.in_ok-replies.ensures.sent));
+      some = λ some. (
+        c.in_ok-replies.replies,
+        (refl, rw (← group.request, ← group.count, ← c.as_slice.ensures.value) c.in_ok-replies.ensures.sent),
+      );
     }

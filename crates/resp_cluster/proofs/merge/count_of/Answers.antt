@@ -15,8 +15,11 @@ loop-place-preserved c =
     let at = c.loop-place.place-index in
     elim c.if-place-part.branch [
       | then-place-part w ↦
-          rw (w.count-is, next_here c.args.part places places at (get_or places at 0) refl c.loop-place-test.true
-          (get_or_default places at 0 (get_or places at 0) c.loop-place-test.true) w.if-place-part.true)
+          rw (
+            w.count-is,
+            next_here c.args.part places places at (get_or places at 0) refl c.loop-place-test.true
+                (get_or_default places at 0 (get_or places at 0) c.loop-place-test.true) w.if-place-part.true,
+          )
           (ap (λ n. n + 1) c.loop-place.invariant ∙ sym (length-append _ (get_or places at 0 ∷ [])))
       | else-place-part w ↦
           rw (w.count-is, next_elsewhere c.args.part places places at 0 refl c.loop-place-test.true w.if-place-part.false)
