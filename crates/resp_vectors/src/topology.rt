@@ -3,8 +3,8 @@
 use crate::rows::{Row, malformed, number_of, text_of};
 use crate::texts::add_part;
 use resp_cluster::{
-    NodeAddr, PortKind, Redirect, RouteError, SendCommand, SlotMap, SlotRange, TopologyError, redirect_of,
-    route,
+    NodeAddr, PortKind, Redirect, RouteError, SendCommand, SlotMap, SlotRange, TopologyError,
+    redirect_of, route,
 };
 use resp_core::{Cmd, RedisError, RedisResult, Text, parse_redis_value};
 use std::alloc::{AllocError, Global};
