@@ -270,6 +270,7 @@ impl<N: Nodes> ClusterLink<N> {
             Err(_) => unreachable!(),
         }
     }
+
     /// Asks for the map, as `Refreshes` says: the primaries that it knows are asked in turn, and
     /// where none gives one the map stays.
     fn refresh(&mut self)

@@ -22,4 +22,4 @@ pub use node::{NodeAddr, PortKind, SlotRange, TopologyError};
 pub use redirect::{Redirect, redirect_of};
 pub use router::{RouteError, SendCommand, route};
 pub use slot_map::SlotMap;
-pub use split::{Merge, Parts};
+pub use split::Merge;

@@ -29,7 +29,7 @@ pub enum Merge {
 
 /// The parts of a command, one for each slot that its keys are in.
 #[derive(Drop)]
-pub struct Parts {
+pub(crate) struct Parts {
     /// The commands.
     pub commands: Vec<Cmd>,
     /// For each key, in order, the position of the command that has it.
