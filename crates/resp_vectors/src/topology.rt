@@ -119,17 +119,23 @@ pub fn follow(alloc: Global, row: &Row) -> RedisResult<String> {
             let slot = slot_number(slot.as_slice())?;
             let budget = number_of(budget.as_slice())?;
             let command = Cmd::new(alloc);
-            let end = match route(alloc, &mut script, &mut map, &command, slot, budget) {
-                Ok(reply) => format!(in alloc; "reply {}", reply.number)?,
-                Err(RouteError::NoNode) => String::from_str(alloc, "refused: NoNode")?,
-                Err(_) => return Err(RedisError::OutOfMemory),
-            };
+            let answer = route(alloc, &mut script, &mut map, &command, slot, budget);
+            let end = end_of(alloc, answer)?;
             let mut text = script.into_sends();
             add_part(&mut text, end.as_str())?;
             add_primary(alloc, &mut text, &map, slot)?;
             Ok(text)
         }
         _ => Err(malformed()),
+    }
+}
+
+/// How a command ended.
+fn end_of(alloc: Global, answer: Result<Reply, RouteError<Reply>>) -> RedisResult<String> {
+    match answer {
+        Ok(reply) => Ok(format!(in alloc; "reply {}", reply.number)?),
+        Err(RouteError::NoNode) => Ok(String::from_str(alloc, "refused: NoNode")?),
+        Err(_error) => Err(RedisError::OutOfMemory),
     }
 }
 
@@ -214,15 +220,24 @@ pub fn redirect(alloc: Global, row: &Row) -> RedisResult<String> {
         ([host], incoming) => {
             let reply = parse_redis_value(alloc, incoming)?;
             let redirect = redirect_of(alloc, &reply, text_of(host.as_slice())?)?;
-            match &redirect {
-                Redirect::Stays => Ok(String::from_str(alloc, "stays")?),
-                Redirect::Moved(slot, node) => {
-                    Ok(format!(in alloc; "moved {slot} {}", named(alloc, node)?)?)
-                }
-                Redirect::Ask(node) => Ok(format!(in alloc; "ask {}", named(alloc, node)?)?),
-            }
+            where_to(alloc, &redirect)
         }
         _ => Err(malformed()),
+    }
+}
+
+/// Where a redirect sends its command.
+fn where_to(alloc: Global, redirect: &Redirect) -> RedisResult<String> {
+    match redirect {
+        Redirect::Stays => Ok(String::from_str(alloc, "stays")?),
+        Redirect::Moved(slot, node) => {
+            let node = named(alloc, node)?;
+            Ok(format!(in alloc; "moved {slot} {node}")?)
+        }
+        Redirect::Ask(node) => {
+            let node = named(alloc, node)?;
+            Ok(format!(in alloc; "ask {node}")?)
+        }
     }
 }
 
