@@ -188,6 +188,26 @@ fn into_server_errors_of_a_pipeline(rt: HostRuntime) {
     shows(&rt, listed, wanted);
 }
 
+/// Three replies, each a string.
+fn three_replies(rt: &impl Test) -> Vec<Value> {
+    let mut replies = Vec::new(rt.alloc());
+    for _reply in 0..3usize {
+        let reply = parse_redis_value(rt.alloc(), b"$1\r\na\r\n");
+        let reply = reply.expect(rt, "no refusal");
+        replies.push(reply).expect(rt, "no refusal");
+    }
+    replies
+}
+
+#[test]
+fn composed_replies(rt: HostRuntime) {
+    let pipeline: Pipeline = three(&rt);
+    let replies = three_replies(&rt);
+    refuse(rt.alloc());
+    let answer: RedisResult<Vec<String>> = pipeline.compose(replies);
+    shows(&rt, answer, "Ok([\"a\", \"a\", \"a\"])");
+}
+
 /// How many entries a dictionary has.
 fn entries(info: InfoDict) -> usize {
     info.len()

@@ -73,6 +73,7 @@ fn pipelines(rt: HostRuntime) {
     let _ = pipeline.ignore_errors();
     assert!(rt; pipeline.is_transaction() && pipeline.len() == 3);
     equal(&rt, pipeline.cmd_iter().len(), 3);
+    equal(&rt, pipeline.commands().len(), 3);
     took_none(&rt);
 }
 
