@@ -2,12 +2,14 @@ pub mod GoingOn
 pub mod Asking
 pub mod Destinations
 pub mod Entries
+pub mod Following
+pub mod Gathers
 pub mod Linking
 pub mod MorePrimaries
 pub mod Moves
+pub mod OverLinks
 pub mod RedirectTexts
 pub mod RoutedCalls
-pub mod OverLinks
 pub mod SoFar
 pub mod Splitting
 pub mod Spreading

@@ -42,11 +42,11 @@ module _ {S T : Type 0} (sends : S → S → NodeAddr → Bool → T → Type 0)
     pub sent : sends old.nodes new.nodes old.to.0 old.to.1 reply
     pub learns : Learns (redirects old.to.0 reply) old.map new.map (Some new.to)
 
-  -- the first send goes to this node, after ASKING or not, and each later one to where the reply before it points; there are at most budget
-  -- later ones, and these were the replies before the last
-  pub record Leads (node : NodeAddr) (budget : ℕ) (old : S) (old_map : List SlotRange) (earlier : List T)
+  -- the first send goes to this node, after ASKING or not, and each later one to where the reply before it points; there
+  -- are at most budget later ones, and these were the replies before the last
+  pub record Leads (first : NodeAddr × Bool) (budget : ℕ) (old : S) (old_map : List SlotRange) (earlier : List T)
       (last : Turn S) : Type 0 where
-    pub followed : FoldsTo SentOn (record { nodes = old; map = old_map; to = (node, false) }) earlier last
+    pub followed : FoldsTo SentOn (record { nodes = old; map = old_map; to = first }) earlier last
     pub within : length earlier ≤ budget
 
   -- the last send's reply is the answer; it points nowhere, or the budget is used up

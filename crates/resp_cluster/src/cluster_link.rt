@@ -9,6 +9,8 @@ ghost use Rattle.resp_cluster.specs.Cluster.{several_nodes, Round};
 ghost use Rattle.resp_cluster.specs.Cluster.{answer_of, reached, OnceMore, Opens, Readies};
 ghost use Rattle.resp_cluster.specs.Cluster.{IsReached, ReachesOne, Refreshes, Rounds, RoutedCall};
 
+mod spread;
+
 use crate::link_commands::is_link_command;
 use crate::links::{NodeLinks, Nodes, Sent};
 use crate::map_source::MapError;

@@ -4,9 +4,11 @@
 mod cluster_connection;
 mod cluster_link;
 mod equality;
+mod gather;
 mod link_commands;
 mod links;
 mod map_source;
+mod merge;
 mod node;
 mod redirect;
 mod router;

@@ -72,6 +72,7 @@ impl<N: Nodes> Model for NodeLinks<N> {
 }
 
 impl<N: Nodes> NodeLinks<N> {
+    ghost use Rattle.resp_command.specs.Call.{AnswersFrom, Call};
     ghost use Rattle.resp_cluster.specs.Links.{IsAt, IsPlaceOf, HasNoLink, Reaches, SendsOver};
     ghost use Rattle.resp_cluster.specs.Links.{UsesLast};
     ghost use Rattle.resp_cluster.specs.Links.{last_used, no_links};

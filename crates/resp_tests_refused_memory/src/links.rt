@@ -182,6 +182,20 @@ fn one_command(rt: HostRuntime) {
     }
 }
 
+/// A sink that has no room for a request: memory ran out, and the link is broken.
+#[test]
+fn sinks_without_room(rt: HostRuntime) {
+    let incoming = Vec::from_slice(rt.alloc(), b":7\r\n").expect(&rt, "no refusal");
+    let mut con = ByteLink::new(rt.alloc(), Cursor::new(incoming), Vec::new(rt.alloc()));
+    refuse(rt.alloc());
+    let answer = con.req_packed_command(GET_K);
+    let ran_out = matches!(&answer, Err(RedisError::OutOfMemory));
+    shows(&rt, answer, "Ok(int(7))");
+    equal(&rt, con.is_broken(), ran_out);
+    let sent = sent(con);
+    assert!(rt; sent.as_slice() == GET_K || ran_out && sent.is_empty());
+}
+
 /// What comes in after `:1` for a first call: `abc` for the next, and `:7`.
 const LATER: &[u8] = b">1\r\n+own\r\n:1\r\n>1\r\n+x\r\n$3\r\nabc\r\n:7\r\n";
 
