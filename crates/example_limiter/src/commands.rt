@@ -5,7 +5,7 @@
 
 ghost use Rattle.std.specs.Prelude.{IfErr, IfOk, codes};
 ghost use Rattle.resp_core.specs.Arguments.{IsRefusal};
-ghost use Rattle.example_typed.specs.Asking.{Asks, IsNamed};
+ghost use Rattle.example_limiter.specs.Asking.{Asks, IsNamed};
 
 use resp_core::{Cmd, ConnectionLike, FromRedisValue, RedisResult, ToRedisArgs, cmd};
 use std::alloc::Global;
