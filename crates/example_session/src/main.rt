@@ -1,5 +1,7 @@
-//! `example_session [PROTOCOL]`: a session of a client with a server, over version 3 of the
-//! protocol where none is named, and then transactions that the server doesn't run or that fail.
+//! `example_session [PROTOCOL [CHANNEL COUNT]]`: a session of a client with a server, over version
+//! 3 of the protocol where none is named, and then transactions that the server doesn't run or that
+//! fail. Where a channel is named, it then waits for so many pushes, of which the first says that
+//! the channel is subscribed, and prints the messages among them.
 //!
 //! It writes requests to standard output, reads replies from standard input, and prints what it
 //! learned on standard error, so that a pipe can join it to a server; `run-on-redis.sh` does.
@@ -8,40 +10,57 @@
 #![tactic(auto)]
 
 mod counting;
+mod printing;
 mod server;
 mod session;
+mod subscriber;
 mod transactions;
 
-use resp_core::{ByteLink, ConnectionLike, RedisResult, ServerError};
-use session::{Learned, session};
+use printing::{print_learned, print_outcome};
+use resp_core::{ByteLink, RedisResult};
+use session::session;
 use std::alloc::Global;
+use std::env;
 use std::io::Write;
 use std::process::ExitCode;
-use std::{env, io};
-use transactions::{Outcome, try_in_vain};
+use subscriber::{Link, message_of, subscribe};
+use transactions::try_in_vain;
 
 fn main(rt: HostRuntime) -> ExitCode {
-    match protocol(&rt) {
-        Some(protocol) => {
+    match words(&rt) {
+        Some(words) => {
             let mut link = ByteLink::new(rt.alloc(), rt.stdin(), rt.stdout());
-            ExitCode::from(run(rt.alloc(), protocol, &mut link, &mut rt.stderr()))
+            ExitCode::from(run(rt.alloc(), &words, &mut link, &mut rt.stderr()))
         }
         None => ExitCode::from(1),
     }
 }
 
-/// The version of the protocol.
-fn protocol(rt: &HostRuntime) -> Option<i64> {
-    let mut words = env::args(rt).ok()?.skip(1);
-    match words.next() {
-        Some(word) => word.parse::<i64>().ok(),
-        None => Some(3),
-    }
+/// What the words ask for.
+#[derive(Drop)]
+struct Words {
+    /// The version of the protocol.
+    protocol: i64,
+    /// The channel to listen to, and how many pushes are waited for.
+    channel: Option<(String, u32)>,
 }
 
-/// Leads the session and the transactions, and prints what it learned.
-fn run<E: Write>(alloc: Global, protocol: i64, con: &mut dyn ConnectionLike, err: &mut E) -> u8 {
-    match lead(alloc, protocol, con, err) {
+fn words(rt: &HostRuntime) -> Option<Words> {
+    let mut words = env::args(rt).ok()?.skip(1);
+    let protocol = match words.next() {
+        Some(word) => word.parse::<i64>().ok()?,
+        None => 3,
+    };
+    let channel = match words.next() {
+        Some(name) => Some((name, words.next()?.parse::<u32>().ok()?)),
+        None => None,
+    };
+    Some(Words { protocol, channel })
+}
+
+/// Leads the session and the transactions, listens, and prints what it learned.
+fn run<E: Write>(alloc: Global, words: &Words, link: &mut Link, err: &mut E) -> u8 {
+    match lead(alloc, words, link, err) {
         Ok(()) => 0,
         Err(error) => {
             let _ = writeln!(err, "refused: {error:?}");
@@ -50,59 +69,32 @@ fn run<E: Write>(alloc: Global, protocol: i64, con: &mut dyn ConnectionLike, err
     }
 }
 
-fn lead<E: Write>(
-    alloc: Global,
-    protocol: i64,
-    con: &mut dyn ConnectionLike,
-    err: &mut E,
-) -> RedisResult<()> {
-    print_learned(&session(alloc, con, protocol, "Ada")?, err)?;
-    for outcome in try_in_vain(alloc, con)?.as_slice() {
+fn lead<E: Write>(alloc: Global, words: &Words, link: &mut Link, err: &mut E) -> RedisResult<()> {
+    print_learned(&session(alloc, link, words.protocol, "Ada")?, err)?;
+    for outcome in try_in_vain(alloc, link)?.as_slice() {
         print_outcome(outcome, err)?;
     }
-    Ok(())
-}
-
-fn print_learned<E: Write>(learned: &Learned, err: &mut E) -> io::Result<()> {
-    let server = &learned.server;
-    writeln!(
-        err,
-        "redis {}, protocol {}",
-        server.version, server.protocol
-    )?;
-    let entry = &learned.entry;
-    writeln!(
-        err,
-        "name {}: a {} of {} bytes",
-        learned.name,
-        entry.kind.name(),
-        entry.length
-    )?;
-    for name in &entry.both {
-        writeln!(err, "found {name:?}")?;
-    }
-    writeln!(err, "visit {}", learned.visits)
-}
-
-/// Prints what a transaction came to, and of each command in it that was refused or failed why.
-fn print_outcome<E: Write>(outcome: &Outcome, err: &mut E) -> io::Result<()> {
-    match outcome {
-        Outcome::Done => writeln!(err, "transaction: done"),
-        Outcome::Overtaken => writeln!(err, "transaction: not done, a watched key was changed"),
-        Outcome::Refused(causes) => {
-            writeln!(err, "transaction: not done, commands were refused")?;
-            print_errors(causes.as_slice(), err)
-        }
-        Outcome::Failed(errors) => {
-            writeln!(err, "transaction: done, commands failed")?;
-            print_errors(errors.as_slice(), err)
-        }
+    match &words.channel {
+        Some((name, count)) => listen(alloc, name.as_str(), *count, link, err),
+        None => Ok(()),
     }
 }
 
-fn print_errors<E: Write>(errors: &[(usize, ServerError)], err: &mut E) -> io::Result<()> {
-    for (position, error) in errors {
-        writeln!(err, "command {position}: {error}")?;
+/// Subscribes, waits for pushes, and prints the messages among them, each on a line.
+fn listen<E: Write>(
+    alloc: Global,
+    channel: &str,
+    count: u32,
+    link: &mut Link,
+    err: &mut E,
+) -> RedisResult<()> {
+    subscribe(alloc, link, channel)?;
+    for _ in 0..count {
+        let push = link.next_push()?;
+        if let Some(message) = message_of(&push) {
+            err.write_all(message)?;
+            err.write_all(b"\n")?;
+        }
     }
     Ok(())
 }
