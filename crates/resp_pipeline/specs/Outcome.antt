@@ -1,5 +1,5 @@
 -- What a pipeline answers, by the replies to it.
-use Rattle.std.specs.Prelude.{◌≡◌, ◌≢◌, ℕ, ◌+◌, ◌⊎◌, Bool, true, false, List, [], ◌∷◌, ◌++◌, None, Result, Err, codes}
+use Rattle.std.specs.Prelude.{◌≡◌, ◌≢◌, ℕ, ◌+◌, ◌<◌, ◌⊎◌, Bool, true, false, List, [], ◌∷◌, ◌++◌, None, Result, Err, codes, length}
 use Rattle.resp_value.specs.declared.value.Value.{Value, Nil, Array, out-Value}
 use Rattle.resp_value.specs.declared.value.Value.TheOpen.{Value-F}
 use Rattle.resp_errors.specs.declared.server_error.ServerError.{ServerError}
@@ -77,3 +77,4 @@ pub record Outcome {X : Type 0} (p : Plan) (of_value : Value → X → Type 0)
   pub plain : p.atomic ≡ false → Composes p of_value result replies
   pub atomic : p.atomic ≡ true → (multi last : Value) (queued : List Value) →
       replies ≡ multi ∷ (queued ++ last ∷ []) → Concludes p of_value result queued last
+  pub short : p.atomic ≡ true → length replies < 2 → result ≡ Err unexpected_exec_reply

@@ -7,6 +7,7 @@ ghost use Rattle.std.specs.Slice.Iter.{iter_rest};
 ghost use Rattle.resp_errors.specs.Memory.{OnlyMemory};
 ghost use Rattle.resp_args.specs.Args.{Args, IsFailure, IsRefusal};
 ghost use Rattle.resp_pipeline.specs.Outcome.{Aborts, Composes, Concludes, Outcome};
+ghost use Rattle.resp_pipeline.specs.Outcome.{unexpected_exec_reply};
 ghost use Rattle.resp_command.specs.Command.{new_command};
 ghost use Rattle.resp_command.specs.Packed.{packed};
 ghost use Rattle.resp_pipeline.specs.Pipeline.{Plan, new_plan, with_command, AppendsToLast};
@@ -331,8 +332,9 @@ impl Pipeline {
         self.query(con)
     }
 
-    /// How many replies there are: of a transaction one to `MULTI` and one to `EXEC` too.
-    fn replies_needed(&self) -> usize
+    /// How many replies there are to the pipeline: one to each command, and of a transaction one to
+    /// `MULTI` and one to `EXEC`, too.
+    pub fn replies_needed(&self) -> usize
         ensures { result ≡ replies_needed self.now }
     {
         if self.atomic {
@@ -355,13 +357,21 @@ impl Pipeline {
         })
     }
 
-    /// What the replies make: of a transaction the last one decides, else all do.
-    fn outcome<T: FromRedisValue>(&self, mut replies: Vec<Value>) -> RedisResult<T>
-        requires { self.now.atomic ≡ true → 1 < length replies.items }
+    /// What all replies to the pipeline make, where they were had otherwise than by
+    /// [`Pipeline::query`], as from several nodes: one to each command; of a transaction one to `MULTI`
+    /// before them and one to `EXEC` after them, which decides. Those that are kept are moved, never
+    /// copied.
+    ///
+    /// Fails as [`Pipeline::query`] does over such replies, and with kind `UnexpectedReturnType` where
+    /// a transaction has fewer than two.
+    pub fn outcome<T: FromRedisValue>(&self, mut replies: Vec<Value>) -> RedisResult<T>
         ensures { Outcome self.now T.of_value result replies.items }
     {
         if !self.atomic {
             return self.compose(replies);
+        }
+        if replies.len() < 2 {
+            return Err(unexpected_exec_reply());
         }
         match replies.pop() {
             Some(last) => self.conclude(replies, last),
@@ -378,10 +388,7 @@ impl Pipeline {
             Value::Nil => Ok(T::from_redis_value(self.alloc, Value::Nil)?),
             Value::Array(items) => self.compose(items.into_vec()),
             Value::ServerError(error) => self.abort(before, error),
-            _ => Err(RedisError::from((
-                ErrorKind::UnexpectedReturnType,
-                "Invalid response when parsing multi response",
-            ))),
+            _ => Err(unexpected_exec_reply()),
         }
     }
 
@@ -398,12 +405,8 @@ impl Pipeline {
         Err(RedisError::Server(error))
     }
 
-    /// What replies make that were had otherwise than by [`Pipeline::query`], as over several nodes:
-    /// one for each command, or of a transaction the items of the reply to `EXEC`. Those that are
-    /// kept are moved, never copied.
-    ///
-    /// Fails as [`Pipeline::query`] does over such replies.
-    pub fn compose<T: FromRedisValue>(&self, mut items: Vec<Value>) -> RedisResult<T>
+    /// What the replies to the commands make, or of a transaction the items of that to `EXEC`.
+    fn compose<T: FromRedisValue>(&self, mut items: Vec<Value>) -> RedisResult<T>
         ensures { Composes self.now T.of_value result items.items }
     {
         if !self.ignores_errors && has_server_error(items.as_slice()) {
@@ -416,6 +419,16 @@ impl Pipeline {
         }
         Ok(T::from_redis_value(self.alloc, reply)?)
     }
+}
+
+/// What is answered where the reply to `EXEC` is another than a server gives.
+fn unexpected_exec_reply() -> RedisError
+    ensures { result ≡ unexpected_exec_reply }
+{
+    RedisError::from((
+        ErrorKind::UnexpectedReturnType,
+        "Invalid response when parsing multi response",
+    ))
 }
 
 /// What a connection is refused with that takes one command at a time.

@@ -200,11 +200,11 @@ fn three_replies(rt: &impl Test) -> Vec<Value> {
 }
 
 #[test]
-fn composed_replies(rt: HostRuntime) {
+fn outcomes(rt: HostRuntime) {
     let pipeline: Pipeline = three(&rt);
     let replies = three_replies(&rt);
     refuse(rt.alloc());
-    let answer: RedisResult<Vec<String>> = pipeline.compose(replies);
+    let answer: RedisResult<Vec<String>> = pipeline.outcome(replies);
     shows(&rt, answer, "Ok([\"a\", \"a\", \"a\"])");
 }
 

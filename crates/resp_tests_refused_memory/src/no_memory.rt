@@ -74,6 +74,7 @@ fn pipelines(rt: HostRuntime) {
     assert!(rt; pipeline.is_transaction() && pipeline.len() == 3);
     equal(&rt, pipeline.cmd_iter().len(), 3);
     equal(&rt, pipeline.commands().len(), 3);
+    equal(&rt, pipeline.replies_needed(), 5);
     took_none(&rt);
 }
 
