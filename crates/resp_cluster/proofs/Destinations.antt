@@ -10,7 +10,10 @@ use Rattle.resp_routing.specs.Refusals.{redis_error_of}
 use Rattle.resp_routing.specs.Routes.{HasNoRoute, IsRoute}
 use Rattle.resp_routing.specs.declared.errors.RoutingError.{RoutingError}
 use Rattle.resp_routing.specs.declared.errors.RoutingError.TheVariants as refused
-use Rattle.resp_cluster.specs.Cluster.{CannotGo, is_to_one, several, unrouted, several_nodes, routed_args, first_primary, first_node, has_failed}
+use Rattle.resp_cluster.specs.Cluster.{CannotGo, is_to_one, several, unrouted, several_nodes, routed_args, first_primary, first_node, has_failed, only_reads}
+use Rattle.resp_cluster.specs.Cluster.{node_at}
+use Rattle.resp_cluster.specs.Maps.{primary_at}
+use Rattle.resp_cluster.specs.declared.read_from.ReadFrom.TheVariants.{Primary}
 use Rattle.resp_cluster.specs.Cluster.{Cluster, Round, followed, cut_short, AsksInTurn, Refreshes, learnt, kept}
 use Rattle.resp_cluster.specs.Links.{Links, SendsTo, SentRedirects}
 use Rattle.resp_cluster.specs.Routed.{Followed, Interrupted}
@@ -20,6 +23,7 @@ use Rattle.resp_cluster.specs.Primaries.{ArePrimaries}
 use Rattle.resp_command.specs.Connection.{Connection}
 use Rattle.resp_routing.specs.declared.routes.Route.{Route}
 use Rattle.resp_cluster.specs.declared.node.NodeAddr.{NodeAddr}
+use Rattle.resp_cluster.specs.declared.read_from.ReadFrom.{ReadFrom}
 use Rattle.resp_cluster.specs.declared.node.SlotRange.{SlotRange}
 
 module _ (c : Command) (args : Args) (shown : args ≡ routed_args c) (e : RedisError) where
@@ -44,21 +48,27 @@ module _ (map : List SlotRange) where
       ∙ ap (λ r. first_primary (r ∷ drop (i + 1) map)) (sym is)
       ∙ ap (λ p. elim p as (λ _. Option NodeAddr) [ None ↦ first_primary (drop (i + 1) map) | Some n ↦ Some n ]) has
 
+-- where reads go to primaries, all commands do
+pub primary_to_all : (only_reads : Bool) (map : List SlotRange) (slot : ℕ)
+    → node_at only_reads Primary map slot ≡ primary_at map slot
+primary_to_all false map slot = refl
+primary_to_all true map slot = refl
+
 -- a round that was made from these parts of a cluster
 module _ {L : Type 0} (of_link : L → Connection) (c : Command) (route : Route) (links : Links L) (map : List SlotRange)
-    (budget : ℕ) (stale : Bool) (old : Cluster L) (view : record { links = links; map = map; budget = budget; stale = stale } ≡ old)
-    (node : NodeAddr) (first : first_node route old ≡ Some node) (new_links : Links L) (new_map : List SlotRange) (sent : Sent) where
+    (budget : ℕ) (reads : ReadFrom) (stale : Bool) (old : Cluster L) (view : record { links = links; map = map; budget = budget; reads = reads; stale = stale } ≡ old)
+    (node : NodeAddr) (first : first_node (only_reads c) route old ≡ Some node) (new_links : Links L) (new_map : List SlotRange) (sent : Sent) where
   abbrev after : Bool → Cluster L
-  after failed = record { links = new_links; map = new_map; budget = budget; stale = failed }
+  after failed = record { links = new_links; map = new_map; budget = budget; reads = reads; stale = failed }
 
   pub round_followed : Followed (SendsTo of_link c) SentRedirects (node, false) budget links map new_links new_map sent
       → Round of_link c route old (after (has_failed sent)) (Ok sent)
-  round_followed f = subst (λ o. first_node route o ≡ Some node → Round of_link c route o (after (has_failed sent)) (Ok sent))
+  round_followed f = subst (λ o. first_node (only_reads c) route o ≡ Some node → Round of_link c route o (after (has_failed sent)) (Ok sent))
       view (λ is. followed node new_links new_map sent is f refl refl) first
 
   pub round_cut_short : Interrupted (SendsTo of_link c) SentRedirects (node, false) budget links map new_links new_map sent
       → Round of_link c route old (after true) (Ok sent)
-  round_cut_short f = subst (λ o. first_node route o ≡ Some node → Round of_link c route o (after true) (Ok sent))
+  round_cut_short f = subst (λ o. first_node (only_reads c) route o ≡ Some node → Round of_link c route o (after true) (Ok sent))
       view (λ is. cut_short node new_links new_map sent is f refl refl) first
 
 -- a route that may be to one node
@@ -71,10 +81,10 @@ module _ (c : Command) (args : Args) (shown : args ≡ routed_args c) (route : R
 
 -- the map was asked for from these parts of a cluster
 module _ {L : Type 0} (of_link : L → Connection) (links : Links L) (map : List SlotRange)
-    (budget : ℕ) (stale : Bool) (old : Cluster L) (view : record { links = links; map = map; budget = budget; stale = stale } ≡ old)
+    (budget : ℕ) (reads : ReadFrom) (stale : Bool) (old : Cluster L) (view : record { links = links; map = map; budget = budget; reads = reads; stale = stale } ≡ old)
     (nodes asked : List NodeAddr) (same : asked ≡ nodes) (are : ArePrimaries map nodes) (new_links : Links L) where
   abbrev with_map : List SlotRange → Cluster L
-  with_map new_map = record { links = new_links; map = new_map; budget = budget; stale = false }
+  with_map new_map = record { links = new_links; map = new_map; budget = budget; reads = reads; stale = false }
 
   asked_are : ArePrimaries map asked
   asked_are = subst (ArePrimaries map) (sym same) are

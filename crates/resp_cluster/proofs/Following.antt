@@ -1,12 +1,12 @@
 -- Commands that go on from their replies, one after the other.
-use Rattle.std.proofs.Common.{◌≡◌, ℕ, ◌+◌, ◌<◌, List, [], ◌∷◌, ◌++◌, length, drop, get_or, refl, sym, ap, ◌∙◌, append_assoc, append-nil, arith}
-use Rattle.std.proofs.Common.{Result, Ok}
+use Rattle.std.proofs.Common.{◌≡◌, ℕ, ◌+◌, ◌<◌, List, [], ◌∷◌, ◌++◌, length, drop, get_or, refl, sym, ap, ◌∙◌, inl, inr, append_assoc, append-nil, arith}
+use Rattle.std.proofs.Common.{Result, Ok, Err}
 use Rattle.std.proofs.lemmas.List.{drop_more, drop_all}
 use Rattle.resp_value.specs.declared.value.Value.{Value}
 use Rattle.resp_errors.specs.declared.redis_error.RedisError.{RedisError}
 use Rattle.resp_command.specs.Command.{Command}
 use Rattle.resp_cluster.proofs.Gathers.{node_at}
-use Rattle.resp_cluster.specs.Gathered.{FollowedEach}
+use Rattle.resp_cluster.specs.Gathered.{FollowedEach, StopsAt}
 use Rattle.resp_cluster.specs.declared.node.NodeAddr.{NodeAddr}
 
 module _ {S : Type 0} (follows : S → S → NodeAddr → Command → Value → Result Value RedisError → Type 0) (nodes : List NodeAddr) (old : S)
@@ -17,9 +17,11 @@ module _ {S : Type 0} (follows : S → S → NodeAddr → Command → Value → 
     pub same : length targets ≡ length commands
     pub onwards : (more : List Value) (new : S) → FollowedEach follows nodes now (drop place targets) (drop place commands) left more new
         → FollowedEach follows nodes old targets commands replies (answers ++ more) new
+    pub stops : (e : RedisError) (new : S) → StopsAt follows nodes now (drop place targets) (drop place commands) left e new
+        → StopsAt follows nodes old targets commands replies e new
 
   pub following_starts : length targets ≡ length commands → length replies ≡ length commands → FollowedSoFar [] replies 0 old
-  following_starts each same = record { long = omega arith; same = each; onwards = λ more new h. h }
+  following_starts each same = record { long = omega arith; same = each; onwards = λ more new h. h; stops = λ e new h. h }
 
   pub one_follows : (answers left : List Value) (place : ℕ) (now : S) (reply : Value) (node : NodeAddr) (command : Command) (answer : Value) (new : S)
       → FollowedSoFar answers (reply ∷ left) place now → get_or targets place 0 < length nodes → node ≡ get_or nodes (get_or targets place 0) node → command ≡ get_or commands place command
@@ -32,7 +34,24 @@ module _ {S : Type 0} (follows : S → S → NodeAddr → Command → Value → 
         let same = h.same in
         rw (append_assoc answers (answer ∷ []) more) (h.onwards (answer ∷ more) end
         (rw (drop_more targets place 0 (omega arith), drop_more commands place command (omega arith), ← at) (node, (node_at nodes (get_or targets place 0) _ node refl known which, new, (followed, rest)))));
+    stops = λ e end rest.
+        let long = h.long in
+        let same = h.same in
+        h.stops e end
+        (rw (drop_more targets place 0 (omega arith), drop_more commands place command (omega arith), ← at) (node, (node_at nodes (get_or targets place 0) _ node refl known which, inr (new, (answer, (followed, rest))))));
   }
+
+  -- the next command is answered with an error
+  pub one_stops : (answers left' left : List Value) (count place : ℕ) (now : S) (reply : Value) (node : NodeAddr)
+      (command : Command) (e : RedisError) (new : S) → FollowedSoFar answers left' count now → left' ≡ reply ∷ left → place ≡ count
+      → get_or targets place 0 < length nodes → node ≡ get_or nodes (get_or targets place 0) node → command ≡ get_or commands place command
+      → follows now new node command reply (Err e) → StopsAt follows nodes old targets commands replies e new
+  one_stops answers left' left count place now reply node command e new h took at known which is followed =
+      let h' : FollowedSoFar answers (reply ∷ left) place now = rw (at, ← took) h in
+      let long = h'.long in
+      let same = h'.same in
+      h'.stops e new
+      (rw (drop_more targets place 0 (omega arith), drop_more commands place command (omega arith), ← is) (node, (node_at nodes (get_or targets place 0) _ node refl known which, inl followed)))
 
   pub next_follows : (answers answers' left left' : List Value) (count count' place : ℕ) (now : S) (reply : Value) (node : NodeAddr)
       (command : Command) (answer : Value) (new : S) → FollowedSoFar answers left' count now → left' ≡ reply ∷ left → place ≡ count

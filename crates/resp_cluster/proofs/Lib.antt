@@ -2,8 +2,10 @@ pub mod GoingOn
 pub mod Asking
 pub mod Destinations
 pub mod Entries
+pub mod FanningOut
 pub mod Following
 pub mod Gathers
+pub mod Joining
 pub mod Linking
 pub mod MorePrimaries
 pub mod Moves
@@ -13,3 +15,4 @@ pub mod RoutedCalls
 pub mod SoFar
 pub mod Splitting
 pub mod Spreading
+pub mod Told

@@ -19,36 +19,14 @@ use Rattle.resp_cluster.specs.Cluster as over
 use Rattle.resp_cluster.specs.Cluster.{Cluster, Round, Rounds, RoutedCall, OnceMore, answer_of, last_link}
 use Rattle.resp_cluster.specs.Cluster.{reached as reached_answer}
 use Rattle.resp_cluster.specs.Links as links
-use Rattle.resp_cluster.specs.Links.{Links, Reaches, SendsOver, SendsTo, UsesLast, IsAsked, asking_bytes, last_used, link_to, without_reply}
+use Rattle.resp_cluster.specs.Links.{Links, Reaches, SendsOver, SendsTo, UsesLast, asking_bytes, last_used, link_to}
 use Rattle.resp_cluster.specs.Routing.{cluster_connection, routing, routing_over}
 use Rattle.resp_cluster.specs.declared.links.NodeLink.{NodeLink}
 use Rattle.resp_cluster.specs.declared.links.Sent.{Sent}
 use Rattle.resp_cluster.specs.declared.links.Sent.TheVariants.{Unreached, Answered}
 use Rattle.resp_cluster.specs.declared.node.NodeAddr.{NodeAddr}
 use Rattle.resp_cluster.proofs.RoutedCalls.{asks}
-
--- ---- an exchange that is answered leaves a connection that works
-
-module _ {A : Type 0} (old new : Connection) (q : List ℕ) (n : ℕ) (v : A) (answers : List Value → Type 0) where
-  usable_of : (bytes : Bytes) → ExchangeOf bytes old new q n (Ok v) answers → new.broken ≡ false
-  usable_of bytes (connection.replied h) = h.usable
-  usable_of bytes (connection.malformed h) = absurd (let e = h.answer in cc)
-  usable_of bytes (connection.early_end h) = absurd (let e = h.answer in cc)
-  usable_of bytes (connection.sink_failed h) = absurd h.answer
-  usable_of bytes (connection.source_failed h) = absurd h.answer
-  usable_of bytes (connection.out_of_memory h) = absurd (let e = h.answer in cc)
-
--- after ASKING was answered
-asked_works : (old new : Connection) → old.broken ≡ false → old.policy ≢ routes → IsAsked old new (Ok tt)
-    → (new.broken ≡ false) × (new.policy ≡ old.policy)
-asked_works old new works unrouted h = by_answer h.answer h.calls h.is
-  where
-    by_answer : (answer : Result Value RedisError) → PackedCall old new asking_bytes answer → Ok tt ≡ without_reply answer
-        → (new.broken ≡ false) × (new.policy ≡ old.policy)
-    by_answer (Ok reply) call is =
-        let exchange = (call.when_working works unrouted).otherwise (λ none. absurd (let e = none in cc)) (λ never. never) in
-        (usable_of old new asking_bytes 1 reply _ _ exchange.of, call.policy)
-    by_answer (Err e) call is = cc
+use Rattle.resp_cluster.proofs.Told.{told_works}
 
 -- ---- places
 
@@ -107,7 +85,7 @@ module _ {L : Type 0} (of_link : L → Connection) (unrouted : (link : L) → (o
       × Asks b after (c.args ≡ []) (IsUnanswered c) (packed c.args) (needed c) answer answers)
   by_call before after works free asking (links.plain is call) = (before, (works, call.when_working works free))
   by_call before after works free asking (links.after_asking between is asked call) =
-      let h = asked_works before between works free asked in
+      let h = told_works asking_bytes (λ none. absurd (let e = none in cc)) before between works free asked in
       (between, (h.0, call.when_working h.0 (λ e. free (sym h.1 ∙ e))))
   by_call before after works free asking (links.not_asked e is asked r_is) = absurd (let h = r_is in cc)
 

@@ -11,15 +11,18 @@ use Rattle.resp_command.specs.Call.{AnswersFrom, Call}
 use Rattle.resp_command.specs.Connection.{Connection}
 use Rattle.resp_errors.specs.declared.redis_error.RedisError.{RedisError}
 use Rattle.resp_value.specs.declared.value.Value.{Value}
-use Rattle.resp_cluster.specs.Cluster.{Cluster, answer_of, has_failed}
+use Rattle.resp_errors.specs.declared.redis_error.RedisError.TheVariants.{OutOfMemory}
+use Rattle.resp_cluster.specs.Cluster.{Cluster, Readies, answer_of, has_failed}
+use Rattle.resp_cluster.specs.Gathered.{Gathered, RefusedGroup, StopsAt}
 use Rattle.resp_cluster.specs.Links.{Links, Reaches, SendsTo, SentRedirects, UsesLast}
 use Rattle.resp_cluster.specs.Routed.{StoppedShort, WentOn}
-use Rattle.resp_cluster.specs.Spread.{AreDestinations, FollowsReply, IsDestination, IsPlaceAmong, SendsGroup}
-use Rattle.resp_cluster.specs.Spread.{called, stopped, unreached, went}
+use Rattle.resp_cluster.specs.Spread.{AreDestinations, FollowsReply, IsDestination, IsPlaceAmong, SendsGroup, SpreadRefused}
+use Rattle.resp_cluster.specs.Spread.{at_group, called, no_memory, on_the_way, stopped, unreached, went}
 use Rattle.resp_cluster.specs.declared.links.Sent.{Sent}
 use Rattle.resp_cluster.specs.declared.links.Sent.TheVariants.{Answered}
 use Rattle.resp_cluster.specs.declared.node.SlotRange.{SlotRange}
 use Rattle.resp_cluster.specs.declared.node.NodeAddr.{NodeAddr}
+use Rattle.resp_cluster.specs.declared.read_from.ReadFrom.{ReadFrom}
 
 -- what stands in a list that grew by one
 got_old : {A : Type 0} (xs : List A) (y x : A) (i : ℕ) → i < length xs → slice_get (xs ++ y ∷ []) i ≡ Some x → slice_get xs i ≡ Some x
@@ -114,11 +117,11 @@ or_false : (b : Bool) → b ≡ b || false
 or_false true = refl
 or_false false = refl
 
-module _ {L : Type 0} (of_link : L → Connection) (links : Links L) (map : List SlotRange) (budget : ℕ) (stale : Bool)
-    (old : Cluster L) (view : record { links = links; map = map; budget = budget; stale = stale } ≡ old)
+module _ {L : Type 0} (of_link : L → Connection) (links : Links L) (map : List SlotRange) (budget : ℕ) (reads : ReadFrom) (stale : Bool)
+    (old : Cluster L) (view : record { links = links; map = map; budget = budget; reads = reads; stale = stale } ≡ old)
     (node : NodeAddr) where
   abbrev after : Links L → List SlotRange → Bool → Cluster L
-  after new_links new_map failed = record { links = new_links; map = new_map; budget = budget; stale = failed }
+  after new_links new_map failed = record { links = new_links; map = new_map; budget = budget; reads = reads; stale = failed }
 
   module _ (request : List ℕ) (count : ℕ) (new_links : Links L) where
     pub sent_unreached : (e : RedisError) → Reaches of_link node links new_links (Err e)
@@ -158,3 +161,19 @@ module _ {L : Type 0} (of_link : L → Connection) (links : Links L) (map : List
         → FollowsReply of_link old (after new_links new_map true) node c reply (answer_of (Ok sent))
     stopped_short h = subst (λ o. FollowsReply of_link o (after new_links new_map true) node c reply (answer_of (Ok sent))) view
         (stopped new_links new_map sent h (ap (after new_links new_map) (or_true stale)) refl)
+
+-- ---- how commands over a cluster are refused
+
+module _ {L : Type 0} (of_link : L → Connection) (commands : List Command) (old ready new : Cluster L) (nodes : List NodeAddr)
+    (targets : List ℕ) (readies : Readies of_link old ready) (are : AreDestinations ready commands nodes targets) (e : RedisError) where
+  pub group_refused : (e ≡ OutOfMemory) ⊎ RefusedGroup (SendsGroup of_link) commands targets nodes ready new e
+      → SpreadRefused of_link commands old new e
+  group_refused (inl none) = no_memory none
+  group_refused (inr refused) = at_group ready nodes targets readies are refused
+
+  pub way_refused : (gathered : Cluster L) (replies : List Value)
+      → Gathered (SendsGroup of_link) commands targets nodes ready replies gathered
+      → (e ≡ OutOfMemory) ⊎ StopsAt (FollowsReply of_link) nodes gathered targets commands replies e new
+      → SpreadRefused of_link commands old new e
+  way_refused gathered replies sent (inl none) = no_memory none
+  way_refused gathered replies sent (inr stops) = on_the_way ready gathered nodes targets replies readies are sent stops

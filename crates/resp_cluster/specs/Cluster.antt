@@ -15,35 +15,38 @@ use Rattle.resp_command.specs.Connection.{Connection}
 use Rattle.resp_command.specs.Subscriptions.{IsUnanswered}
 use Rattle.resp_routing.specs.CommandArgs.{args_with}
 use Rattle.resp_routing.specs.Refusals.{redis_error_of}
-use Rattle.resp_routing.specs.Routes.{HasNoRoute, IsRoute}
+use Rattle.resp_routing.specs.Routes.{HasNoRoute, IsRoute, is_readonly}
 use Rattle.resp_routing.specs.declared.errors.RoutingError.{RoutingError}
 use Rattle.resp_routing.specs.declared.routes.Route.{Route}
 use Rattle.resp_routing.specs.declared.routes.Route.TheVariants.{Slot, Keyless}
 use Rattle.resp_cluster.specs.LinkCommands.{is_link_command}
 use Rattle.resp_cluster.specs.Links.{Links, Reaches, UsesLast, SendsTo, SentRedirects, last_used, no_links}
-use Rattle.resp_cluster.specs.Maps.{primary_at}
+use Rattle.resp_cluster.specs.Maps.{primary_at, reader_at}
 use Rattle.resp_cluster.specs.Primaries.{ArePrimaries}
 use Rattle.resp_cluster.specs.Replies.{map_in}
 use Rattle.resp_cluster.specs.Routed.{Followed, Interrupted}
 use Rattle.resp_cluster.specs.declared.map_source.MapError.{MapError}
 use Rattle.resp_cluster.specs.declared.map_source.MapError.TheVariants as wrong
+use Rattle.resp_cluster.specs.declared.read_from.ReadFrom.{ReadFrom}
+use Rattle.resp_cluster.specs.declared.read_from.ReadFrom.TheVariants.{Primary, Replica}
 use Rattle.resp_cluster.specs.declared.links.Sent.{Sent}
 use Rattle.resp_cluster.specs.declared.links.Sent.TheVariants.{Unreached, Answered}
 use Rattle.resp_cluster.specs.declared.node.NodeAddr.{NodeAddr}
 use Rattle.resp_cluster.specs.declared.node.SlotRange.{SlotRange}
 use Rattle.resp_cluster.specs.declared.node.TopologyError.TheVariants as topology
 
--- the links to nodes, the map, how often a command is sent on, and whether the map is to be asked for before the next
--- command
+-- the links to nodes, the map, how often a command is sent on, where reads go, and whether the map is to be asked for
+-- before the next command
 pub record Cluster (L : Type 0) : Type 0 where
   pub links : Links L
   pub map : List SlotRange
   pub budget : ℕ
+  pub reads : ReadFrom
   pub stale : Bool
 
 -- one by which nothing was sent
 abbrev pub new_cluster : {L : Type 0} → List SlotRange → ℕ → Cluster L
-new_cluster map budget = record { links = no_links; map = map; budget = budget; stale = false }
+new_cluster map budget = record { links = no_links; map = map; budget = budget; reads = Primary; stale = false }
 
 -- the link that was used last
 abbrev pub last_link : {L : Type 0} → Links L → Option L
@@ -69,7 +72,7 @@ abbrev pub routed_args : Command → Args
 routed_args c = args_with (codes "0") c
 
 abbrev pub several_nodes : RedisError
-several_nodes = General kind.Client (codes "the command goes to several nodes: use link_to") None
+several_nodes = General kind.Client (codes "the command goes to several nodes: use req_fan_out") None
 
 abbrev pub of_link : RedisError
 of_link = General kind.Client (codes "the command changes a link: send it over one") None
@@ -109,10 +112,20 @@ first_primary (range ∷ map) = elim range.primary [ None ↦ first_primary map 
 abbrev pub any_node : {L : Type 0} → Cluster L → Option NodeAddr
 any_node cluster = elim (last_used cluster.links) [ None ↦ first_primary cluster.map | Some link ↦ Some link.node ]
 
--- the node that a command is sent to first: the primary of its slot, or any
-abbrev pub first_node : {L : Type 0} → Route → Cluster L → Option NodeAddr
-first_node (Slot slot) cluster = primary_at cluster.map slot
-first_node (Keyless policy) cluster = any_node cluster
+-- the node that serves a slot, whether to a command that only reads or to another
+abbrev pub node_at : Bool → ReadFrom → List SlotRange → ℕ → Option NodeAddr
+node_at false from map slot = primary_at map slot
+node_at true Primary map slot = primary_at map slot
+node_at true Replica map slot = reader_at map slot
+
+-- the node that a command is sent to first, whether it only reads or not: one that serves its slot, or any
+abbrev pub first_node : {L : Type 0} → Bool → Route → Cluster L → Option NodeAddr
+first_node only_reads (Slot slot) cluster = node_at only_reads cluster.reads cluster.map slot
+first_node only_reads (Keyless policy) cluster = any_node cluster
+
+-- whether a command only reads
+abbrev pub only_reads : Command → Bool
+only_reads c = is_readonly (routed_args c)
 
 -- ---- one command
 
@@ -139,16 +152,16 @@ module _ {L : Type 0} (of_link : L → Connection) where
   -- for a redirect, the map is asked for before the next command
   pub data Round (c : Command) (route : Route) (old new : Cluster L) (r : Result Sent RedisError) : Type 0 where
     followed : (node : NodeAddr) (links : Links L) (map : List SlotRange) (sent : Sent)
-        → first_node route old ≡ Some node
+        → first_node (only_reads c) route old ≡ Some node
         → Followed (SendsTo of_link c) SentRedirects (node, false) old.budget old.links old.map links map sent
-        → new ≡ record { links = links; map = map; budget = old.budget; stale = has_failed sent }
+        → new ≡ record { links = links; map = map; budget = old.budget; reads = old.reads; stale = has_failed sent }
         → r ≡ Ok sent → Round c route old new r
     cut_short : (node : NodeAddr) (links : Links L) (map : List SlotRange) (sent : Sent)
-        → first_node route old ≡ Some node
+        → first_node (only_reads c) route old ≡ Some node
         → Interrupted (SendsTo of_link c) SentRedirects (node, false) old.budget old.links old.map links map sent
-        → new ≡ record { links = links; map = map; budget = old.budget; stale = true }
+        → new ≡ record { links = links; map = map; budget = old.budget; reads = old.reads; stale = true }
         → r ≡ Ok sent → Round c route old new r
-    nowhere : first_node route old ≡ None → new ≡ old → r ≡ Err no_node → Round c route old new r
+    nowhere : first_node (only_reads c) route old ≡ None → new ≡ old → r ≡ Err no_node → Round c route old new r
     no_memory : new ≡ old → r ≡ Err OutOfMemory → Round c route old new r
 
 -- ---- the map
@@ -200,15 +213,20 @@ module _ {L : Type 0} (of_link : L → Connection) where
     pub budget_is : cluster.budget ≡ budget
     pub fresh : cluster.stale ≡ false
 
+  -- none of these nodes gives one, and the last one does not for this reason
+  pub record CannotOpen (seeds : List NodeAddr) (e : MapError) : Type 0 where
+    pub links : Links L
+    pub asks : AsksInTurn seeds no_links links (Err e)
+
   -- the map is asked for: primaries that it knows are asked in turn, and where none gives one the map stays
   pub data Refreshes (old new : Cluster L) : Type 0 where
     no_memory : new ≡ record old { stale = false } → Refreshes old new
     learnt : (nodes : List NodeAddr) (links : Links L) (map : List SlotRange) → ArePrimaries old.map nodes
         → AsksInTurn nodes old.links links (Ok map)
-        → new ≡ record { links = links; map = map; budget = old.budget; stale = false } → Refreshes old new
+        → new ≡ record { links = links; map = map; budget = old.budget; reads = old.reads; stale = false } → Refreshes old new
     kept : (nodes : List NodeAddr) (links : Links L) (e : MapError) → ArePrimaries old.map nodes
         → AsksInTurn nodes old.links links (Err e)
-        → new ≡ record { links = links; map = old.map; budget = old.budget; stale = false } → Refreshes old new
+        → new ≡ record { links = links; map = old.map; budget = old.budget; reads = old.reads; stale = false } → Refreshes old new
 
   -- where the map is stale it is asked for
   pub data Readies (old new : Cluster L) : Type 0 where

@@ -1,5 +1,5 @@
 -- Several commands over the nodes of a cluster, each of which is sent those that go there as one request.
-use Rattle.std.specs.Prelude.{◌≡◌, ◌≢◌, ℕ, ◌+◌, ◌<◌, ◌==◌, List, [], ◌∷◌, map, length, slice_get, slice_index_or, Result, Ok, Err, Some}
+use Rattle.std.specs.Prelude.{◌≡◌, ◌≢◌, ◌⊎◌, ℕ, ◌+◌, ◌<◌, ◌==◌, List, [], ◌∷◌, map, length, slice_get, slice_index_or, Result, Ok, Err, Some}
 use Rattle.std.specs.Prelude.{if◌then◌else◌}
 use Rattle.std.specs.Global.{Vec}
 use Rattle.std.specs.List.{flat_map}
@@ -73,3 +73,12 @@ module _ {S : Type 0} (follows : S → S → NodeAddr → Command → Value → 
       × FollowedEach between targets commands replies answers new))
   FollowedEach old [] [] [] [] new = old ≡ new
   FollowedEach old targets commands replies answers new = ⊥
+
+  -- commands go on from their replies, one after the other, until one of them is answered with this error
+  abbrev pub StopsAt : S → List ℕ → List Command → List Value → RedisError → S → Type 0
+  StopsAt old (target ∷ targets) (command ∷ commands) (reply ∷ replies) e new =
+      (node : NodeAddr) × ((slice_get nodes target ≡ Some node)
+      × (follows old new node command reply (Err e)
+      ⊎ (between : S) × ((answer : Value) × (follows old between node command reply (Ok answer)
+      × StopsAt between targets commands replies e new))))
+  StopsAt old targets commands replies e new = ⊥

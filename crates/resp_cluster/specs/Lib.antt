@@ -1,4 +1,5 @@
 pub mod Cluster
+pub mod FannedOut
 pub mod Gathered
 pub mod Gathering
 pub mod LinkCommands
@@ -13,3 +14,5 @@ pub mod Routing
 pub mod Shards
 pub mod Splits
 pub mod Spread
+pub mod Together
+pub mod Transactions

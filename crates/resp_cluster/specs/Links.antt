@@ -79,23 +79,27 @@ module _ {L : Type 0} (of_link : L → Connection) where
 abbrev pub asking_bytes : List ℕ
 asking_bytes = codes "*1\r\n$6\r\nASKING\r\n"
 
+-- the bytes of the command READONLY
+abbrev pub readonly_bytes : List ℕ
+readonly_bytes = codes "*1\r\n$8\r\nREADONLY\r\n"
+
 -- an answer without its reply
 abbrev pub without_reply : Result Value RedisError → Result (Unit {0}) RedisError
 without_reply (Ok reply) = Ok tt
 without_reply (Err e) = Err e
 
--- ASKING is sent, and answered with this but for the reply
-pub record IsAsked (old new : Connection) (r : Result (Unit {0}) RedisError) : Type 0 where
+-- a packed command is sent, and answered with this but for the reply
+pub record IsTold (bytes : List ℕ) (old new : Connection) (r : Result (Unit {0}) RedisError) : Type 0 where
   pub answer : Result Value RedisError
-  pub calls : PackedCall old new asking_bytes answer
+  pub calls : PackedCall old new bytes answer
   pub is : r ≡ without_reply answer
 
 -- a command over a link, or after ASKING, if that is answered
 pub data SendsOver (old new : Connection) (asking : Bool) (c : Command) (r : Result Value RedisError) : Type 0 where
   plain : asking ≡ false → CommandCall old new c r (λ reply. r ≡ Ok reply) → SendsOver old new asking c r
-  after_asking : (between : Connection) → asking ≡ true → IsAsked old between (Ok tt)
+  after_asking : (between : Connection) → asking ≡ true → IsTold asking_bytes old between (Ok tt)
       → CommandCall between new c r (λ reply. r ≡ Ok reply) → SendsOver old new asking c r
-  not_asked : (e : RedisError) → asking ≡ true → IsAsked old new (Err e) → r ≡ Err e → SendsOver old new asking c r
+  not_asked : (e : RedisError) → asking ≡ true → IsTold asking_bytes old new (Err e) → r ≡ Err e → SendsOver old new asking c r
 
 module _ {L : Type 0} (of_link : L → Connection) where
   -- the link that was used last, which works, makes a call

@@ -1,7 +1,7 @@
 -- Which nodes serve which slots.
 use Rattle.std.specs.Prelude.{◌≡◌, ℕ, ◌<◌, ◌==◌, Bool, true, false, ◌&&◌, nat_le, List, [], ◌∷◌, Option, None}
 use Rattle.std.specs.Prelude.{Some, find}
-use Rattle.std.specs.Prelude.{length, slice_set, if◌then◌else◌}
+use Rattle.std.specs.Prelude.{◌%◌, length, slice_get, slice_set, if◌then◌else◌}
 use Rattle.std.specs.Option.{option_and_then, option_map_or}
 use Rattle.resp_cluster.specs.declared.node.NodeAddr.{NodeAddr}
 use Rattle.resp_cluster.specs.declared.node.SlotRange.{SlotRange}
@@ -21,6 +21,14 @@ moved slot node = record { first = slot; last = slot; primary = Some node; repli
 -- the primary of a slot, if the map knows one
 abbrev pub primary_at : List SlotRange → ℕ → Option NodeAddr
 primary_at map slot = option_and_then (λ range. range.primary) (range_at map slot)
+
+-- the node of a range that serves reads of this slot: one of its replicas, by the slot, or its primary where none is known
+abbrev pub reader_among : ℕ → List NodeAddr → Option NodeAddr → Option NodeAddr
+reader_among slot [] primary = primary
+reader_among slot (node ∷ replicas) primary = slice_get (node ∷ replicas) (slot % length (node ∷ replicas))
+
+abbrev pub reader_at : List SlotRange → ℕ → Option NodeAddr
+reader_at map slot = option_and_then (λ range. reader_among slot range.replicas range.primary) (range_at map slot)
 
 -- the range has this slot and no other
 abbrev pub is_of : ℕ → SlotRange → Bool

@@ -1,13 +1,12 @@
 -- Several commands over the nodes of a cluster.
-use Rattle.std.specs.Prelude.{◌≡◌, ◌≢◌, ℕ, ◌<◌, ◌∷◌, ◌++◌, ◌⊎◌, Bool, true, false, List, [], All, AllPairs, length, slice_get, slice_index_or}
-use Rattle.std.specs.Prelude.{Option, Some, None, Result, Ok, Err, is_err, ◌||◌, codes}
+use Rattle.std.specs.Prelude.{◌≡◌, ◌≢◌, ℕ, ◌<◌, ◌∷◌, ◌++◌, ◌⊎◌, Bool, true, false, List, [], All, AllPairs, Contains, length, slice_get, slice_index_or}
+use Rattle.std.specs.Prelude.{Option, Some, None, Result, Ok, Err, is_err, ◌||◌}
 use Rattle.std.specs.Global.{Vec}
 use Rattle.std.specs.List.{flat_map}
 use Rattle.resp_args.specs.Args.{Args}
 use Rattle.resp_value.specs.declared.value.Value.{Value}
-use Rattle.resp_errors.specs.declared.kinds.ErrorKind.TheVariants as kind
 use Rattle.resp_errors.specs.declared.redis_error.RedisError.{RedisError}
-use Rattle.resp_errors.specs.declared.redis_error.RedisError.TheVariants.{General}
+use Rattle.resp_errors.specs.declared.redis_error.RedisError.TheVariants.{OutOfMemory}
 use Rattle.resp_command.specs.Call.{Call, AnswersFrom}
 use Rattle.resp_command.specs.Command.{Command}
 use Rattle.resp_command.specs.Connection.{Connection}
@@ -16,8 +15,8 @@ use Rattle.resp_pipeline.specs.Pipeline.{Plan}
 use Rattle.resp_routing.specs.Commands.{command_of}
 use Rattle.resp_routing.specs.declared.commands.CommandInfo.{CommandInfo}
 use Rattle.resp_routing.specs.declared.routes.Route.{Route}
-use Rattle.resp_cluster.specs.Cluster.{Cluster, Goes, Readies, answer_of, first_node, has_failed, routed_args}
-use Rattle.resp_cluster.specs.Gathered.{FollowedEach, Gathered}
+use Rattle.resp_cluster.specs.Cluster.{CannotGo, Cluster, Goes, Readies, answer_of, first_node, has_failed, no_node, only_reads, routed_args}
+use Rattle.resp_cluster.specs.Gathered.{FollowedEach, Gathered, RefusedGroup, StopsAt}
 use Rattle.resp_cluster.specs.Links.{Links, Reaches, SendsTo, SentRedirects, UsesLast}
 use Rattle.resp_cluster.specs.Merges.{Merges}
 use Rattle.resp_cluster.specs.Routed.{StoppedShort, WentOn}
@@ -28,15 +27,22 @@ use Rattle.resp_cluster.specs.declared.node.NodeAddr.{NodeAddr}
 use Rattle.resp_cluster.specs.declared.node.SlotRange.{SlotRange}
 use Rattle.resp_cluster.specs.declared.split.Merge.{Merge}
 
--- what a transaction is refused with
-abbrev pub one_node : RedisError
-one_node = General kind.Client (codes "a transaction goes to one node: use link_to") None
-
 -- the node that a command is sent to first
 pub record IsDestination {L : Type 0} (cluster : Cluster L) (c : Command) (node : NodeAddr) : Type 0 where
   pub route : Route
   pub goes : Goes c route
-  pub first : first_node route cluster ≡ Some node
+  pub first : first_node (only_reads c) route cluster ≡ Some node
+
+-- why a command has no node that it is sent to first
+pub data HasNoDestination {L : Type 0} (cluster : Cluster L) (c : Command) (e : RedisError) : Type 0 where
+  cannot : CannotGo c e → HasNoDestination cluster c e
+  nowhere : (route : Route) → Goes c route → first_node (only_reads c) route cluster ≡ None → e ≡ no_node → HasNoDestination cluster c e
+
+-- one of several commands has none
+pub record OneHasNone {L : Type 0} (cluster : Cluster L) (commands : List Command) (e : RedisError) : Type 0 where
+  pub command : Command
+  pub among : Contains commands command
+  pub none : HasNoDestination cluster command e
 
 -- the nodes that commands are sent to first, each once, and for each command the place of its node
 pub record AreDestinations {L : Type 0} (cluster : Cluster L) (commands : List Command) (nodes : List NodeAddr)
@@ -67,7 +73,7 @@ pub record IsPartsOf (args : Args) (merge : Merge) (parts : List Command) (place
 -- these links and this map; the map is asked for before the next command where a call failed, now or before
 abbrev pub with_links : {L : Type 0} → Cluster L → Links L → List SlotRange → Bool → Cluster L
 with_links old links map failed =
-    record { links = links; map = map; budget = old.budget; stale = old.stale || failed }
+    record { links = links; map = map; budget = old.budget; reads = old.reads; stale = old.stale || failed }
 
 module _ {L : Type 0} (of_link : L → Connection) where
   -- a node is sent a request of so many commands: it is not reached, or its link makes the call
@@ -102,13 +108,28 @@ module _ {L : Type 0} (of_link : L → Connection) where
     pub sent : Gathered SendsGroup commands targets nodes ready replies gathered
     pub followed : FollowedEach FollowsReply nodes gathered targets commands replies answers new
 
+  -- commands over a cluster are refused with this error
+  pub data SpreadRefused (commands : List Command) (old new : Cluster L) (e : RedisError) : Type 0 where
+    no_memory : e ≡ OutOfMemory → SpreadRefused commands old new e
+    -- one has no node, and none is sent
+    unsent : Readies of_link old new → (e ≢ OutOfMemory → OneHasNone new commands e) → SpreadRefused commands old new e
+    -- a node is not reached, or the call over its link fails, after those before it were sent theirs
+    at_group : (ready : Cluster L) (nodes : List NodeAddr) (targets : List ℕ) → Readies of_link old ready
+        → AreDestinations ready commands nodes targets → RefusedGroup SendsGroup commands targets nodes ready new e
+        → SpreadRefused commands old new e
+    -- one that is redirected is answered with it, after those before it
+    on_the_way : (ready gathered : Cluster L) (nodes : List NodeAddr) (targets : List ℕ) (replies : List Value)
+        → Readies of_link old ready → AreDestinations ready commands nodes targets
+        → Gathered SendsGroup commands targets nodes ready replies gathered
+        → StopsAt FollowsReply nodes gathered targets commands replies e new → SpreadRefused commands old new e
+
   -- a pipeline over a cluster: its commands are sent over the nodes, and their replies make what they make together; or it
   -- is refused
   pub data SpreadQuery {X : Type 0} (p : Plan) (of_value : Value → X → Type 0) (old new : Cluster L)
       (result : Result X RedisError) : Type 0 where
     answered : (answers : List Value) → SpreadCall p.commands old answers new → Composes p of_value result answers
         → SpreadQuery p of_value old new result
-    refused : (e : RedisError) → result ≡ Err e → SpreadQuery p of_value old new result
+    refused : (e : RedisError) → SpreadRefused p.commands old new e → result ≡ Err e → SpreadQuery p of_value old new result
 
   -- a command in parts over a cluster: what the replies to its parts make together
   pub record SplitCall (c : Command) (old : Cluster L) (answer : Value) (new : Cluster L) : Type 0 where

@@ -4,23 +4,27 @@ ghost use Rattle.std.specs.Prelude.{◌≡◌, ◌≢◌, true, false, IfOk, IfE
 ghost use Rattle.std.specs.Option.{option_copied};
 ghost use Rattle.resp_errors.specs.declared.redis_error.RedisError.TheVariants as form;
 ghost use Rattle.resp_cluster.specs.Cluster.{CannotGo, Goes, any_node, first_node, first_primary};
-ghost use Rattle.resp_cluster.specs.Cluster.{has_failed, is_to_one, last_link, new_cluster};
+ghost use Rattle.resp_cluster.specs.Cluster.{has_failed, is_to_one, last_link, new_cluster, no_node};
+ghost use Rattle.resp_cluster.specs.Cluster.{node_at, only_reads};
 ghost use Rattle.resp_cluster.specs.Cluster.{several_nodes, Round};
-ghost use Rattle.resp_cluster.specs.Cluster.{answer_of, reached, OnceMore, Opens, Readies};
+ghost use Rattle.resp_cluster.specs.Cluster.{answer_of, reached, CannotOpen, OnceMore, Opens, Readies};
 ghost use Rattle.resp_cluster.specs.Cluster.{IsReached, ReachesOne, Refreshes, Rounds, RoutedCall};
 
+mod fan_out;
 mod spread;
+mod transaction;
 
 use crate::link_commands::is_link_command;
 use crate::links::{NodeLinks, Nodes, Sent};
 use crate::map_source::MapError;
 use crate::node::NodeAddr;
+use crate::read_from::{ReadFrom, ReadOnly};
 use crate::router::{RouteError, follow};
 use crate::slot_map::SlotMap;
 use resp_command::Cmd;
-use resp_routing::{Route, args_of, route_of};
+use resp_routing::{Route, args_of, is_readonly_cmd, route_of};
 use resp_value::{ErrorKind, RedisError, RedisResult, Value};
-use std::alloc::Global;
+use std::alloc::{AllocError, Global};
 use std::marker::Model;
 
 /// Links to the nodes of a cluster: a command goes over the link of the node that serves its slot.
@@ -32,6 +36,7 @@ pub struct ClusterLink<N: Nodes> {
     links: NodeLinks<N>,
     map: SlotMap,
     budget: u64,
+    reads: ReadFrom,
     stale: bool,
 }
 
@@ -45,6 +50,7 @@ impl<N: Nodes + Drop> Drop for ClusterLink<N> {
             links: _,
             map: _,
             budget: _,
+            reads: _,
             stale: _,
         } = self;
     }
@@ -59,6 +65,7 @@ impl<N: Nodes> Model for ClusterLink<N> {
       links = c.links;
       map = c.map;
       budget = c.budget;
+      reads = c.reads;
       stale = c.stale;
     } };
 }
@@ -101,8 +108,17 @@ fn only_to_one(route: Route) -> RedisResult<Route>
     }
     Err(RedisError::from((
         ErrorKind::Client,
-        "the command goes to several nodes: use link_to",
+        "the command goes to several nodes: use req_fan_out",
     )))
+}
+
+fn no_node() -> RedisError
+    ensures { result ≡ no_node }
+{
+    RedisError::from((
+        ErrorKind::ClusterConnectionNotFound,
+        "the map has no node for the command",
+    ))
 }
 
 /// Whether a route is to one node.
@@ -153,7 +169,8 @@ impl<N: Nodes + Drop> ClusterLink<N> {
         seeds: &[NodeAddr],
         budget: u64,
     ) -> Result<ClusterLink<N>, MapError>
-        ensures { IfOk result (Opens N.Link.connection seeds.now budget) }
+        ensures opened { IfOk result (Opens N.Link.connection seeds.now budget) }
+        ensures refused { IfErr result (CannotOpen N.Link.connection seeds.now) }
     {
         let mut links = NodeLinks::new(alloc, nodes);
         let map = links.ask_in_turn(seeds)?;
@@ -162,8 +179,20 @@ impl<N: Nodes + Drop> ClusterLink<N> {
             links,
             map,
             budget,
+            reads: ReadFrom::Primary,
             stale: false,
         })
+    }
+}
+
+impl<N: Nodes> ClusterLink<ReadOnly<N>> {
+    /// Has commands that only read go to replicas from now on, by [`SlotMap::reader_at`]; those of a
+    /// transaction still go to a primary. A replica may not have yet what was written last. Takes no
+    /// memory.
+    pub fn read_from_replicas(&mut self)
+        ensures { self.new ≡ record self.old { reads = ReadFrom.Replica } }
+    {
+        self.reads = ReadFrom::Replica;
     }
 }
 
@@ -178,6 +207,7 @@ impl<N: Nodes> ClusterLink<N> {
             links: NodeLinks::new(alloc, nodes),
             map,
             budget,
+            reads: ReadFrom::Primary,
             stale: false,
         }
     }
@@ -231,9 +261,9 @@ impl<N: Nodes> ClusterLink<N> {
         }
     }
 
-    /// The node that a command is sent to first.
-    fn first_node(&self, route: &Route) -> Option<&NodeAddr>
-        ensures { option_copied result ≡ first_node route.now self.now }
+    /// The primary of a slot, or any node.
+    fn primary_or_any(&self, route: &Route) -> Option<&NodeAddr>
+        ensures { option_copied result ≡ first_node false route.now self.now }
     {
         match route {
             Route::Slot(slot) => self.map.primary_at(*slot),
@@ -241,15 +271,38 @@ impl<N: Nodes> ClusterLink<N> {
         }
     }
 
+    /// The node that a command is sent to first. Fails only when out of memory.
+    #[tactic(auto, using(crate::proofs::Destinations::primary_to_all))]
+    fn first_node(&self, route: &Route, command: &Cmd) -> Result<Option<&NodeAddr>, AllocError>
+        ensures { IfOk result (λ node. option_copied node
+            ≡ first_node (only_reads command.now) route.now self.now) }
+    {
+        match (&self.reads, route) {
+            (ReadFrom::Replica, Route::Slot(slot)) => {
+                let args = args_of(self.alloc, command, b"0")?;
+                Ok(self.node_at(*slot, is_readonly_cmd(args.as_slice())))
+            }
+            _ => Ok(self.primary_or_any(route)),
+        }
+    }
+
+    /// The node that serves a slot, where reads go to replicas.
+    fn node_at(&self, slot: u16, only_reads: bool) -> Option<&NodeAddr>
+        ensures { option_copied result ≡ node_at only_reads ReadFrom.Replica self.now.map slot }
+    {
+        if only_reads {
+            self.map.reader_at(slot)
+        } else {
+            self.map.primary_at(slot)
+        }
+    }
+
     /// Sends a command to its first node, and on to where redirects point.
     fn round(&mut self, route: &Route, command: &Cmd) -> RedisResult<Sent>
         ensures { Round N.Link.connection command.now route.now self.old self.new result }
     {
-        let Some(node) = self.first_node(route) else {
-            return Err(RedisError::from((
-                ErrorKind::ClusterConnectionNotFound,
-                "the map has no node for the command",
-            )));
+        let Some(node) = self.first_node(route, command)? else {
+            return Err(no_node());
         };
         let node = node.try_clone(self.alloc)?;
         let budget = self.budget;
@@ -304,7 +357,8 @@ impl<N: Nodes> ClusterLink<N> {
     /// is, as `MULTI` and `SELECT`; one whose keys aren't known. Keys in several slots are refused
     /// as a server does, with `CROSSSLOT`.
     ///
-    /// It goes to the primary of its slot; without keys to the node of the last used link, or to
+    /// It goes to the primary of its slot, or after [`ClusterLink::read_from_replicas`] to a replica if
+    /// it only reads; without keys to the node of the last used link, or to
     /// the first primary. After `MOVED` the map has learnt, and it goes there; after `ASK` it goes
     /// there after `ASKING`; at most so often as the budget says. Every other reply is the answer,
     /// and so is the failure of a call: a command that may have run isn't sent again, but the map

@@ -3,7 +3,7 @@
 ghost use Rattle.std.specs.Prelude.{◌≡◌, ◌<◌, ◌⊎◌, All, Err, IfOk, IfErr, length, map};
 ghost use Rattle.resp_errors.specs.Memory.{OnlyMemory};
 ghost use Rattle.resp_cluster.specs.Gathered.{FollowedEach, Gathered, InPlaces, RefusedGroup, SentEach};
-ghost use Rattle.resp_cluster.specs.Gathered.{SentGroup, of_node, request_of};
+ghost use Rattle.resp_cluster.specs.Gathered.{SentGroup, StopsAt, of_node, request_of};
 ghost use Rattle.resp_cluster.specs.Gathering.{Enough, from_last};
 
 use crate::node::NodeAddr;
@@ -81,13 +81,16 @@ pub(crate) fn follow_each<C: SendGroups>(
     requires known { All (λ node. node < length nodes.now) targets.now }
     requires targets { length targets.now ≡ length commands.now }
     requires replies { length replies.items ≡ length commands.now }
-    ensures { IfOk result (λ answers. FollowedEach C.follows nodes.now cluster.old targets.now
-        commands.now replies.items answers.items cluster.new) }
+    ensures followed { IfOk result (λ answers. FollowedEach C.follows nodes.now cluster.old
+        targets.now commands.now replies.items answers.items cluster.new) }
+    ensures stopped { IfErr result (λ e. (e ≡ RedisError.OutOfMemory) ⊎ StopsAt C.follows nodes.now
+        cluster.old targets.now commands.now replies.items e cluster.new) }
 {
     let mut answers = Vec::with_capacity(alloc, commands.len())?;
     for (place, reply) in replies.into_iter().enumerate() {
         let node = &nodes[targets[place]];
-        answers.push(cluster.follow_reply(node, &commands[place], reply)?)?;
+        let answer = cluster.follow_reply(node, &commands[place], reply)?;
+        answers.push(answer)?;
     }
     Ok(answers)
 }

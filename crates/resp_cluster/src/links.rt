@@ -1,7 +1,7 @@
 //! Links to the nodes of a cluster.
 
-ghost use Rattle.std.specs.Prelude.{◌≡◌, ◌≢◌, false, IfOk, Some, None};
-ghost use Rattle.resp_cluster.specs.Links.{IsAsked, SendsOver, without_reply};
+ghost use Rattle.std.specs.Prelude.{◌≡◌, ◌≢◌, false, IfOk, OnOk, Some, None};
+ghost use Rattle.resp_cluster.specs.Links.{IsTold, SendsOver, readonly_bytes, without_reply};
 
 use crate::node::NodeAddr;
 use crate::redirect::{Redirect, redirect_of};
@@ -189,6 +189,9 @@ impl<N: Nodes> NodeLinks<N> {
 /// The bytes of the command `ASKING`.
 const ASKING: &[u8] = b"*1\r\n$6\r\nASKING\r\n";
 
+/// The bytes of the command `READONLY`.
+const READONLY: &[u8] = b"*1\r\n$8\r\nREADONLY\r\n";
+
 /// Sends a command over a link, after `ASKING` where that is so.
 fn send_over<L: ConnectionLike>(link: &mut L, command: &Cmd, asking: bool) -> RedisResult<Value>
     ensures { SendsOver (L.connection link.old) (L.connection link.new) asking command.now result }
@@ -196,15 +199,25 @@ fn send_over<L: ConnectionLike>(link: &mut L, command: &Cmd, asking: bool) -> Re
     if !asking {
         return link.req_command(command);
     }
-    ask(link)?;
+    tell(link, ASKING)?;
     link.req_command(command)
 }
 
-/// Sends `ASKING` over a link.
-fn ask<L: ConnectionLike>(link: &mut L) -> RedisResult<()>
-    ensures { IsAsked (L.connection link.old) (L.connection link.new) result }
+/// Tells a node by `READONLY` that its link only reads, so that a replica serves what it asks for. A
+/// node that refuses it redirects instead. Fails where the call over the link does.
+pub fn read_only<L: Unrouted>(link: &mut L) -> RedisResult<()>
+    ensures told { IsTold readonly_bytes (L.connection link.old) (L.connection link.new) result }
+    ensures works { (L.connection link.old).broken ≡ false
+        → OnOk result ((L.connection link.new).broken ≡ false) }
 {
-    let answer = link.req_packed_command(ASKING);
+    tell(link, READONLY)
+}
+
+/// Sends a packed command over a link, and leaves its reply.
+fn tell<L: ConnectionLike>(link: &mut L, command: &[u8]) -> RedisResult<()>
+    ensures { IsTold command.now (L.connection link.old) (L.connection link.new) result }
+{
+    let answer = link.req_packed_command(command);
     without_reply(answer)
 }
 

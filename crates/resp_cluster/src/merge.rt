@@ -2,6 +2,8 @@
 
 ghost use Rattle.std.specs.Prelude.{◌≡◌, All, FitsSigned, IfOk, IsTrue, OnOk, length, map, ◌<◌};
 ghost use Rattle.std.specs.Int.{w64};
+ghost use Rattle.std.specs.List.{flat_map};
+ghost use Rattle.resp_cluster.specs.FannedOut.{items_of};
 ghost use Rattle.resp_cluster.specs.Gathered.{of_node};
 ghost use Rattle.resp_cluster.specs.Gathering.{Enough, from_last};
 ghost use Rattle.resp_cluster.specs.Merges.{Merges, MergesOkay, MergesSum, MergesValues, sum_of};
@@ -33,7 +35,7 @@ pub(crate) fn merged(
 }
 
 /// The replies, or the first server error in them.
-fn without_errors(alloc: Global, replies: Vec<Value>) -> RedisResult<Vec<Value>>
+pub(crate) fn without_errors(alloc: Global, replies: Vec<Value>) -> RedisResult<Vec<Value>>
     ensures { IfOk result (λ passed. passed.items ≡ replies.items) }
 {
     let mut passed = Vec::with_capacity(alloc, replies.len())?;
@@ -110,7 +112,7 @@ fn are_below(places: &[usize], count: usize) -> bool
 }
 
 /// The sum of numbers.
-fn sum_of(replies: &[Value]) -> RedisResult<Value>
+pub(crate) fn sum_of(replies: &[Value]) -> RedisResult<Value>
     ensures { IfOk result (MergesSum replies.now) }
 {
     let mut sum: i64 = 0;
@@ -134,6 +136,20 @@ fn number_of(reply: &Value) -> RedisResult<i64>
     }
 }
 
+/// One array of the items of replies, where a reply that is no array is an item.
+pub(crate) fn joined(alloc: Global, replies: Vec<Value>) -> RedisResult<Value>
+    ensures { IfOk result (λ answer. answer ≡ Array (flat_map items_of replies.items)) }
+{
+    let mut items = Vec::new(alloc);
+    for reply in replies {
+        match reply {
+            Value::Array(more) => items.append(&mut more.into_vec())?,
+            reply => items.push(reply)?,
+        }
+    }
+    Ok(Value::Array(Items::from(items)))
+}
+
 /// `OK`, where all are.
 fn okay_of(replies: &[Value]) -> RedisResult<Value>
     ensures { IfOk result (MergesOkay replies.now) }
@@ -146,7 +162,7 @@ fn okay_of(replies: &[Value]) -> RedisResult<Value>
     Ok(Value::Okay)
 }
 
-fn unexpected() -> RedisError {
+pub(crate) fn unexpected() -> RedisError {
     RedisError::from((
         ErrorKind::UnexpectedReturnType,
         "the parts of a command have other replies",

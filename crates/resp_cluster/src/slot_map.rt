@@ -2,7 +2,8 @@
 
 ghost use Rattle.std.specs.Prelude.{◌≡◌, ◌≢◌, ◌↔◌, ℕ, [], Contains, IfOk, IsTrue, OnErr, OnOk};
 ghost use Rattle.std.specs.Prelude.{Some};
-ghost use Rattle.resp_cluster.specs.Primaries.{ArePrimaries, IsWithNew, IsWithPrimary};
+ghost use Rattle.resp_cluster.specs.Primaries.{AreNodes, ArePrimaries, AreWithNew, AreWithRange};
+ghost use Rattle.resp_cluster.specs.Primaries.{IsWithNew, IsWithPrimary};
 ghost use Rattle.std.specs.Option.{option_copied};
 
 use crate::node::{NodeAddr, PortKind, SlotRange, TopologyError};
@@ -33,7 +34,8 @@ impl Model for SlotMap {
 }
 
 impl SlotMap {
-    ghost use Rattle.resp_cluster.specs.Maps.{primary_at, range_at, with_primary, IsOwnPlace};
+    ghost use Rattle.resp_cluster.specs.Maps.{primary_at, range_at, reader_at};
+    ghost use Rattle.resp_cluster.specs.Maps.{with_primary, IsOwnPlace};
     ghost use Rattle.resp_cluster.specs.Replies.{Gives, map_in};
     ghost use Rattle.resp_cluster.specs.Shards.{map_of_shards};
 
@@ -117,6 +119,20 @@ impl SlotMap {
         self.range_at(slot)?.primary.as_ref()
     }
 
+    /// The node of a slot that serves reads, where replicas do: of the replicas that the range of the
+    /// slot knows, in order, that with the number of the slot modulo how many they are, so that slots
+    /// spread over them; or the primary where none is known.
+    pub fn reader_at(&self, slot: u16) -> Option<&NodeAddr>
+        ensures { option_copied result ≡ reader_at self.now slot }
+    {
+        let range = self.range_at(slot)?;
+        let replicas = range.replicas.as_slice();
+        if replicas.is_empty() {
+            return range.primary.as_ref();
+        }
+        replicas.get(usize::from(slot) % replicas.len())
+    }
+
     /// Says that a slot is now at this node, as a server does by `MOVED`; no replica of it is
     /// known. Where the first range that has the slot has no other, its place is taken; else a
     /// range of this slot alone comes before the others. On `AllocError` the map is as it was.
@@ -156,6 +172,7 @@ impl SlotMap {
         }
         None
     }
+
     /// The primaries that the map knows, each once.
     pub fn primaries(&self, alloc: Global) -> Result<Items<NodeAddr>, AllocError>
         ensures { IfOk result (ArePrimaries self.now) }
@@ -166,6 +183,43 @@ impl SlotMap {
         }
         Ok(nodes)
     }
+
+    /// The nodes that the map knows, primaries and replicas, each once.
+    pub fn nodes(&self, alloc: Global) -> Result<Items<NodeAddr>, AllocError>
+        ensures { IfOk result (AreNodes self.now) }
+    {
+        let mut nodes = Items::new(alloc);
+        for range in &self.ranges {
+            push_range(alloc, &mut nodes, range)?;
+        }
+        Ok(nodes)
+    }
+}
+
+/// Adds the primary of a range and its replicas, but for those that are among these.
+fn push_range(
+    alloc: Global,
+    nodes: &mut Items<NodeAddr>,
+    range: &SlotRange,
+) -> Result<(), AllocError>
+    ensures { OnOk result (AreWithRange range.now nodes.old nodes.new) }
+{
+    push_primary(alloc, nodes, range)?;
+    push_each_new(alloc, nodes, range.replicas.as_slice())
+}
+
+/// Adds each address that isn't among these.
+fn push_each_new(
+    alloc: Global,
+    nodes: &mut Items<NodeAddr>,
+    more: &[NodeAddr],
+) -> Result<(), AllocError>
+    ensures { OnOk result (AreWithNew more.now nodes.old nodes.new) }
+{
+    for node in more {
+        push_new(alloc, nodes, node)?;
+    }
+    Ok(())
 }
 
 /// Adds the primary of a range, if it has one that isn't among these.

@@ -1,11 +1,14 @@
 //! Several commands over the nodes of a cluster, and commands whose keys are in several slots.
 
-ghost use Rattle.std.specs.Prelude.{◌≡◌, true, Err, IfOk};
-ghost use Rattle.resp_cluster.specs.Spread.{AreDestinations, IsDestination, IsPlaceAmong};
+ghost use Rattle.std.specs.Prelude.{◌≡◌, ◌≢◌, true, false, IfErr, IfOk};
+ghost use Rattle.resp_errors.specs.declared.redis_error.RedisError.TheVariants as form;
 ghost use Rattle.resp_routing.specs.Commands.{words};
-ghost use Rattle.resp_cluster.specs.Spread.{IsPartsOf, SplitCall, SpreadCall, SpreadQuery, one_node};
+ghost use Rattle.resp_cluster.specs.Spread.{AreDestinations, HasNoDestination, IsDestination};
+ghost use Rattle.resp_cluster.specs.Spread.{IsPartsOf, IsPlaceAmong, OneHasNone, SplitCall};
+ghost use Rattle.resp_cluster.specs.Spread.{SpreadCall, SpreadQuery, SpreadRefused};
+ghost use Rattle.resp_cluster.specs.Transactions.{TransactionQuery};
 
-use super::{ClusterLink, answer_of, route_for};
+use super::{ClusterLink, answer_of, no_node, route_for};
 use crate::gather::{SendGroups, follow_each, gather};
 use crate::links::{Nodes, Sent};
 use crate::merge::merged;
@@ -16,7 +19,7 @@ use resp_command::Cmd;
 use resp_from::FromRedisValue;
 use resp_pipeline::Pipeline;
 use resp_routing::{RoutingError, args_of, command_info};
-use resp_value::{ErrorKind, RedisError, RedisResult, Value};
+use resp_value::{RedisResult, Value};
 use std::alloc::{AllocError, Global};
 
 impl<N: Nodes> ClusterLink<N> {
@@ -28,8 +31,10 @@ impl<N: Nodes> ClusterLink<N> {
     /// or a call over its link fails, the error is answered: the commands of the nodes before it have
     /// run.
     pub fn req_commands(&mut self, commands: &[Cmd]) -> RedisResult<Vec<Value>>
-        ensures { IfOk result (λ answers. SpreadCall N.Link.connection commands.now self.old
+        ensures spread { IfOk result (λ answers. SpreadCall N.Link.connection commands.now self.old
             answers.items self.new) }
+        ensures refused { IfErr result (SpreadRefused N.Link.connection commands.now self.old
+            self.new) }
     {
         self.make_ready();
         let (nodes, targets) = self.destinations(commands)?;
@@ -43,23 +48,24 @@ impl<N: Nodes> ClusterLink<N> {
     /// Sends a pipeline over the nodes that its commands go to, and converts their replies as
     /// [`Pipeline::query`] does.
     ///
-    /// A transaction is refused unsent, with kind `Client`: it belongs to one node, over whose link
-    /// [`Pipeline::query`] sends it ([`ClusterLink::link_to`]). Fails as [`ClusterLink::req_commands`]
-    /// and [`Pipeline::query`] do.
+    /// A transaction is sent to one node by [`Pipeline::query`]: that of the slot that its keys are in,
+    /// or of the link that was used last where it has none. It is refused unsent with `CROSSSLOT` where
+    /// its keys are in several slots, and where [`ClusterLink::req_routed`] refuses one of its commands.
+    /// One that a node redirects is aborted as a whole, and not sent again: the map is asked for before
+    /// the next command.
+    ///
+    /// Fails as [`ClusterLink::req_commands`] and [`Pipeline::query`] do.
     pub fn query_pipeline<T: FromRedisValue>(&mut self, pipeline: &Pipeline) -> RedisResult<T>
-        ensures spread { SpreadQuery N.Link.connection pipeline.now T.of_value self.old self.new
-            result }
-        ensures transaction { pipeline.now.atomic ≡ true → (result ≡ Err one_node)
-            × (self.new ≡ self.old) }
+        ensures spread { pipeline.now.atomic ≡ false → SpreadQuery N.Link.connection pipeline.now
+            T.of_value self.old self.new result }
+        ensures transaction { pipeline.now.atomic ≡ true → TransactionQuery N.Link.connection
+            pipeline.now T.of_value self.old self.new result }
     {
         if pipeline.is_transaction() {
-            return Err(RedisError::from((
-                ErrorKind::Client,
-                "a transaction goes to one node: use link_to",
-            )));
+            return self.query_transaction(pipeline);
         }
         let answers = self.req_commands(pipeline.commands())?;
-        pipeline.compose(answers)
+        pipeline.outcome(answers)
     }
 
     /// Sends a command whose keys may be in several slots as one command for each slot, as
@@ -85,8 +91,9 @@ impl<N: Nodes> ClusterLink<N> {
 
     /// The nodes that commands are sent to first, each once, and for each command the place of its node.
     fn destinations(&self, commands: &[Cmd]) -> RedisResult<(Vec<NodeAddr>, Vec<usize>)>
-        ensures { IfOk result (λ found. AreDestinations self.now commands.now found.0.items
+        ensures found { IfOk result (λ found. AreDestinations self.now commands.now found.0.items
             found.1.items) }
+        ensures none { IfErr result (λ e. e ≢ form.OutOfMemory → OneHasNone self.now commands.now e) }
     {
         let mut nodes = Vec::new(self.alloc);
         let mut targets = Vec::with_capacity(self.alloc, commands.len())?;
@@ -99,15 +106,14 @@ impl<N: Nodes> ClusterLink<N> {
 
     /// The node that a command is sent to first.
     fn destination(&self, command: &Cmd) -> RedisResult<NodeAddr>
-        ensures { IfOk result (IsDestination self.now command.now) }
+        ensures found { IfOk result (IsDestination self.now command.now) }
+        ensures none { IfErr result (λ e. e ≢ form.OutOfMemory
+            → HasNoDestination self.now command.now e) }
     {
         let route = route_for(self.alloc, command)?;
-        match self.first_node(&route) {
+        match self.first_node(&route, command)? {
             Some(node) => Ok(node.try_clone(self.alloc)?),
-            None => Err(RedisError::from((
-                ErrorKind::ClusterConnectionNotFound,
-                "the map has no node for the command",
-            ))),
+            None => Err(no_node()),
         }
     }
 }

@@ -1,0 +1,150 @@
+//! A command that goes to several nodes of a cluster.
+
+ghost use Rattle.std.specs.Prelude.{◌≡◌, IfOk, length, replicate};
+ghost use Rattle.std.specs.List.{range_with_len};
+ghost use Rattle.resp_cluster.specs.FannedOut.{AreNamed, Combines, FanOutCall, FansOut};
+ghost use Rattle.resp_cluster.specs.Gathered.{Gathered};
+ghost use Rattle.resp_cluster.specs.Spread.{SendsGroup};
+
+use super::ClusterLink;
+use crate::gather::gather;
+use crate::links::Nodes;
+use crate::merge::{joined, sum_of, unexpected, without_errors};
+use crate::node::NodeAddr;
+use crate::slot_map::SlotMap;
+use resp_command::Cmd;
+use resp_containers::Items;
+use resp_routing::{RequestPolicy, ResponsePolicy, Route, args_of, command_info, route_of};
+use resp_value::{ErrorKind, RedisError, RedisResult, Value};
+use std::alloc::{AllocError, Global};
+
+/// The policies of a command that goes to several nodes.
+#[derive(Drop)]
+struct Policies {
+    to: RequestPolicy,
+    makes: Option<ResponsePolicy>,
+}
+
+impl<N: Nodes> ClusterLink<N> {
+    /// Sends a command without keys to each node that the server's request policy for it names, all
+    /// primaries or all nodes, one after the other, and answers what their replies make by its
+    /// [`ResponsePolicy`]:
+    ///
+    /// - `AllSucceeded`, as of `FLUSHALL`, `SCRIPT LOAD` and `CONFIG SET`: the first reply;
+    /// - `AggSum`, as of `DBSIZE`: the sum;
+    /// - none, as of `KEYS`: one array of the items of all, where a reply that is no array is an item.
+    ///
+    /// A server's error among the replies is answered as the error; other nodes have run the command
+    /// then. Where a node isn't reached or a call over its link fails, the error is answered: the
+    /// nodes before it have run the command. Refused unsent, with kind `Client`: a command that goes
+    /// to one node, and one whose replies are combined otherwise (`INFO`, `WAIT`, `SCRIPT EXISTS`),
+    /// which [`ClusterLink::link_to`] sends to a node.
+    pub fn req_fan_out(&mut self, command: &Cmd) -> RedisResult<Value>
+        ensures { IfOk result (λ answer. FanOutCall N.Link.connection command.now self.old answer
+            self.new) }
+    {
+        let policies = policies_of(self.alloc, command)?;
+        self.make_ready();
+        let nodes = self.map.named_by(self.alloc, &policies.to)?;
+        let replies = self.send_to_each(nodes.as_slice(), command)?;
+        let answer = combined(self.alloc, &policies.makes, replies)?;
+        Ok(answer)
+    }
+
+    /// Sends a command to each of these nodes, one after the other.
+    fn send_to_each(&mut self, nodes: &[NodeAddr], command: &Cmd) -> RedisResult<Vec<Value>>
+        ensures { IfOk result (λ replies. Gathered (SendsGroup N.Link.connection)
+            (replicate (length nodes.now) command.now) (range_with_len 0 (length nodes.now)) nodes.now
+            self.old replies.items self.new) }
+    {
+        let alloc = self.alloc;
+        let commands = copies(alloc, command, nodes.len())?;
+        let places = places(alloc, nodes.len())?;
+        let replies = gather(alloc, self, nodes, commands.as_slice(), places.as_slice())?;
+        Ok(replies)
+    }
+}
+
+impl SlotMap {
+    /// The nodes that a request policy names.
+    fn named_by(&self, alloc: Global, to: &RequestPolicy) -> RedisResult<Items<NodeAddr>>
+        ensures { IfOk result (AreNamed to.now self.now) }
+    {
+        match to {
+            RequestPolicy::AllShards => Ok(self.primaries(alloc)?),
+            RequestPolicy::AllNodes => Ok(self.nodes(alloc)?),
+            RequestPolicy::MultiShard | RequestPolicy::Special => Err(not_several()),
+        }
+    }
+}
+
+/// The policies of a command that goes to several nodes, and whose replies are combined here.
+fn policies_of(alloc: Global, command: &Cmd) -> RedisResult<Policies>
+    ensures { IfOk result (λ policies. FansOut command.now policies.to policies.makes) }
+{
+    let args = args_of(alloc, command, b"0")?;
+    let words = args.as_slice();
+    let route = match route_of(alloc, words) {
+        Ok(route) => route,
+        Err(refusal) => return Err(refusal.to_redis_error(alloc)?),
+    };
+    let Some(info) = command_info(words) else {
+        return Err(not_several());
+    };
+    match (route, info.response_policy) {
+        (
+            Route::Keyless(Some(to)),
+            makes @ (None | Some(ResponsePolicy::AllSucceeded | ResponsePolicy::AggSum)),
+        ) => Ok(Policies { to, makes }),
+        _ => Err(not_several()),
+    }
+}
+
+fn not_several() -> RedisError {
+    RedisError::from((
+        ErrorKind::Client,
+        "the command isn't sent to several nodes: use link_to",
+    ))
+}
+
+/// What replies make by a response policy.
+fn combined(
+    alloc: Global,
+    makes: &Option<ResponsePolicy>,
+    replies: Vec<Value>,
+) -> RedisResult<Value>
+    ensures { IfOk result (Combines makes.now replies.items) }
+{
+    let replies = without_errors(alloc, replies)?;
+    match makes {
+        None => joined(alloc, replies),
+        Some(ResponsePolicy::AllSucceeded) => match replies.into_iter().next() {
+            Some(first) => Ok(first),
+            None => Err(unexpected()),
+        },
+        Some(ResponsePolicy::AggSum) => sum_of(replies.as_slice()),
+        Some(_) => Err(unexpected()),
+    }
+}
+
+/// So many equal commands.
+fn copies(alloc: Global, command: &Cmd, count: usize) -> Result<Vec<Cmd>, AllocError>
+    ensures { IfOk result (λ commands. commands.items ≡ replicate count command.now) }
+{
+    let mut commands = Vec::with_capacity(alloc, count)?;
+    for made in 0..count {
+        commands.push(command.try_clone()?)?;
+    }
+    Ok(commands)
+}
+
+/// The numbers below this one.
+fn places(alloc: Global, count: usize) -> Result<Vec<usize>, AllocError>
+    ensures { IfOk result (λ places. places.items ≡ range_with_len 0 count) }
+{
+    let mut places = Vec::with_capacity(alloc, count)?;
+    for place in 0..count {
+        places.push(place)?;
+    }
+    Ok(places)
+}
