@@ -1,4 +1,6 @@
 pub mod Appending
+pub mod FirstKey
+pub mod InPlace
 pub mod OneSlot
 pub mod OneTag
 pub mod Remainders

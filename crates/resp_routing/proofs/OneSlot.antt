@@ -53,6 +53,9 @@ add_key keys (Some other) key slot held is same = record {
   all = All-append (λ k. IsSlot k slot) keys (key ∷ []) (rw same at held.all) (one_key (λ k. IsSlot k slot) key is);
 }
 
+pub one_in_slot : (key : List ℕ) (slot : ℕ) → IsSlot key slot → InOneSlot (key ∷ []) slot
+one_in_slot key slot is = record { some = added [] key; all = one_key (λ k. IsSlot k slot) key is }
+
 head_there : (x : List ℕ) (xs : Args) → Contains (x ∷ xs) x
 head_there x xs = (0, omega arith, refl)
 

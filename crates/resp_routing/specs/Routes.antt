@@ -1,5 +1,5 @@
 -- Where a command goes.
-use Rattle.std.specs.Prelude.{◌≡◌, ◌≢◌, ◌⊎◌, ℕ, Bool, true, false, List, [], All, Contains, Option, None, Some, option_map}
+use Rattle.std.specs.Prelude.{◌≡◌, ◌≢◌, ◌⊎◌, ℕ, Bool, true, false, List, [], ◌∷◌, All, Contains, Option, None, Some, option_map}
 use Rattle.std.specs.Prelude.{Result, Ok, Err, IsOkAnd, length, slice_get, if◌then◌else◌}
 use Rattle.std.specs.List.{filter_map}
 use Rattle.std.specs.Option.{option_map_or}
@@ -30,6 +30,12 @@ args_at args positions = filter_map (slice_get args) positions
 abbrev pub hashed_args : Positions → Args → Result Args RoutingError
 hashed_args (Ok positions) args = Ok (args_at args positions)
 hashed_args (Err e) args = Err e
+
+-- a command with such keys has one alone, its first argument after the name
+abbrev pub IsFirstKey : Keys → Type 0
+IsFirstKey keys =
+    (name key : List ℕ) (rest : Args)
+    → hashed_args (hashed_in keys (name ∷ key ∷ rest)) (name ∷ key ∷ rest) ≡ Ok (key ∷ [])
 
 -- of a command with this row
 abbrev pub hashed_by : Option CommandInfo → Args → Result Args RoutingError

@@ -20,8 +20,8 @@ pub fn args_of<'a>(
     ensures plain { command.now.cursors ≡ [] → IfOk result (λ args. words args.items
         ≡ command.now.args) }
 {
-    let mut args = Vec::new(alloc);
     let mut shown = command.args_iter();
+    let mut args = Vec::with_capacity(alloc, shown.len())?;
     while let Some(arg) = shown.next() {
         args.push(bytes_of(arg, cursor))?;
     }
@@ -29,7 +29,7 @@ pub fn args_of<'a>(
 }
 
 /// The bytes of an argument.
-fn bytes_of<'a>(arg: Arg<&'a [u8]>, cursor: &'a [u8]) -> &'a [u8]
+pub(crate) fn bytes_of<'a>(arg: Arg<&'a [u8]>, cursor: &'a [u8]) -> &'a [u8]
     ensures { result.now ≡ bytes_of cursor.now (referent arg.entry) }
 {
     match arg {

@@ -3,18 +3,21 @@
 
 mod checksum;
 mod command_args;
+mod command_route;
 mod commands;
 mod equality;
 mod errors;
 mod keys;
 pub mod laws;
 mod lookup;
+mod places;
 mod routes;
 mod slots;
 mod table;
 
 pub use checksum::crc16;
 pub use command_args::args_of;
+pub use command_route::route_of_cmd;
 pub use commands::{
     Access, Arity, BeginSearch, CommandInfo, FindKeys, KeySpec, Keys, Keyword, RequestPolicy,
     ResponsePolicy,

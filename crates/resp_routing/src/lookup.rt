@@ -1,13 +1,14 @@
 //! Finding a command in the table.
 
-ghost use Rattle.std.specs.Prelude.{◌≡◌, IsTrue, false, not};
+ghost use Rattle.std.specs.Prelude.{◌≡◌, true};
 ghost use Rattle.std.specs.List.{find};
 ghost use Rattle.std.specs.Option.{option_copied};
-ghost use Rattle.std.specs.Str.{str_eq_ignore_ascii_case};
 ghost use Rattle.resp_routing.specs.Commands.{command_in, command_of, is_named, takes, unpadded};
 ghost use Rattle.resp_routing.specs.Commands.{words};
+ghost use Rattle.resp_routing.specs.Places.{are_in_place};
 
 use crate::commands::{Arity, CommandInfo, Keys};
+use crate::places::place_of;
 use crate::table::COMMANDS;
 
 /// What is known of a command, given its arguments, the name first; None of one that [`COMMANDS`]
@@ -24,6 +25,7 @@ pub fn command_info(args: &[&[u8]]) -> Option<&'static CommandInfo>
 /// The row of a command in this table.
 #[tactic(auto, unfolding(crate::specs::Commands::command_in))]
 fn info_in(table: &'static [CommandInfo], args: &[&[u8]]) -> Option<&'static CommandInfo>
+    requires { are_in_place 0 table.now ≡ true }
     ensures { option_copied result ≡ command_in table.now (words args.now) }
 {
     let [name, rest @ ..] = args else {
@@ -42,33 +44,23 @@ fn row_named(
     name: &[u8],
     subcommand: &[u8],
 ) -> Option<&'static CommandInfo>
+    requires { are_in_place 0 table.now ≡ true }
     ensures { option_copied result ≡ find (is_named name.now subcommand.now) table.now }
 {
-    for row in table {
-        if row.is_named(name, subcommand) {
-            return Some(row);
-        }
+    let row = table.get(place_of(name, subcommand))?;
+    if row.is_named(name, subcommand) {
+        Some(row)
+    } else {
+        None
     }
-    None
 }
 
 impl CommandInfo {
     fn is_named(&self, name: &[u8], subcommand: &[u8]) -> bool
         ensures { result ≡ is_named name.now subcommand.now self.now }
     {
-        may_be(&self.name, name)
-            && without_padding(&self.name).eq_ignore_ascii_case(name)
+        without_padding(&self.name).eq_ignore_ascii_case(name)
             && without_padding(&self.subcommand).eq_ignore_ascii_case(subcommand)
-    }
-}
-
-/// Whether the padded name may be this one, by its first byte: most rows are passed over by that.
-fn may_be(padded: &[u8], name: &[u8]) -> bool
-    ensures { IsTrue (not result) → str_eq_ignore_ascii_case (unpadded padded.now) name.now ≡ false }
-{
-    match (padded.first(), name.first()) {
-        (Some(one), Some(other)) => one.eq_ignore_ascii_case(other),
-        _ => true,
     }
 }
 

@@ -1,12 +1,12 @@
 //! Where a command goes.
 
-ghost use Rattle.std.specs.Prelude.{◌≡◌, ◌≢◌, ⊤, IfOk, IfErr, IsSomeAnd, MatchOption};
+ghost use Rattle.std.specs.Prelude.{◌≡◌, ◌≢◌, ⊤, IfOk, IfErr, IsSomeAnd, IsTrue, MatchOption};
 ghost use Rattle.resp_routing.specs.Commands.{words};
 ghost use Rattle.resp_routing.specs.Keys.{Adds};
-ghost use Rattle.resp_routing.specs.Routes.{AreApart, HasNoRoute, IsCommon, IsRoute, args_at};
-ghost use Rattle.resp_routing.specs.Routes.{hashed_in, is_readonly, reads};
+ghost use Rattle.resp_routing.specs.Routes.{AreApart, HasNoRoute, IsCommon, IsFirstKey, IsRoute};
+ghost use Rattle.resp_routing.specs.Routes.{args_at, hashed_in, is_readonly, reads};
 
-use crate::commands::{Access, Keys, RequestPolicy};
+use crate::commands::{Access, BeginSearch, FindKeys, Keys, RequestPolicy};
 use crate::errors::RoutingError;
 use crate::lookup::command_info;
 use crate::slots::get_slot;
@@ -36,6 +36,11 @@ pub fn route_of(alloc: Global, args: &[&[u8]]) -> Result<Route, RoutingError>
     };
     if !command.fits(args.len()) {
         return Err(RoutingError::WrongArity);
+    }
+    if let [_, key, ..] = args
+        && command.keys.is_first()
+    {
+        return Ok(Route::Slot(get_slot(key)));
     }
     let mut positions = Vec::new(alloc);
     command.keys.push_hashed(args, &mut positions)?;
@@ -68,6 +73,16 @@ impl Access {
 }
 
 impl Keys {
+    /// Whether a command with such keys has one alone, its first argument after the name.
+    pub(crate) fn is_first(&self) -> bool
+        ensures { IsTrue result → IsFirstKey self.now }
+    {
+        match self {
+            Keys::One(spec) => spec.begin.is_first() && spec.find.is_one(),
+            _ => false,
+        }
+    }
+
     /// Appends the positions of what the slot is computed of.
     #[tactic(auto, unfolding(crate::specs::Routes::hashed_in))]
     fn push_hashed(&self, args: &[&[u8]], positions: &mut Vec<usize>) -> Result<(), RoutingError>
@@ -77,6 +92,30 @@ impl Keys {
         match self {
             Keys::Channels(channels) => channels.push_keys(args, positions),
             keys => keys.push_keys(args, positions),
+        }
+    }
+}
+
+impl BeginSearch {
+    /// Whether that is the first argument after the name.
+    fn is_first(&self) -> bool
+        ensures { IsTrue result → self.now ≡ BeginSearch.Index 1 }
+    {
+        match self {
+            BeginSearch::Index(place) => *place == 1,
+            _ => false,
+        }
+    }
+}
+
+impl FindKeys {
+    /// Whether that is one key.
+    fn is_one(&self) -> bool
+        ensures { IsTrue result → self.now ≡ FindKeys.First 1 }
+    {
+        match self {
+            FindKeys::First(count) => *count == 1,
+            _ => false,
         }
     }
 }
