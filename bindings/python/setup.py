@@ -41,7 +41,7 @@ def extension():
         include_dirs=["native"],
         depends=["extension/fast.h", "native/resp_c.h", "native/libresp_c.a"],
         define_macros=[("Py_LIMITED_API", "0x03090000")],
-        extra_compile_args=["-std=c11", "-O2", "-g0", "-Wall", "-Wextra"],
+        extra_compile_args=["-std=c11", "-O2", "-g0", "-fvisibility=hidden", "-Wall", "-Wextra"],
         extra_link_args=LINKED,
         py_limited_api=True,
     )

@@ -50,19 +50,33 @@ static PyObject *raise_fault(resp_parser *parser, const size_t *at)
     return NULL;
 }
 
-static PyObject *value_of(const resp_view *view)
+static PyObject *make_value(const resp_view *view)
 {
-    const resp_token *token = view->tokens;
     struct maker maker = {.token = view->tokens,
                           .text = (const char *)view->text,
                           .leaf = parser_leaf,
                           .aggregate = parser_aggregate,
                           .texts_are_bytes = 1};
 
-    /* The usual reply, without a call that chooses what it is. */
-    if (token->kind == RESP_BULK_STRING)
-        return PyBytes_FromStringAndSize((const char *)view->text, (Py_ssize_t)token->size);
     return make(&maker);
+}
+
+/* The value of a view: the usual ones without calls that choose which it is. */
+static inline PyObject *value_of(const resp_view *view)
+{
+    const resp_token *token = view->tokens;
+
+    switch (token->kind) {
+    case RESP_BULK_STRING:
+        return PyBytes_FromStringAndSize((const char *)view->text, (Py_ssize_t)token->size);
+    case RESP_OKAY:
+        Py_INCREF(names.okay);
+        return names.okay;
+    case RESP_INT:
+        return PyLong_FromLongLong(token->number);
+    default:
+        return make_value(view);
+    }
 }
 
 /* The one argument of a call, by its place or as `data`; NULL with an exception. */

@@ -199,13 +199,20 @@ static PyObject *make_alone(struct reader *it, const resp_view *view, int texts_
     return value;
 }
 
-static PyObject *value_of(struct reader *it, const resp_view *view, int decodes)
+/* The value of a view: the usual ones without calls that choose which it is. */
+static inline PyObject *value_of(struct reader *it, const resp_view *view, int decodes)
 {
+    const resp_token *token = view->tokens;
     int texts_are_bytes = it->texts_are_bytes || !decodes;
 
-    /* The usual reply, without a call that chooses what it is. */
-    if (view->tokens->kind == RESP_BULK_STRING && texts_are_bytes)
-        return PyBytes_FromStringAndSize((const char *)view->text, (Py_ssize_t)view->tokens->size);
+    if (token->kind == RESP_INT)
+        return PyLong_FromLongLong(token->number);
+    if (token->kind == RESP_BULK_STRING && texts_are_bytes)
+        return PyBytes_FromStringAndSize((const char *)view->text, (Py_ssize_t)token->size);
+    if (token->kind == RESP_OKAY && texts_are_bytes) {
+        Py_INCREF(names.okay_bytes);
+        return names.okay_bytes;
+    }
     return make_alone(it, view, texts_are_bytes);
 }
 

@@ -23,23 +23,28 @@ PyObject *make(struct maker *it)
 PyObject *make_list(struct maker *it, size_t count)
 {
     PyObject *list = PyList_New((Py_ssize_t)count);
+    const resp_token *token = it->token;
+    const char *text = it->text;
+    int texts_are_bytes = it->texts_are_bytes;
 
     for (size_t i = 0; list != NULL && i < count; i++) {
-        const resp_token *token = it->token;
         PyObject *value;
 
         /* The usual element, without a call that chooses what it is. */
-        if (token->kind == RESP_BULK_STRING && it->texts_are_bytes) {
-            it->token++;
-            value = PyBytes_FromStringAndSize(it->text + token->start, (Py_ssize_t)token->size);
+        if (token->kind == RESP_BULK_STRING && texts_are_bytes) {
+            value = PyBytes_FromStringAndSize(text + token->start, (Py_ssize_t)token->size);
+            token++;
         } else {
+            it->token = token;
             value = make(it);
+            token = it->token;
         }
         if (value == NULL)
             Py_CLEAR(list);
         else
             PyList_SetItem(list, (Py_ssize_t)i, value);
     }
+    it->token = token;
     return list;
 }
 
