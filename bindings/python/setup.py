@@ -34,7 +34,7 @@ def fill_native():
 
 
 def extension():
-    names = ["core", "module", "pack", "reader", "values"]
+    names = ["core", "module", "pack", "reader", "source", "values"]
     return Extension(
         "resp_c._fast",
         sources=["native/resp_alloc.c", *(f"extension/{name}.c" for name in names)],

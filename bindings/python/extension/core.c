@@ -2,7 +2,7 @@
 #include "fast.h"
 
 struct core {
-    PyObject_HEAD resp_parser parser;
+    PyObject_HEAD struct source source;
     int busy; /* whether a call runs, during which what it was lent is read */
 };
 
@@ -104,7 +104,7 @@ static PyObject *core_feed(struct core *it, PyObject *const *args, Py_ssize_t co
         release(&lent);
         return NULL;
     }
-    status = resp_parser_feed(&it->parser, lent.bytes, (size_t)lent.size);
+    status = source_feed(&it->source, lent.owner, lent.bytes, (size_t)lent.size);
     end(it, NULL);
     release(&lent);
     return none_or_raise(status);
@@ -119,14 +119,14 @@ static PyObject *core_next(struct core *it, PyObject *const *args, Py_ssize_t co
         PyErr_SetString(PyExc_TypeError, "no argument is wanted");
     if (count > 0 || begin(it) < 0)
         return NULL;
-    switch (resp_parser_next(&it->parser, &view)) {
+    switch (source_next(&it->source, &view)) {
     case RESP_DONE:
         return end(it, value_of(&view));
     case RESP_MORE:
         Py_INCREF(names.more);
         return end(it, names.more);
     case RESP_FAULT:
-        return end(it, raise_fault(&it->parser, NULL));
+        return end(it, raise_fault(&it->source.parser, NULL));
     case RESP_MEMORY:
         return end(it, raise_status(RESP_MEMORY));
     case RESP_FAILED:
@@ -142,7 +142,7 @@ static PyObject *first(struct core *it, const struct lent *lent)
     resp_view view;
     size_t taken = 0;
     uint32_t status =
-        resp_parser_first(&it->parser, lent->bytes, (size_t)lent->size, &view, &taken);
+        resp_parser_first(&it->source.parser, lent->bytes, (size_t)lent->size, &view, &taken);
     PyObject *value;
 
     if (status == RESP_MORE) {
@@ -150,7 +150,7 @@ static PyObject *first(struct core *it, const struct lent *lent)
         return NULL;
     }
     if (status == RESP_FAULT)
-        return raise_fault(&it->parser, &taken);
+        return raise_fault(&it->source.parser, &taken);
     if (status != RESP_DONE)
         return raise_status(status);
     value = value_of(&view);
@@ -177,7 +177,7 @@ static PyObject *core_close(struct core *it, PyObject *unused)
     (void)unused;
     if (begin(it) < 0)
         return NULL;
-    resp_parser_close(&it->parser);
+    source_close(&it->source);
     return end(it, none_or_raise(RESP_DONE));
 }
 
@@ -186,7 +186,7 @@ static PyObject *core_state(struct core *it, PyObject *unused)
     (void)unused;
     if (begin(it) < 0)
         return NULL;
-    return end(it, PyLong_FromUnsignedLong(resp_parser_state(&it->parser)));
+    return end(it, PyLong_FromUnsignedLong(source_state(&it->source)));
 }
 
 static int core_init(struct core *it, PyObject *args, PyObject *keywords)
@@ -197,7 +197,9 @@ static int core_init(struct core *it, PyObject *args, PyObject *keywords)
 
     if (!PyArg_ParseTupleAndKeywords(args, keywords, "nn", places, &depth, &size) || begin(it) < 0)
         return -1;
-    status = resp_parser_open_within(&it->parser, (size_t)depth, (size_t)size);
+    status = resp_parser_open_within(&it->source.parser, (size_t)depth, (size_t)size);
+    if (status == RESP_DONE)
+        Py_CLEAR(it->source.owner);
     end(it, NULL);
     if (status != RESP_DONE)
         raise_status(status);
@@ -209,14 +211,15 @@ static void core_dealloc(struct core *it)
     PyTypeObject *type = Py_TYPE(it);
     freefunc release_object = (freefunc)PyType_GetSlot(type, Py_tp_free);
 
-    resp_parser_close(&it->parser);
+    source_close(&it->source);
     release_object(it);
     Py_DECREF(type);
 }
 
 static PyMethodDef methods[] = {
     {"feed", (PyCFunction)(void (*)(void))core_feed, METH_FASTCALL | METH_KEYWORDS,
-     "feed($self, data)\n--\n\nAdds bytes. They are copied."},
+     "feed($self, data)\n--\n\n"
+     "Adds bytes. They are copied; of a large `bytes` object some only once they are needed."},
     {"next", (PyCFunction)(void (*)(void))core_next, METH_FASTCALL,
      "next($self)\n--\n\nTakes the next value; MORE where more bytes are needed."},
     {"first", (PyCFunction)(void (*)(void))core_first, METH_FASTCALL | METH_KEYWORDS,

@@ -65,6 +65,35 @@ struct lent {
 int lend(PyObject *object, struct lent *lent);
 void release(struct lent *lent);
 
+/* A parser, and bytes of a large object that it wasn't fed yet. Where the ones before them begin a
+ * long string, they go straight to where the parser collects it, without a copy in between. */
+struct source {
+    resp_parser parser;
+    PyObject *owner; /* bytes, which can't change; NULL where all were fed */
+    const uint8_t *rest;
+    size_t rest_size;
+};
+
+/* Feeds bytes of an object, or keeps them and the object for `source_next`. */
+uint32_t source_feed(struct source *it, PyObject *owner, const uint8_t *bytes, size_t size);
+
+/* Feeds the bytes that were kept, and takes the next value. */
+uint32_t source_go_on(struct source *it, resp_view *view);
+
+/* Takes the next value. */
+static inline uint32_t source_next(struct source *it, resp_view *view)
+{
+    uint32_t status = resp_parser_next(&it->parser, view);
+
+    return status != RESP_MORE || it->owner == NULL ? status : source_go_on(it, view);
+}
+
+/* One of enum resp_state. */
+uint32_t source_state(struct source *it);
+
+/* Closes the parser, and drops what was kept. */
+void source_close(struct source *it);
+
 /* Raises the exception of a status other than RESP_DONE, RESP_MORE and RESP_FAULT; returns NULL. */
 PyObject *raise_status(uint32_t status);
 

@@ -4,7 +4,7 @@
 #include <string.h>
 
 struct reader {
-    PyObject_HEAD resp_parser parser;
+    PyObject_HEAD struct source source;
     int busy;
     size_t fed;               /* bytes that were fed since the parser last held none */
     PyObject *protocol_error; /* functions of a text */
@@ -99,8 +99,10 @@ static int reader_init(struct reader *it, PyObject *args, PyObject *keywords)
     it->sets_are_lists = sets_are_lists;
     it->most = MOST;
     it->fed = 0;
-    if (resp_parser_open(&it->parser) == RESP_DONE)
+    if (resp_parser_open(&it->source.parser) == RESP_DONE) {
+        Py_CLEAR(it->source.owner);
         return 0;
+    }
     PyErr_NoMemory();
     return -1;
 }
@@ -122,9 +124,9 @@ static PyObject *feed(struct reader *it, const struct lent *lent, Py_ssize_t fro
     }
     if (is_used(it))
         return NULL;
-    if (resp_parser_state(&it->parser) == RESP_STATE_BETWEEN_VALUES)
+    if (source_state(&it->source) == RESP_STATE_BETWEEN_VALUES)
         it->fed = 0;
-    status = resp_parser_feed(&it->parser, lent->bytes + from, (size_t)size);
+    status = source_feed(&it->source, lent->owner, lent->bytes + from, (size_t)size);
     if (status == RESP_DONE)
         it->fed += (size_t)size;
     else if (status != RESP_FAILED)
@@ -161,7 +163,7 @@ static PyObject *reader_feed(struct reader *it, PyObject *const *args, Py_ssize_
 static PyObject *raise_protocol_error(struct reader *it)
 {
     size_t offset;
-    uint32_t fault = resp_parser_fault(&it->parser, &offset);
+    uint32_t fault = resp_parser_fault(&it->source.parser, &offset);
     PyObject *name = PyObject_CallFunction(names.fault, "I", (unsigned)fault);
     PyObject *shown = name != NULL ? PyObject_GetAttrString(name, "name") : NULL;
     PyObject *text = NULL, *error = NULL;
@@ -227,7 +229,7 @@ static PyObject *reader_gets(struct reader *it, PyObject *const *args, Py_ssize_
     }
     if (decodes < 0 || is_used(it))
         return NULL;
-    switch (resp_parser_next(&it->parser, &view)) {
+    switch (source_next(&it->source, &view)) {
     case RESP_DONE:
         return value_of(it, &view, decodes);
     case RESP_MORE:
@@ -246,13 +248,13 @@ static PyObject *reader_gets(struct reader *it, PyObject *const *args, Py_ssize_
 static PyObject *reader_has_data(struct reader *it, PyObject *unused)
 {
     (void)unused;
-    return PyBool_FromLong(resp_parser_state(&it->parser) == RESP_STATE_IN_PROGRESS);
+    return PyBool_FromLong(source_state(&it->source) == RESP_STATE_IN_PROGRESS);
 }
 
 static PyObject *reader_len(struct reader *it, PyObject *unused)
 {
     (void)unused;
-    return PyLong_FromSize_t(resp_parser_state(&it->parser) == RESP_STATE_IN_PROGRESS ? it->fed
+    return PyLong_FromSize_t(source_state(&it->source) == RESP_STATE_IN_PROGRESS ? it->fed
                                                                                       : 0);
 }
 
@@ -301,7 +303,7 @@ static int reader_traverse(struct reader *it, visitproc visit, void *arg)
 /* Closes the parser, too: later calls find none open, and use nothing of what is gone. */
 static int reader_clear(struct reader *it)
 {
-    resp_parser_close(&it->parser);
+    source_close(&it->source);
     Py_CLEAR(it->protocol_error);
     Py_CLEAR(it->reply_error);
     Py_CLEAR(it->not_enough_data);

@@ -162,6 +162,20 @@ class Feeding(unittest.TestCase):
         reader.gets()
         self.assertEqual((reader.has_data(), reader.len()), (False, 0))
 
+    def test_large_pieces(self):
+        body = bytes(range(256)) * 400
+        sent = b"$102400\r\n" + body + b"\r\n"
+        reader = hiredis.Reader()
+        reader.feed(b":1\r\n" + sent + b":2\r\n", 4)
+        self.assertEqual((reader.has_data(), reader.len()), (True, len(sent) + 4))
+        self.assertEqual([reader.gets(), reader.gets(), reader.gets()], [body, 2, False])
+        self.assertEqual((reader.has_data(), reader.len()), (False, 0))
+        reader.feed(sent, 0, 90000)
+        self.assertIs(reader.gets(), False)
+        reader.feed(sent, 90000)
+        self.assertEqual((reader.has_data(), reader.len()), (True, len(sent)))
+        self.assertEqual(reader.gets(), body)
+
     def test_maxbuf(self):
         reader = hiredis.Reader()
         self.assertEqual(reader.getmaxbuf(), 16384)

@@ -65,6 +65,40 @@ class Feeding(unittest.TestCase):
             parser.feed(REPLY[cut:])
             self.assertEqual(parser.next(), VALUE)
 
+    def test_large_pieces(self):
+        body = bytes(range(256)) * 400
+        sent = b"$102400\r\n" + body + b"\r\n"
+        for cut in [0, 1, 9, 256, 300, 50000, len(sent)]:
+            parser = fed(sent[:cut])
+            parser.feed(sent[cut:] + b":1\r\n")
+            parser.feed(b":2\r\n")
+            self.assertIs(parser.state, State.IN_PROGRESS)
+            self.assertEqual(list(parser), [body, 1, 2])
+            self.assertIs(parser.state, State.BETWEEN_VALUES)
+
+    def test_many_values_in_a_large_piece(self):
+        parser = fed(b":1\r\n" * 20000)
+        self.assertEqual([parser.next() for _ in range(64)], [1] * 64)
+        self.assertIs(parser.state, State.IN_PROGRESS)
+        self.assertEqual(list(parser), [1] * 19936)
+
+    def test_a_large_piece_is_let_go(self):
+        for end in [Parser.close, lambda it: it.__init__(), lambda it: list(it)]:
+            piece = b":1\r\n" * 20000
+            before = sys.getrefcount(piece)
+            parser = fed(piece)
+            end(parser)
+            self.assertEqual(sys.getrefcount(piece), before)
+
+    def test_a_fault_in_a_large_piece(self):
+        for at in [0, 10, 300, 70000]:
+            parser = fed(b"+" + b"a" * at + b"\xff\r\n" + b":1\r\n" * 20000)
+            with self.assertRaises(ProtocolError) as raised:
+                parser.next()
+            self.assertEqual((raised.exception.fault, raised.exception.offset), (Fault.LINE_NOT_UTF8, at + 4))
+            with self.assertRaises(ParserFailedError):
+                parser.feed(b":1\r\n" * 20000)
+
     def test_kinds_of_bytes(self):
         parser = Parser()
         parser.feed(bytearray(b":1\r\n"))
@@ -255,12 +289,13 @@ class Lives(unittest.TestCase):
         program = """
             import pathlib
             import resource
+            import sys
             import resp_c
 
             def limit_to(size):
                 resource.setrlimit(resource.RLIMIT_AS, (size, resource.RLIM_INFINITY))
 
-            piece = b"x" * (1 << 26)
+            piece = bytearray(1 << 26)
             parser = resp_c.Parser()
             parser.feed(b"+O")
             pages = int(pathlib.Path("/proc/self/statm").read_text().split()[0])
@@ -276,6 +311,38 @@ class Lives(unittest.TestCase):
         run = [sys.executable, "-c", textwrap.dedent(program)]
         result = subprocess.run(run, capture_output=True, text=True, check=False)
         self.assertEqual(result.stdout, "refused\nOK\n", result.stderr)
+
+    def test_memory_that_runs_out_over_a_large_piece(self):
+        program = """
+            import pathlib
+            import resource
+            import resp_c
+
+            def limit_to(size):
+                resource.setrlimit(resource.RLIMIT_AS, (size, resource.RLIM_INFINITY))
+
+            def taken(parser, pieces):
+                while pieces:
+                    parser.feed(pieces[0])
+                    pieces.pop(0)
+                return parser.next()
+
+            pieces = [b"+" + b"x" * (1 << 26)]
+            parser = resp_c.Parser()
+            pages = int(pathlib.Path("/proc/self/statm").read_text().split()[0])
+            limit_to(pages * resource.getpagesize() + (1 << 24))
+            try:
+                taken(parser, pieces)
+            except MemoryError:
+                print("refused")
+            limit_to(resource.RLIM_INFINITY)
+            print(taken(parser, pieces) is resp_c.MORE)
+            parser.feed(b"y\\r\\n")
+            print(len(parser.next()) - (1 << 26))
+        """
+        run = [sys.executable, "-c", textwrap.dedent(program)]
+        result = subprocess.run(run, capture_output=True, text=True, check=False)
+        self.assertEqual(result.stdout, "refused\nTrue\n1\n", result.stderr)
 
     def test_the_version(self):
         project = pathlib.Path(__file__).resolve().parent.parent / "pyproject.toml"
