@@ -1,6 +1,7 @@
 -- What the calls of a parser mean for the session that holds it.
 use Rattle.std.proofs.Common.{◌≡◌, ◌≢◌, ◌⊎◌, ◌↔◌, ℕ, true, false, List, [], ◌∷◌, Option, Some, None, inl, Result, Ok}
-use Rattle.std.proofs.Common.{Err, is_err, IsSome, refl, sym, ap, subst, ◌∙◌, IfSome}
+use Rattle.std.proofs.Common.{Err, is_err, IsSome, refl, sym, ap, subst, ◌∙◌, IfSome, ◌+◌, ◌-◌, ◌++◌, length, arith}
+use Rattle.std.proofs.lemmas.List.{length-append}
 use Rattle.std.specs.Option.{unwrap_or}
 use Rattle.std.proofs.lemmas.Bool.{false_from_ne_true}
 use Rattle.resp_errors.specs.declared.kinds.FrameFault.{FrameFault}
@@ -8,12 +9,12 @@ use Rattle.resp_errors.specs.declared.parsing_error.ParsingError.TheVariants as 
 use Rattle.resp_errors.specs.declared.redis_error.RedisError.{RedisError}
 use Rattle.resp_errors.specs.declared.redis_error.RedisError.TheVariants as form
 use Rattle.resp_parse.specs.declared.limits.Limits.{Limits}
-use Rattle.resp_parse.specs.Limited.{HasFault, FaultShownAt}
+use Rattle.resp_parse.specs.Limited.{HasValue, HasFault, FaultShownAt, Awaits}
 use Rattle.resp_parse.specs.State.{State, StandsAfter, FailedAfter, HasOffset}
 use Rattle.resp_parse.specs.Calls.{CannotTake, Feeds}
 use Rattle.resp_c.specs.declared.session.Session.{Session}
 use Rattle.resp_c.proofs.Bools.{true_is_not_false}
-use Rattle.resp_c.specs.Sessions.{HasFailed, Works, Taken, FirstOf, status_of, with_fault}
+use Rattle.resp_c.specs.Sessions.{HasFailed, Works, Fed, Taken, FirstOf, status_of, with_fault}
 
 -- a parser that works stands after the bytes since its last value
 pub stands_now : (s : State) → s.failed ≡ false → StandsAfter s s.since
@@ -124,41 +125,54 @@ pub feed_refused : (s t : State) (bytes : List ℕ) (r : Result (Unit {0}) Redis
 feed_refused s t bytes (Ok u) w h e = absurd (true_is_not_false (sym e))
 feed_refused s t bytes (Err x) w h e = (h s.since (stands_now s w)).1
 
--- no place was told
-no_place : (o p : Option ℕ) (taken : ℕ) → o ≡ None → p ≡ o → taken ≡ unwrap_or p 0 → taken ≡ 0
-no_place o p taken none same is = is ∙ ap (λ (q : Option ℕ). unwrap_or q 0) (same ∙ none)
+-- after a feed that was done the parser stands after these bytes, too
+pub fed_stands : (bytes : List ℕ) (s t : Session) (status : ℕ) → Fed bytes s t status → status ≡ 1
+    → (b : List ℕ) → StandsAfter s.parser b → StandsAfter t.parser (b ++ bytes)
+fed_stands bytes s t status (Fed.done is w stands limits same) one = stands
+fed_stands bytes s t status (Fed.memory is w same) one = absurd (omega (arith, is, one))
+fed_stands bytes s t status (Fed.failed is w same) one = absurd (omega (arith, is, one))
 
--- why there is no value
-pub first_refused : (l : Limits) (bytes : List ℕ) (taken : ℕ) (m : Session) (e : RedisError) (o p : Option ℕ)
-    → CannotTake l bytes e → l ≡ m.parser.limits
-    → HasOffset e o → p ≡ o → IfSome p (FaultShownAt l bytes) → taken ≡ unwrap_or p 0
-    → FirstOf bytes taken (with_fault e taken m) (status_of e)
-first_refused l bytes taken m (form.Parse (parsing.Fault f)) o p h le some same shown is =
-    FirstOf.malformed refl f (subst (λ (n : Limits). HasFault n bytes f) le (has_fault l bytes f h)) refl
-    (subst (λ (n : Limits). FaultShownAt n bytes taken) le (shown_at l bytes taken o p some same shown is)) refl
-first_refused l bytes taken m (form.Parse (parsing.Described d)) o p h le none same shown is = FirstOf.memory refl
-    (no_place o p taken none same is)
-first_refused l bytes taken m (form.Parse parsing.OutOfMemory) o p h le none same shown is = FirstOf.memory refl
-    (no_place o p taken none same is)
-first_refused l bytes taken m (form.General k x d) o p h le none same shown is = FirstOf.memory refl
-    (no_place o p taken none same is)
-first_refused l bytes taken m (form.Io k) o p h le none same shown is = FirstOf.memory refl
-    (no_place o p taken none same is)
-first_refused l bytes taken m (form.Server e) o p h le none same shown is = FirstOf.memory refl
-    (no_place o p taken none same is)
-first_refused l bytes taken m (form.Pipeline es) o p h le none same shown is = FirstOf.memory refl
-    (no_place o p taken none same is)
-first_refused l bytes taken m (form.Aborted es) o p h le none same shown is = FirstOf.memory refl
-    (no_place o p taken none same is)
-first_refused l bytes taken m form.OutOfMemory o p h le none same shown is = FirstOf.memory refl
-    (no_place o p taken none same is)
+-- what a parser takes that held no bytes before these is what stands at their start
+pub first_taken : (bytes : List ℕ) (s t : Session) (taken status : ℕ) → StandsAfter s.parser bytes → Taken s t status
+    → (status ≡ 1 → taken ≡ length bytes - length t.parser.unparsed) → (status ≡ 2 → taken ≡ t.place)
+    → ((status ≡ 1 → ⊥) → (status ≡ 2 → ⊥) → taken ≡ 0) → FirstOf bytes taken t status
+first_taken bytes s t taken status stands (Taken.more is w h) counted shown none =
+    FirstOf.more is (h bytes stands).0 (none (λ e. omega (arith, is, e)) (λ e. omega (arith, is, e)))
+first_taken bytes s t taken status stands (Taken.value is w h) counted shown none =
+    let gives = h bytes stands in
+    let rest = t.parser.unparsed in
+    let spelled = gives.spelled in
+    let size : length bytes ≡ length spelled.prefix + length rest = ap length spelled.whole
+    ∙ length-append spelled.prefix rest in
+    FirstOf.value is (record {
+      value = gives.value;
+      rest = rest;
+      spelled = spelled;
+      reply = gives.reply;
+      taken_is = omega (arith, size, counted is);
+    })
+first_taken bytes s t taken status stands (Taken.malformed is w h) counted shown none =
+    let meets = h bytes stands in
+    FirstOf.malformed is meets.fault meets.shown meets.number
+    (subst (FaultShownAt t.parser.limits bytes) (sym (shown is)) meets.place) (sym (shown is))
+first_taken bytes s t taken status stands (Taken.memory is w failed h) counted shown none =
+    FirstOf.memory is (none (λ e. omega (arith, is, e)) (λ e. omega (arith, is, e)))
+first_taken bytes s t taken status stands (Taken.failed is failed same) counted shown none =
+    absurd (true_is_not_false (sym failed ∙ stands_works s.parser bytes stands))
 
--- the same after the session has noted it
-pub first_noted : (l : Limits) (bytes : List ℕ) (taken : ℕ) (m t : Session) (e : RedisError) (o p : Option ℕ)
-    (status : ℕ) → CannotTake l bytes e → l ≡ m.parser.limits
-    → HasOffset e o → p ≡ o → IfSome p (FaultShownAt l bytes) → taken ≡ unwrap_or p 0 → status ≡ status_of e
-    → t ≡ with_fault e taken m → FirstOf bytes taken t status
-first_noted l bytes taken m t e o p status h le some same shown is status_is noted =
-    subst (FirstOf bytes taken t) (sym status_is)
-    (subst (λ (u : Session). FirstOf bytes taken u (status_of e)) (sym noted)
-    (first_refused l bytes taken m e o p h le some same shown is))
+-- the same beside another parser with these limits
+pub first_beside : (bytes : List ℕ) (taken status : ℕ) (t : Session) (p : State) → p.limits ≡ t.parser.limits
+    → FirstOf bytes taken t status → FirstOf bytes taken (record t { parser = p }) status
+first_beside bytes taken status t p le (FirstOf.more is awaits none) = FirstOf.more is
+    (subst (λ (l : Limits). Awaits l bytes) (sym le) awaits) none
+first_beside bytes taken status t p le (FirstOf.value is gives) = FirstOf.value is (record {
+  value = gives.value;
+  rest = gives.rest;
+  spelled = subst (λ (l : Limits). HasValue l bytes gives.value gives.rest) (sym le) gives.spelled;
+  reply = gives.reply;
+  taken_is = gives.taken_is;
+})
+first_beside bytes taken status t p le (FirstOf.malformed is f has number shown place) = FirstOf.malformed is f
+    (subst (λ (l : Limits). HasFault l bytes f) (sym le) has) number
+    (subst (λ (l : Limits). FaultShownAt l bytes taken) (sym le) shown) place
+first_beside bytes taken status t p le (FirstOf.memory is none) = FirstOf.memory is none

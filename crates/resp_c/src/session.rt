@@ -11,6 +11,7 @@ use resp_flat::FlatReply;
 use resp_parse::{FlatParser, Limits};
 use resp_value::{FrameFault, ParsingError, RedisError, RedisResult};
 use std::alloc::Global;
+use std::mem;
 
 /// A parser, and the reply that it gave last.
 pub struct Session {
@@ -112,20 +113,37 @@ impl Session {
     {
         *taken = 0;
         self.reply.clear();
-        let Ok(mut parser) = parser_over(alloc, self.parser.limits(), bytes) else {
+        let Ok(parser) = FlatParser::with_limits(alloc, self.parser.limits()) else {
             return MEMORY;
         };
-        match parser.take_reply(&mut self.reply) {
-            Ok(true) => {
-                *taken = bytes.len() - parser.unparsed_len();
-                DONE
-            }
-            Ok(false) => MORE,
-            Err(error) => {
-                *taken = parser.fault_offset().unwrap_or(0);
-                self.note(&error, *taken)
-            }
+        let held = mem::replace(&mut self.parser, parser);
+        let status = self.take_first(bytes, taken);
+        self.parser = held;
+        status
+    }
+
+    /// The same by its own parser, which holds no bytes. `feed` and `next` alone call the parser's
+    /// `feed` and `take_reply`: LLVM inlines what is called in one place.
+    fn take_first(&mut self, bytes: &[u8], taken: &mut usize) -> u32
+        requires stands { StandsAfter self.old.parser [] }
+        requires reply { Holds self.old.reply [] [] }
+        requires taken { taken.old ≡ 0 }
+        ensures first { FirstOf bytes.now taken.new self.new result }
+        ensures empty { (result ≡ 1 → ⊥) → Holds self.new.reply [] [] }
+        ensures limits { self.new.parser.limits ≡ self.old.parser.limits }
+        ensures fault { (result ≡ 2 → ⊥) → (self.new.fault ≡ self.old.fault)
+            × (self.new.place ≡ self.old.place) }
+    {
+        if self.feed(bytes) != DONE {
+            return MEMORY;
         }
+        let status = self.next();
+        if status == DONE {
+            *taken = bytes.len() - self.parser.unparsed_len();
+        } else if status == FAULT {
+            *taken = self.place;
+        }
+        status
     }
 
     /// Keeps the number and the place of a fault; an error that is none is memory that ran out.
@@ -142,16 +160,6 @@ impl Session {
             _ => MEMORY,
         }
     }
-}
-
-/// A parser that holds these bytes.
-fn parser_over(alloc: Global, limits: Limits, bytes: &[u8]) -> RedisResult<FlatParser>
-    ensures limits { IfOk result (λ p. p.limits ≡ limits) }
-    ensures stands { IfOk result (λ p. StandsAfter p bytes.now) }
-{
-    let mut parser = FlatParser::with_limits(alloc, limits)?;
-    parser.feed(bytes)?;
-    Ok(parser)
 }
 
 /// The number of a fault.
