@@ -16,3 +16,4 @@ pub mod SoFar
 pub mod Splitting
 pub mod Spreading
 pub mod Told
+pub mod Transacting

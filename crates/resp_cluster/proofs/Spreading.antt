@@ -109,11 +109,11 @@ next_destination cluster commands at command nodes node nodes' place targets h w
 
 -- ---- a call that was made from these parts of a cluster
 
-or_true : (b : Bool) → true ≡ b || true
+pub or_true : (b : Bool) → true ≡ b || true
 or_true true = refl
 or_true false = refl
 
-or_false : (b : Bool) → b ≡ b || false
+pub or_false : (b : Bool) → b ≡ b || false
 or_false true = refl
 or_false false = refl
 

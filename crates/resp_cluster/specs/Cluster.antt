@@ -211,6 +211,7 @@ module _ {L : Type 0} (of_link : L → Connection) where
   pub record Opens (seeds : List NodeAddr) (budget : ℕ) (cluster : Cluster L) : Type 0 where
     pub asks : AsksInTurn seeds no_links cluster.links (Ok cluster.map)
     pub budget_is : cluster.budget ≡ budget
+    pub reads_are : cluster.reads ≡ Primary
     pub fresh : cluster.stale ≡ false
 
   -- none of these nodes gives one, and the last one does not for this reason

@@ -1,7 +1,9 @@
 -- Commands that change what a link is, and not what a cluster holds: after one, the next has to go over that link.
-use Rattle.std.specs.Prelude.{ℕ, ◌||◌, Bool, false, List, [], ◌∷◌, codes}
+use Rattle.std.specs.Prelude.{ℕ, ◌||◌, Bool, false, List, [], ◌∷◌, codes, map}
 use Rattle.std.specs.Str.{str_eq_ignore_ascii_case}
 use Rattle.resp_args.specs.Args.{Args}
+use Rattle.resp_command.specs.declared.args_iter.Arg.{Arg}
+use Rattle.resp_routing.specs.CommandArgs.{bytes_of}
 
 -- of transactions
 unfoldable pub is_of_transactions : List ℕ → Bool
@@ -29,7 +31,15 @@ is_of_sessions name =
     || str_eq_ignore_ascii_case name (codes "RESET")
     || str_eq_ignore_ascii_case name (codes "SELECT")
 
--- the first argument is such a name, in letters of either case
+-- such a name, in letters of either case
+abbrev pub is_link_name : List ℕ → Bool
+is_link_name name = is_of_transactions name || is_of_modes name || is_of_sessions name
+
+-- the first argument is one
 abbrev pub is_link_command : Args → Bool
 is_link_command [] = false
-is_link_command (name ∷ args) = is_of_transactions name || is_of_modes name || is_of_sessions name
+is_link_command (name ∷ args) = is_link_name name
+
+-- the bytes of arguments, where a cursor counts as 0
+abbrev pub as_bytes : List (Arg (List ℕ)) → Args
+as_bytes shown = map (bytes_of (codes "0")) shown

@@ -22,7 +22,7 @@ use crate::read_from::{ReadFrom, ReadOnly};
 use crate::router::{RouteError, follow};
 use crate::slot_map::SlotMap;
 use resp_command::Cmd;
-use resp_routing::{Route, args_of, is_readonly_cmd, route_of};
+use resp_routing::{Route, args_of, is_readonly_cmd, route_of_cmd};
 use resp_value::{ErrorKind, RedisError, RedisResult, Value};
 use std::alloc::{AllocError, Global};
 use std::marker::Model;
@@ -84,15 +84,13 @@ fn route_for(alloc: Global, command: &Cmd) -> RedisResult<Route>
             "a subscription has no reply: set_no_response, then next_push",
         )));
     }
-    let args = args_of(alloc, command, b"0")?;
-    let words = args.as_slice();
-    if is_link_command(words) {
+    if is_link_command(command) {
         return Err(RedisError::from((
             ErrorKind::Client,
             "the command changes a link: send it over one",
         )));
     }
-    match route_of(alloc, words) {
+    match route_of_cmd(alloc, command, b"0") {
         Ok(route) => only_to_one(route),
         Err(refusal) => Err(refusal.to_redis_error(alloc)?),
     }
@@ -304,14 +302,14 @@ impl<N: Nodes> ClusterLink<N> {
         let Some(node) = self.first_node(route, command)? else {
             return Err(no_node());
         };
-        let node = node.try_clone(self.alloc)?;
+        let first = node.try_clone(self.alloc)?;
         let budget = self.budget;
         match follow(
             self.alloc,
             &mut self.links,
             &mut self.map,
             command,
-            (node, false),
+            (first, false),
             budget,
         ) {
             Ok(sent) => {

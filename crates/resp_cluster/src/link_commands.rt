@@ -1,17 +1,34 @@
 //! Commands that change what a link is.
 
-ghost use Rattle.std.specs.Prelude.{◌≡◌};
-ghost use Rattle.resp_routing.specs.Commands.{words};
+ghost use Rattle.std.specs.Prelude.{◌≡◌, ◌∷◌, [], IfNone, IfSome};
+ghost use Rattle.resp_command.specs.ShownArgs.{args_left};
+ghost use Rattle.resp_cluster.specs.Cluster.{routed_args};
 ghost use Rattle.resp_cluster.specs.LinkCommands.{is_link_command, is_of_modes, is_of_sessions};
-ghost use Rattle.resp_cluster.specs.LinkCommands.{is_of_transactions};
+ghost use Rattle.resp_cluster.specs.LinkCommands.{as_bytes, is_of_transactions};
 
-/// Whether these are the arguments of one, the name first, in letters of either case.
-pub(crate) fn is_link_command(args: &[&[u8]]) -> bool
-    ensures { result ≡ is_link_command (words args.now) }
+use resp_command::{Arg, ArgsIter, Cmd};
+
+/// Whether this is one, by its name, in letters of either case.
+pub(crate) fn is_link_command(command: &Cmd) -> bool
+    ensures { result ≡ is_link_command (routed_args command.now) }
 {
-    match args {
-        [name, ..] => is_of_transactions(name) || is_of_modes(name) || is_of_sessions(name),
-        [] => false,
+    let mut shown = command.args_iter();
+    match next_arg(&mut shown) {
+        Some(name) => is_of_transactions(name) || is_of_modes(name) || is_of_sessions(name),
+        None => false,
+    }
+}
+
+/// The bytes of the next argument, if there is one; a cursor argument counts as 0.
+fn next_arg<'a>(shown: &mut ArgsIter<'a>) -> Option<&'a [u8]>
+    ensures some { IfSome result (λ arg. as_bytes (args_left shown.old)
+        ≡ arg.now ∷ as_bytes (args_left shown.new)) }
+    ensures none { IfNone result (args_left shown.old ≡ []) }
+{
+    match shown.next() {
+        Some(Arg::Simple(arg)) => Some(arg),
+        Some(Arg::Cursor) => Some(b"0"),
+        None => None,
     }
 }
 

@@ -33,8 +33,8 @@ impl<N: Nodes> ClusterLink<N> {
         let Some(node) = self.primary_or_any(&route) else {
             return Err(no_node());
         };
-        let node = node.try_clone(self.alloc)?;
-        self.send_whole(pipeline, request.as_slice(), &node)
+        let first = node.try_clone(self.alloc)?;
+        self.send_whole(pipeline, request.as_slice(), &first)
     }
 
     /// Sends a transaction, packed, to this node.

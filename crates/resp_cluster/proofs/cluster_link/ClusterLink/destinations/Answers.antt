@@ -11,7 +11,7 @@ loop-command-preserved g c =
 
 pub returns-in_err-node-clause-none : goal.returns-in_err-node-clause-none
 returns-in_err-node-clause-none g c =
-    let p = err_from_is_err_and c.from_residual.result c.from_residual.ensures.1 in
+    let p = err_from_is_err_and c.from_residual-in_err-node.result c.from_residual-in_err-node.ensures.1 in
     rw (p.1, p.2) (λ differ. record {
       command = c.command-item.result;
       among = (_, c.loop-command-test.true, sym c.command-item.is);
