@@ -33,7 +33,7 @@ AreNamed to map nodes = ⊥
 
 -- the items of an array, or the reply as one
 abbrev pub items_of : Value → List Value
-items_of reply = elim (out-Value reply) [ | Value-F.Array items ↦ items | _ ↦ reply ∷ [] ]
+items_of reply = elim (out-Value reply) [ Value-F.Array items ↦ items | _ ↦ reply ∷ [] ]
 
 -- the first of several replies
 pub record IsFirst (replies : List Value) (answer : Value) : Type 0 where

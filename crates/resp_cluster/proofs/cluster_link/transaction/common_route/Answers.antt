@@ -15,8 +15,8 @@ returns-in_err-common-clause-refused c =
     let p = err_from_is_err_and c.from_residual-in_err-common.result c.from_residual-in_err-common.ensures.1 in
     rw (p.1, p.2)
     (λ differ.
-        let h = c.in_err-common.ensures.apart differ in
-        next_apart _ _ _ _ _ c.loop-command.invariant c.loop-command-test.true c.command-item.is c.in_ok-route.ensures.goes h.0 _ h.1)
+    let h = c.in_err-common.ensures.apart differ in
+    next_apart _ _ _ _ _ c.loop-command.invariant c.loop-command-test.true c.command-item.is c.in_ok-route.ensures.goes h.0 _ h.1)
 
 pub loop-command-preserved : goal.loop-command-preserved
 loop-command-preserved c =
