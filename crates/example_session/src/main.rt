@@ -27,7 +27,7 @@ use subscriber::{Link, message_of, subscribe};
 use transactions::try_in_vain;
 
 fn main(rt: HostRuntime) -> ExitCode {
-    match words(&rt) {
+    match words_of(&rt) {
         Some(words) => {
             let mut link = ByteLink::new(rt.alloc(), rt.stdin(), rt.stdout());
             ExitCode::from(run(rt.alloc(), &words, &mut link, &mut rt.stderr()))
@@ -45,7 +45,7 @@ struct Words {
     channel: Option<(String, u32)>,
 }
 
-fn words(rt: &HostRuntime) -> Option<Words> {
+fn words_of(rt: &HostRuntime) -> Option<Words> {
     let mut words = env::args(rt).ok()?.skip(1);
     let protocol = match words.next() {
         Some(word) => word.parse::<i64>().ok()?,
