@@ -6,7 +6,7 @@ use Rattle.resp_parse.specs.Counts.{Counts}
 use Rattle.resp_parse.specs.declared.machine.Step.TheVariants as step
 use Rattle.resp_parse.specs.Built.{built}
 use Rattle.resp_parse.specs.Costs.{least_bytes, BuiltWithin, StepBuiltWithin, prepaid, potential, LooksAt, Places}
-use Rattle.resp_parse.specs.Costs.{Looks, StepCost, Spent}
+use Rattle.resp_parse.specs.Costs.{Looks, StepCost, CostSoFar, Spent}
 use Rattle.resp_parse.proofs.SameCounts.{SameButIterations, SameButExamined, examined-iterations, examined-looks}
 use Rattle.resp_parse.proofs.SameCounts.{examined-take, examined-both}
 
@@ -47,12 +47,6 @@ module _ {B : Type 0} (m new : Machine B) (c d e f : Counts) (len looked : ℕ) 
       let l : d.iterations + (looked - 1) ≤ c.iterations + len + 1 = looks.1 in
       omega (arith, p, z, l, looked_is, iterations-looked, examined-now)
 
--- a machine that was `old` has taken n bytes
-pub record CostSoFar {B : Type 0} (old m : Machine B) (c d : Counts) (n : ℕ) : Type 0 where
-  pub looks : Looks old m c d n
-  pub cost : d.iterations + potential m + c.examined ≤ c.iterations + potential old + d.examined
-  pub built_within : least_bytes m ≤ least_bytes old + n
-
 pub CostSoFar-start : {B : Type 0} (m : Machine B) (c : Counts) → CostSoFar m m c c 0
 CostSoFar-start m c = record {
   looks = record { same = refl; once = omega arith; examined = omega arith };
@@ -90,6 +84,15 @@ module _ {B : Type 0} (old m : Machine B) (c d : Counts) (at : ℕ) (h : CostSoF
     cost = omega (arith, h.cost, s.1);
     built_within = omega
         (arith, h.built_within, w);
+  }
+
+  -- and the machine took more
+  pub CostSoFar-further : (new : Machine B) (e : Counts) (n : ℕ) → CostSoFar m new d e n → CostSoFar old new c e (at + n)
+  CostSoFar-further new e n k = record {
+    looks = looks-on new e n k.looks;
+    cost = omega (arith, h.cost, k.cost);
+    built_within = omega
+        (arith, h.built_within, k.built_within);
   }
 
   -- a value is whole, and was put where it belongs

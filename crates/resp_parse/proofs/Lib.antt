@@ -5,9 +5,11 @@ pub mod BodyReads
 pub mod BuiltOf
 pub mod ByteTests
 pub mod ElementReads
+pub mod ElementsTaken
 pub mod BodiesInPieces
 pub mod BulkBodies
 pub mod OtherValues
+pub mod ShortBulks
 pub mod Skipping
 pub mod Completions
 pub mod Counting

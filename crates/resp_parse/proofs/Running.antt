@@ -9,19 +9,9 @@ use Rattle.resp_parse.specs.declared.machine.Machine.{Machine}
 use Rattle.resp_parse.specs.declared.machine.Step.TheVariants as step
 use Rattle.resp_errors.specs.declared.kinds.FrameFault.{FrameFault}
 use Rattle.resp_parse.specs.PlainReading.{got, fault, incomplete}
-use Rattle.resp_parse.specs.Resume.{place, resume, fresh_of, IsScanned, Ends, Steps, Runs, Completes}
+use Rattle.resp_parse.specs.Resume.{place, resume, fresh_of, IsScanned, Ends, Steps, Ran, Runs, Completes}
 use Rattle.resp_parse.proofs.BodiesInPieces.{drop-all, drop-drop}
 use Rattle.resp_parse.proofs.HeadersInPieces.{resume-nothing, IsScanned-zero}
-
--- a machine that was `old` has taken the first bytes up to `at`
-pub record Ran {B : Type 0} (old m : Machine B) (bytes : List ℕ) (at : ℕ) : Type 0 where
-  pub within : at ≤ length bytes
-  pub same : (more : List ℕ) → resume old (bytes ++ more) ≡ resume m (drop at bytes ++ more)
-  pub limit : m.depth ≡ old.depth
-  pub depth : length m.open_aggregates ≤ m.depth
-  pub scanned : IsScanned m.body m.scanned (drop at bytes)
-  pub fresh : fresh_of m.body m.open_aggregates ≡ true → at ≡ 0
-  pub begun : at ≡ 0 → fresh_of m.body m.open_aggregates ≡ fresh_of old.body old.open_aggregates
 
 pub Ran-start : {B : Type 0} (m : Machine B) (bytes : List ℕ) → length m.open_aggregates ≤ m.depth
     → IsScanned m.body m.scanned bytes → Ran m m bytes 0
@@ -91,6 +81,18 @@ module _ {B : Type 0} (old m : Machine B) (bytes : List ℕ) (at : ℕ) (h : Ran
   pub Ran-goes : (new : Machine B) (n : ℕ) → Steps m (drop at bytes) new (Ok (step.Goes n)) → new.depth ≡ m.depth
       → length new.open_aggregates ≤ new.depth → Ran old new bytes (at + n)
   Ran-goes new n s k l = Ran-takes new n s.0.some s.0.within s.0.same s.0.scanned s.1 k l
+
+  -- and the machine took more
+  pub Ran-further : (new : Machine B) (n : ℕ) → Ran m new (drop at bytes) n → Ran old new bytes (at + n)
+  Ran-further new n k = record {
+    within = within n k.within;
+    same = λ more. h.same more ∙ k.same more ∙ ap (λ x. resume new (x ++ more)) (dropped n);
+    limit = k.limit ∙ h.limit;
+    depth = k.depth;
+    scanned = subst (IsScanned new.body new.scanned) (dropped n) k.scanned;
+    fresh = λ e. let z : n ≡ 0 = k.fresh e in let y : at ≡ 0 = h.fresh (sym (k.begun z) ∙ e) in omega arith;
+    begun = λ e. let z : n ≡ 0 = omega arith in let y : at ≡ 0 = omega arith in k.begun z ∙ h.begun y;
+  }
 
   -- a value is whole, and was put where it belongs
   module _ (mid new : Machine B) (n : ℕ) (v : Value) (s : Steps m (drop at bytes) mid (Ok (step.Whole n v))) where

@@ -137,6 +137,12 @@ abbrev pub StepCost : {B : Type 0} → Machine B → Machine B → List ℕ → 
 StepCost old new bytes c d r =
     HeaderCost old new bytes (record c { iterations = c.iterations + 1 }) d r
 
+-- a machine that was `old` has taken n bytes
+pub record CostSoFar {B : Type 0} (old m : Machine B) (c d : Counts) (n : ℕ) : Type 0 where
+  pub looks : Looks old m c d n
+  pub cost : d.iterations + potential m + c.examined ≤ c.iterations + potential old + d.examined
+  pub built_within : least_bytes m ≤ least_bytes old + n
+
 -- n bytes were taken, which pay for what was done and one iteration more
 abbrev pub Spent : {B : Type 0} → Machine B → Machine B → Counts → Counts → ℕ → Type 0
 Spent old new c d n = Looks old new c d n
@@ -151,3 +157,8 @@ abbrev pub RunCost : {B : Type 0} {A : Type 0} → Machine B → Machine B → L
     Result (ℕ × A) ReadError → Type 0
 RunCost old new bytes c d (Ok (n, o)) = Spent old new c d n
 RunCost old new bytes c d (Err e) = SpentAtStop old bytes c d
+
+-- elements were taken, or the machine stopped among them
+abbrev pub ElementsCost : {B : Type 0} {E : Type 0} → Machine B → Machine B → List ℕ → Counts → Counts → Result ℕ E → Type 0
+ElementsCost old new bytes c d (Ok n) = CostSoFar old new c d n
+ElementsCost old new bytes c d (Err e) = SpentAtStop old bytes c d

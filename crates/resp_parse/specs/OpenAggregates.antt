@@ -1,5 +1,5 @@
 -- The aggregates that are open, and what becomes of a value that is put in the innermost.
-use Rattle.std.specs.Prelude.{◌≡◌, ℕ, zero, suc, List, [], ◌∷◌, ◌++◌, length, reverse}
+use Rattle.std.specs.Prelude.{◌≡◌, ℕ, zero, suc, Bool, false, nat_lt, List, [], ◌∷◌, ◌++◌, length, reverse}
 use Rattle.resp_value.specs.declared.value.Value.{Value}
 use Rattle.resp_parse.specs.declared.open_aggregates.OpenAggregate.{OpenAggregate}
 use Rattle.resp_parse.specs.declared.open_aggregates.Added.{Added}
@@ -18,6 +18,11 @@ IsLength (suc n) outer = n ≡ length outer
 abbrev pub ClosesInnermost : List OpenAggregate → List OpenAggregate → OpenAggregate → Type 0
 ClosesInnermost [] new closed = new ≡ []
 ClosesInnermost (f ∷ fs) new closed = (new ≡ fs) × (closed ≡ f)
+
+-- the innermost lacks more elements than the one in progress
+abbrev pub lacks_more : List OpenAggregate → Bool
+lacks_more [] = false
+lacks_more (f ∷ fs) = nat_lt 0 f.after
 
 -- with one element more, and as many to come
 abbrev pub with_element : OpenAggregate → Value → OpenAggregate

@@ -1,7 +1,7 @@
 -- What reading gives from where a machine stands, if these bytes come next; and how a machine gets
 -- from one place to another.
 use Rattle.std.specs.Prelude.{◌≡◌, ℕ, suc, ◌+◌, ◌-◌, ◌<◌, ◌≤◌, Bool, true, false, List, [], ◌∷◌, ◌++◌, length, take}
-use Rattle.std.specs.Prelude.{drop, min, Option, None, Some, IfSome, Result, Ok, Err}
+use Rattle.std.specs.Prelude.{drop, get_or, min, Option, None, Some, IfSome, Result, Ok, Err}
 use Rattle.resp_value.specs.declared.value.Value.{Value}
 use Rattle.resp_errors.specs.declared.kinds.FrameFault.TheVariants.{BodyEnd}
 use Rattle.resp_parse.specs.declared.read_error.ReadError.{ReadError}
@@ -126,6 +126,15 @@ pub record BeginsWithBulk (kind : TypeByte) (number : Option ℕ) (bs body : Lis
   pub number_is : number ≡ Some (length body)
   pub begins : BeginsWithBody (length body) bs body
 
+-- after its type byte, the bytes begin with the line of a bulk string, whose text has len bytes and
+-- writes the length of this body, and with the body and its CR LF
+pub record IsShortBulk (bs : List ℕ) (len : ℕ) (body : List ℕ) : Type 0 where
+  pub line : FindsLine bs (Some len)
+  pub lf : get_or bs (suc len) 0 ≡ 10
+  pub cr : get_or bs len 0 ≡ 13
+  pub number : IsNumeral (take len bs) (length body)
+  pub begins : BeginsWithBody (length body) (drop (len + 2) bs) body
+
 -- a body took n bytes: all, or as many as it lacked
 abbrev pub FillsBody : {E : Type 0} → Body → List ℕ → Body → Result ℕ E → Type 0
 FillsBody old bytes new (Ok n) = (n ≡ min (length bytes) old.missing)
@@ -157,6 +166,21 @@ Steps old bytes new (Ok (step.Goes n)) =
 Steps old bytes new (Ok (step.Whole n w)) =
     Consumes old bytes new (place new.depth new.open_aggregates w) n × (new.body ≡ None)
 Steps old bytes new (Err e) = FaultsWithin (resume old) bytes new.shown e
+
+-- a machine that was `old` has taken the first bytes up to `at`
+pub record Ran {B : Type 0} (old m : Machine B) (bytes : List ℕ) (at : ℕ) : Type 0 where
+  pub within : at ≤ length bytes
+  pub same : (more : List ℕ) → resume old (bytes ++ more) ≡ resume m (drop at bytes ++ more)
+  pub limit : m.depth ≡ old.depth
+  pub depth : length m.open_aggregates ≤ m.depth
+  pub scanned : IsScanned m.body m.scanned (drop at bytes)
+  pub fresh : fresh_of m.body m.open_aggregates ≡ true → at ≡ 0
+  pub begun : at ≡ 0 → fresh_of m.body m.open_aggregates ≡ fresh_of old.body old.open_aggregates
+
+-- of these bytes the machine took n, as elements of the innermost aggregate
+abbrev pub TakesElements : {B : Type 0} {E : Type 0} → Machine B → List ℕ → Machine B → Result ℕ E → Type 0
+TakesElements old bytes new (Ok n) = Ran old new bytes n × (new.body ≡ None)
+TakesElements old bytes new (Err e) = Unit {0}
 
 -- a value was read, and n bytes taken
 pub record Completes {B : Type 0} (old : Machine B) (bytes : List ℕ) (new : Machine B) (n : ℕ) (v : Value) : Type

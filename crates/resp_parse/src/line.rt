@@ -1,9 +1,10 @@
 //! The ends of lines and bodies.
 
-ghost use Rattle.std.specs.Prelude.{IfSome, take};
+ghost use Rattle.std.specs.Prelude.{◌≡◌, IfSome, take};
 ghost use Rattle.resp_parse.specs.Lines.{Scanned};
 ghost use Rattle.resp_parse.specs.Number.{IsNumeral};
 ghost use Rattle.resp_parse.specs.Resume.{FindsLine, FindsNumeral, EndsBody, BeginsWithBody, BeginsWithBulk, len_of};
+ghost use Rattle.resp_parse.specs.Resume.{IsShortBulk};
 ghost use Rattle.resp_parse.specs.Costs.{LooksAt, LooksForNumeral};
 
 use crate::decoder::Counter;
@@ -129,4 +130,37 @@ pub(crate) fn bulk_at_hand(kind: TypeByte, number: Option<u64>, rest: &[u8]) -> 
         (TypeByte::BulkString, Some(n)) => body_at_hand(rest, n as usize),
         _ => None,
     }
+}
+
+/// A bulk string whose length has one digit or two.
+#[derive(Clone, Copy, Debug)]
+pub(crate) struct ShortBulk<'a> {
+    /// The length of its line's text.
+    pub(crate) len: usize,
+    pub(crate) body: &'a [u8],
+}
+
+/// The bulk string of this type byte and the bytes after it, where its length has one digit or two,
+/// and all of it is at hand.
+#[inline(always)]
+pub(crate) fn short_bulk(first: u8, after: &[u8]) -> Option<ShortBulk<'_>>
+    ensures dollar { IfSome result (λ bulk. first ≡ 36) }
+    ensures bulk { IfSome result (λ bulk. IsShortBulk after.now bulk.len bulk.body.now) }
+{
+    if first != b'$' || after.len() < 4 || !after[0].is_ascii_digit() {
+        return None;
+    }
+    let digit = (after[0] - b'0') as usize;
+    if after[1] == b'\r' {
+        if after[2] != b'\n' {
+            return None;
+        }
+        let body = body_at_hand(&after[3..], digit)?;
+        return Some(ShortBulk { len: 1, body });
+    }
+    if !after[1].is_ascii_digit() || after[2] != b'\r' || after[3] != b'\n' {
+        return None;
+    }
+    let body = body_at_hand(&after[4..], digit * 10 + (after[1] - b'0') as usize)?;
+    Some(ShortBulk { len: 2, body })
 }

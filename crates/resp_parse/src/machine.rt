@@ -9,17 +9,17 @@ ghost use Rattle.resp_parse.specs.Number.{IsNumeral};
 ghost use Rattle.resp_parse.specs.PlainReading.{then, read_announced, read};
 ghost use Rattle.resp_parse.specs.Shapes.{announced_in_line, line_value, elements_value, count_of};
 ghost use Rattle.resp_parse.specs.Resume.{place, resume, fresh_of, IsScanned, Goes, Ends, Steps};
-ghost use Rattle.resp_parse.specs.Resume.{Runs, ReadsInto, Waits, depth_below};
+ghost use Rattle.resp_parse.specs.Resume.{TakesElements, Runs, ReadsInto, Waits, depth_below};
 ghost use Rattle.resp_parse.specs.Filling.{lacks_of, FillsOpenBody, FilledOpenBody};
 ghost use Rattle.resp_parse.specs.Built.{built};
 ghost use Rattle.resp_parse.specs.Costs.{least_bytes, BuiltWithin, StepBuiltWithin, RunBuiltWithin, Places, Begins};
-ghost use Rattle.resp_parse.specs.Costs.{HeaderCost, StepCost, RunCost, Spent, ReadBuiltWithin};
+ghost use Rattle.resp_parse.specs.Costs.{HeaderCost, StepCost, ElementsCost, RunCost, Spent, ReadBuiltWithin};
 
 use crate::body::Body;
 use crate::builder::Builder;
 use crate::decoder::Counter;
 use crate::history::History;
-use crate::line::{Line, body_ends, bulk_at_hand, first_line};
+use crate::line::{Line, ShortBulk, body_ends, bulk_at_hand, first_line, short_bulk};
 use crate::open_aggregates::{Added, OpenAggregate, OpenAggregates};
 use crate::read_error::ReadError;
 use crate::seen::{SeenValue, SeenValues};
@@ -214,6 +214,16 @@ impl<B: Builder> Machine<B> {
         let Some(kind) = TypeByte::from_byte(*first) else {
             return Err(self.record_fault(ReadError::Fault(FrameFault::UnknownType), 1));
         };
+        if let TypeByte::BulkString = kind {
+            if let Some(bulk) = short_bulk(*first, after) {
+                let ShortBulk { len, body } = bulk;
+                let taken = len + 3 + (body.len() + 2);
+                counts.examine(taken - self.scanned);
+                self.scanned = 0;
+                let short = self.builder.bulk(alloc, body)?;
+                return Ok(Step::Whole(taken, short));
+            }
+        }
         let Some(line) = first_line(after, self.scanned.saturating_sub(1), counts) else {
             counts.examine(bytes.len() - self.scanned);
             self.scanned = bytes.len();
@@ -337,6 +347,7 @@ impl<B: Builder> Machine<B> {
         ensures limit { self.new.depth ≡ self.old.depth }
         ensures depth { length self.new.open_aggregates ≤ self.new.depth }
         ensures scanned { self.new.scanned ≡ self.old.scanned }
+        ensures no_body { self.new.body ≡ None }
         ensures builds { BuildsThen B.stands self.new result }
         ensures built_within { BuiltWithin self.new (least_bytes self.old + 3 * built value) result }
         ensures places { Places self.old self.new counts.old counts.new result }
@@ -359,6 +370,49 @@ impl<B: Builder> Machine<B> {
                 }
             }
         }
+    }
+
+    /// Takes bulk strings of few bytes that are at hand, as elements of the innermost aggregate, and
+    /// leaves its last; answers how many bytes they take.
+    #[inline(always)]
+    fn elements(
+        &mut self,
+        alloc: Global,
+        bytes: &[u8],
+        counts: &mut Counter,
+    ) -> Result<usize, AllocError>
+        requires depth { length self.old.open_aggregates ≤ self.old.depth }
+        requires no_body { self.old.body ≡ None }
+        requires scanned { self.old.scanned ≡ 0 }
+        requires builds { B.stands self.old.builder self.old.open_aggregates nothing }
+        ensures takes { TakesElements self.old bytes.now self.new result }
+        ensures limit { self.new.depth ≡ self.old.depth }
+        ensures depth { length self.new.open_aggregates ≤ self.new.depth }
+        ensures builds { OnOk result (B.stands self.new.builder self.new.open_aggregates nothing) }
+        ensures cost { ElementsCost self.old self.new bytes.now counts.old counts.new result }
+    {
+        let mut at = 0;
+        if self.open_aggregates.len() >= self.depth {
+            return Ok(0);
+        }
+        while self.open_aggregates.lacks_more() {
+            let Some((first, after)) = bytes[at..].split_first() else {
+                return Ok(at);
+            };
+            let Some(bulk) = short_bulk(*first, after) else {
+                return Ok(at);
+            };
+            let ShortBulk { len, body } = bulk;
+            let taken = len + 3 + (body.len() + 2);
+            counts.iterate();
+            counts.examine(taken);
+            let whole = self.builder.bulk(alloc, body)?;
+            counts.iterate();
+            let _ = self.open_aggregates.add(&whole);
+            self.builder.keep()?;
+            at += taken;
+        }
+        Ok(at)
     }
 
     /// Goes on until a value is whole or more bytes are needed; answers how many it took.
@@ -388,7 +442,7 @@ impl<B: Builder> Machine<B> {
                     at += taken;
                     match self.attach(alloc, whole, counts) {
                         Ok(Some(whole)) => return Ok((at, Some(whole))),
-                        Ok(None) => {}
+                        Ok(None) => at += self.elements(alloc, &bytes[at..], counts)?,
                         Err(why) => return Err(self.record_fault(why, at)),
                     }
                 }

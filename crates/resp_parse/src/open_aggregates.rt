@@ -1,7 +1,7 @@
 //! The aggregates whose headers were read and whose elements aren't all there.
 
 ghost use Rattle.std.specs.Prelude.{◌≡◌, ◌∷◌, ◌≤◌, ◌+◌, [], length, OnOk};
-ghost use Rattle.resp_parse.specs.OpenAggregates.{Adds, ClosesInnermost};
+ghost use Rattle.resp_parse.specs.OpenAggregates.{Adds, ClosesInnermost, lacks_more};
 
 use crate::seen::{SeenValue, SeenValues};
 use crate::shape::ElementsKind;
@@ -115,6 +115,14 @@ impl OpenAggregates {
         self.size = size;
         self.after = after;
         Ok(())
+    }
+
+    /// Whether the innermost aggregate lacks more elements than the one in progress.
+    #[inline(always)]
+    pub(crate) fn lacks_more(&self) -> bool
+        ensures { result ≡ lacks_more self.now }
+    {
+        self.len > 0 && self.after > 0
     }
 
     /// Counts a value as an element of the innermost aggregate, which is closed where it then has

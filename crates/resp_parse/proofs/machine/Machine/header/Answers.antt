@@ -1,6 +1,8 @@
-use Rattle.std.proofs.Common.{◌≡◌, ◌<◌, ◌+◌, ◌-◌, ◌∙◌, [], length, take, drop, ap, arith, refl, subst, sym}
+use Rattle.std.proofs.Common.{◌≡◌, ◌<◌, ◌+◌, ◌-◌, ◌∙◌, [], length, take, drop, ap, arith, refl, subst, sym, Some}
 use Rattle.std.proofs.lemmas.Grind.{common_steps}
 use Rattle.resp_parse.specs.declared.machine.Machine.{Machine}
+use Rattle.resp_parse.specs.declared.type_byte.TypeByte.TheVariants as type_byte
+use Rattle.resp_parse.specs.TypeBytes.{type_of}
 use Rattle.resp_parse.proofs.HeadersInPieces.{empty-waits, unknown_type, line-waits, header-stops, header-goes}
 use Rattle.resp_parse.proofs.HeadersInPieces.{header-whole, header-bulk}
 use Rattle.resp_parse.specs.declared.shape.BodyKind.TheVariants as body_kind
@@ -107,4 +109,25 @@ pub returns-in-Some-bulk_at_hand-clause-built_within : goal.returns-in-Some-bulk
 returns-in-Some-bulk_at_hand-clause-built_within g c =
     let one : built c.in_ok-whole.whole ≡ 1 = ap built c.in_ok-whole.ensures.seen
     ∙ body-small body_kind.Bulk c.in-Some-bulk_at_hand.body.now _ refl in
+    omega (arith, one)
+
+-- a bulk string of one digit or two, whole
+pub returns-in-Some-short_bulk-clause-steps : goal.returns-in-Some-short_bulk-clause-steps
+unfolding type_of
+returns-in-Some-short_bulk-clause-steps g c =
+    let l : length c.args.self.now.open_aggregates < c.args.self.now.depth = omega arith in
+    let after = c.in-Some.after.now in
+    let bulk = c.in-Some-short_bulk.bulk in
+    let short = c.in-Some-short_bulk.ensures.bulk in
+    let begins : BeginsWithBulk type_byte.BulkString (Some (length bulk.body.now)) (drop (bulk.len + 2) after)
+    bulk.body.now = record { kind_is = refl; number_is = refl; begins = short.begins } in
+    rw (c.in_ok-short.ensures.seen, c.in-Some.ensures.cases.0)
+    (header-bulk c.args.self.now c.in-Some.first.now after c.requires.no_body l type_byte.BulkString
+    (ap type_of c.in-Some-short_bulk.ensures.dollar) bulk.len short.line
+    _ (Some (length bulk.body.now)) bulk.body.now short.number begins refl refl c.requires.no_body refl)
+
+pub returns-in-Some-short_bulk-clause-built_within : goal.returns-in-Some-short_bulk-clause-built_within
+returns-in-Some-short_bulk-clause-built_within g c =
+    let one : built c.in_ok-short.short ≡ 1 = ap built c.in_ok-short.ensures.seen
+    ∙ body-small body_kind.Bulk c.in-Some-short_bulk.bulk.body.now _ refl in
     omega (arith, one)

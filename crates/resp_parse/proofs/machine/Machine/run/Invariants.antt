@@ -1,7 +1,7 @@
 use Rattle.std.proofs.Common.{length, ◌-◌}
 use Rattle.resp_parse.specs.Building.{progress_of}
-use Rattle.resp_parse.proofs.Running.{Ran}
-use Rattle.resp_parse.proofs.AmortisedCost.{CostSoFar}
+use Rattle.resp_parse.specs.Resume.{Ran}
+use Rattle.resp_parse.specs.Costs.{CostSoFar}
 use Rattle.resp_parse.proofs.machine.Machine.run.Given as goal
 
 abbrev pub invariant-loop-at : goal.invariant-loop-at
