@@ -1,19 +1,17 @@
 -- A bulk string of few bytes is an element of the innermost aggregate, and not its last.
-use Rattle.std.proofs.Common.{◌≡◌, ℕ, ◌+◌, ◌*◌, ◌<◌, true, false, List, [], ◌∷◌, ◌++◌, length, drop, refl, ap}
+use Rattle.std.proofs.Common.{◌≡◌, ℕ, ◌+◌, ◌*◌, ◌<◌, List, [], ◌∷◌, ◌++◌, length, drop, refl, ap}
 use Rattle.std.proofs.Common.{sym, subst, ◌∙◌, arith, Some, None, Ok}
 use Rattle.resp_value.specs.declared.value.Value.{Value, BulkString}
 use Rattle.resp_parse.specs.declared.machine.Machine.{Machine}
 use Rattle.resp_parse.specs.declared.machine.Step.TheVariants as step
 use Rattle.resp_parse.specs.declared.open_aggregates.OpenAggregate.{OpenAggregate}
-use Rattle.resp_parse.specs.declared.open_aggregates.Added.{Added}
-use Rattle.resp_parse.specs.declared.open_aggregates.Added.TheVariants as added
 use Rattle.resp_parse.specs.declared.type_byte.TypeByte.TheVariants as type_byte
 use Rattle.resp_parse.specs.declared.shape.BodyKind.TheVariants as body_kind
 use Rattle.resp_parse.specs.Built.{built}
 use Rattle.resp_parse.specs.Costs.{CostSoFar, aggregates_least_bytes, aggregates_potential, body_least_bytes}
 use Rattle.resp_parse.specs.Costs.{body_potential, Looks, StepCost}
 use Rattle.resp_parse.specs.Counts.{Counts}
-use Rattle.resp_parse.specs.OpenAggregates.{Adds, KeptIn, lacks_more}
+use Rattle.resp_parse.specs.OpenAggregates.{KeptIn}
 use Rattle.resp_parse.specs.Resume.{place, BeginsWithBulk, IsShortBulk, Steps, Ends, Ran}
 use Rattle.resp_parse.specs.TypeBytes.{type_of}
 use Rattle.resp_parse.proofs.AmortisedCost.{CostSoFar-attaches}
@@ -22,14 +20,6 @@ use Rattle.resp_parse.proofs.HeadersInPieces.{header-bulk}
 use Rattle.resp_parse.proofs.Running.{Ran-attaches}
 use Rattle.resp_parse.proofs.SameCounts.{examined-both, examined-iterations, examined-take, same-iterate}
 use Rattle.resp_parse.proofs.Sizes.{body-small}
-
--- where more elements lack, a value that is put in the innermost is kept
-pub kept-where_more : (old new : List OpenAggregate) (v : Value) (a : Added) → lacks_more old ≡ true → Adds old v new a
-    → KeptIn old v new
-kept-where_more old new v added.Outermost e h = absurd (let z : false ≡ true = rw h.0 at e in cc)
-kept-where_more old new v added.StillOpen e h = h
-kept-where_more old new v (added.Closed closed) e h = absurd
-    (let z : false ≡ true = rw (h.old_is, h.last) at e in cc)
 
 kept-length : (old new : List OpenAggregate) (v : Value) → KeptIn old v new → length new ≡ length old
 kept-length old new v a = rw (a.old_is, a.new_is) refl

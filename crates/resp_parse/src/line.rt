@@ -91,7 +91,7 @@ fn line_end(bytes: &[u8], scanned: usize, counts: &mut Counter) -> Option<usize>
 pub(crate) fn body_at_hand(bytes: &[u8], n: usize) -> Option<&[u8]>
     ensures body { IfSome result (λ body. BeginsWithBody n bytes.now body.now) }
 {
-    if n > bytes.len() {
+    if bytes.len() < 2 || n > bytes.len() - 2 {
         return None;
     }
     let (body, end) = bytes.split_at(n);

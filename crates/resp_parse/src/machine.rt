@@ -408,7 +408,7 @@ impl<B: Builder> Machine<B> {
             counts.examine(taken);
             let whole = self.builder.bulk(alloc, body)?;
             counts.iterate();
-            let _ = self.open_aggregates.add(&whole);
+            self.open_aggregates.add_before_last(&whole);
             self.builder.keep()?;
             at += taken;
         }

@@ -1,7 +1,7 @@
 //! The aggregates whose headers were read and whose elements aren't all there.
 
-ghost use Rattle.std.specs.Prelude.{◌≡◌, ◌∷◌, ◌≤◌, ◌+◌, [], length, OnOk};
-ghost use Rattle.resp_parse.specs.OpenAggregates.{Adds, ClosesInnermost, lacks_more};
+ghost use Rattle.std.specs.Prelude.{◌≡◌, ◌∷◌, ◌≤◌, ◌+◌, [], length, true, OnOk};
+ghost use Rattle.resp_parse.specs.OpenAggregates.{Adds, KeptIn, ClosesInnermost, lacks_more};
 
 use crate::seen::{SeenValue, SeenValues};
 use crate::shape::ElementsKind;
@@ -123,6 +123,17 @@ impl OpenAggregates {
         ensures { result ≡ lacks_more self.now }
     {
         self.len > 0 && self.after > 0
+    }
+
+    /// Counts a value as an element of the innermost aggregate, and not as its last.
+    #[inline(always)]
+    pub(crate) fn add_before_last(&mut self, value: &SeenValue)
+        requires more { lacks_more self.old ≡ true }
+        ensures kept { KeptIn self.old value.now self.new }
+        ensures as_many { length self.new ≡ length self.old }
+    {
+        self.seen.push(value);
+        self.after -= 1;
     }
 
     /// Counts a value as an element of the innermost aggregate, which is closed where it then has

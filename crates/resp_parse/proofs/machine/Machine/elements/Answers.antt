@@ -1,9 +1,9 @@
-use Rattle.std.proofs.Common.{◌≡◌, ◌-◌, ◌∷◌, ◌∙◌, length, take, drop, true, refl, sym, arith}
+use Rattle.std.proofs.Common.{◌≡◌, ◌-◌, ◌∷◌, ◌∙◌, length, take, drop, refl, sym, arith}
 use Rattle.std.proofs.lemmas.Grind.{common_steps}
 use Rattle.resp_parse.specs.declared.machine.Machine.{Machine}
-use Rattle.resp_parse.specs.OpenAggregates.{KeptIn, lacks_more}
+use Rattle.resp_parse.specs.OpenAggregates.{KeptIn}
 use Rattle.resp_parse.proofs.Attaching.{builds-kept}
-use Rattle.resp_parse.proofs.ElementsTaken.{kept-where_more, level-kept, Ran-element, CostSoFar-element}
+use Rattle.resp_parse.proofs.ElementsTaken.{level-kept, Ran-element, CostSoFar-element}
 use Rattle.resp_parse.proofs.machine.Machine.elements.Goals as goal
 
 pub loop-alloc-preserved : goal.loop-alloc-preserved
@@ -18,12 +18,10 @@ loop-alloc-preserved g c =
     let body = c.in-Some-short_bulk.bulk.body.now in
     let w = c.in_ok-whole.whole in
     let mid : Machine _ = record m { builder = c.bulk.new.self } in
-    let new : Machine _ = record m { builder = c.keep.new.self; open_aggregates = c.add.new.self } in
+    let new : Machine _ = record m { builder = c.keep.new.self; open_aggregates = c.add_before_last.new.self } in
     let f : take (length bytes - at) (drop at bytes) ≡ drop at bytes = grind (arith, common_steps) in
     let rest : drop at bytes ≡ first ∷ after = sym f ∙ c.in-Some.ensures.cases.0 in
-    let more : lacks_more m.open_aggregates ≡ true = sym c.lacks_more.ensures ∙ c.loop-alloc-test.true in
-    let kept : KeptIn m.open_aggregates w c.add.new.self = kept-where_more m.open_aggregates c.add.new.self w
-    c.add.result more c.add.ensures.adds in
+    let kept : KeptIn m.open_aggregates w c.add_before_last.new.self = c.add_before_last.ensures.kept in
     record {
       ran = Ran-element m mid new first after len body w i.no_body i.scanned i.level
           c.in-Some-short_bulk.ensures.dollar c.in-Some-short_bulk.ensures.bulk c.in_ok-whole.ensures.seen refl refl
@@ -33,7 +31,7 @@ loop-alloc-preserved g c =
           i.no_body i.scanned kept refl i.no_body i.scanned;
       no_body = i.no_body;
       scanned = i.scanned;
-      builds = builds-kept g.B.Builder.stands c.bulk.new.self m.open_aggregates w c.add.new.self
+      builds = builds-kept g.B.Builder.stands c.bulk.new.self m.open_aggregates w c.add_before_last.new.self
           (c.in_ok-whole.ensures.stands m.open_aggregates i.builds) c.keep.new.self kept c.in_ok-keep.ensures.stands;
       cost_so_far = CostSoFar-element m mid new first after len body w i.no_body i.scanned i.level
           c.in-Some-short_bulk.ensures.dollar c.in-Some-short_bulk.ensures.bulk c.in_ok-whole.ensures.seen refl refl
