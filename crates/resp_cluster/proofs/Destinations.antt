@@ -1,6 +1,6 @@
 -- Where a command goes, and where the first primary is.
 use Rattle.std.proofs.Common.{◌≡◌, ◌≢◌, ℕ, ◌+◌, ◌<◌, ◌≤◌, List, [], ◌∷◌, length, drop, get_or, Option, None, Some}
-use Rattle.std.proofs.Common.{refl, sym, ap, subst, ◌∙◌, arith, Bool, true, false, Result, Ok, Err, MatchResult, IfErr}
+use Rattle.std.proofs.Common.{refl, sym, ap, subst, ◌∙◌, arith, Bool, true, false, Result, Ok, Err, MatchResult, IfErr, IfOk}
 use Rattle.std.proofs.lemmas.List.{drop_more, drop_all}
 use Rattle.resp_args.specs.Args.{Args}
 use Rattle.resp_errors.specs.declared.redis_error.RedisError.{RedisError}
@@ -14,9 +14,11 @@ use Rattle.resp_cluster.specs.Cluster.{CannotGo, is_to_one, several, unrouted, s
 use Rattle.resp_cluster.specs.Cluster.{node_at}
 use Rattle.resp_cluster.specs.Maps.{primary_at}
 use Rattle.resp_cluster.specs.declared.read_from.ReadFrom.TheVariants.{Primary}
-use Rattle.resp_cluster.specs.Cluster.{Cluster, Round, followed, cut_short, AsksInTurn, Refreshes, learnt, kept}
+use Rattle.resp_cluster.specs.Cluster.{Cluster, EndsWith, Round, followed, cut_short, AsksInTurn, Refreshes, learnt, kept}
 use Rattle.resp_cluster.specs.Links.{Links, SendsTo, SentRedirects}
-use Rattle.resp_cluster.specs.Routed.{Followed, Interrupted}
+use Rattle.resp_cluster.specs.Routed.{Followed, Interrupted, NotFollowed}
+use Rattle.resp_cluster.specs.declared.router.RouteError.{RouteError}
+use Rattle.resp_cluster.specs.declared.router.RouteError.TheVariants.{NoNode, OutOfMemory, Unfollowed}
 use Rattle.resp_cluster.specs.declared.links.Sent.{Sent}
 use Rattle.resp_cluster.specs.declared.map_source.MapError.{MapError}
 use Rattle.resp_cluster.specs.Primaries.{ArePrimaries}
@@ -70,6 +72,15 @@ module _ {L : Type 0} (of_link : L → Connection) (c : Command) (route : Route)
       → Round of_link c route old (after true) (Ok sent)
   round_cut_short f = subst (λ o. first_node (only_reads c) route o ≡ Some node → Round of_link c route o (after true) (Ok sent))
       view (λ is. cut_short node new_links new_map sent is f refl refl) first
+
+  pub round_ends : (outcome : Result Sent (RouteError Sent)) (failed : Bool) → EndsWith outcome sent failed
+      → IfOk outcome (Followed (SendsTo of_link c) SentRedirects (node, false) budget links map new_links new_map)
+      → IfErr outcome (NotFollowed (SendsTo of_link c) SentRedirects (node, false) budget links map new_links new_map)
+      → Round of_link c route old (after failed) (Ok sent)
+  round_ends (Ok last) failed ends f i = rw (ends.1, ← ends.0) (round_followed (rw (← ends.0) at f))
+  round_ends (Err NoNode) failed ends f i = absurd i
+  round_ends (Err OutOfMemory) failed ends f i = absurd i
+  round_ends (Err (Unfollowed last)) failed ends f i = rw (ends.1) (round_cut_short (rw (← ends.0) at i))
 
 -- a route that may be to one node
 module _ (c : Command) (args : Args) (shown : args ≡ routed_args c) (route : Route) (goes : IsRoute args route) where

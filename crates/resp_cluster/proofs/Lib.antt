@@ -11,6 +11,7 @@ pub mod MorePrimaries
 pub mod Moves
 pub mod OverLinks
 pub mod RedirectTexts
+pub mod Rounds
 pub mod RoutedCalls
 pub mod SoFar
 pub mod Splitting

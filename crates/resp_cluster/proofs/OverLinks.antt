@@ -31,7 +31,7 @@ use Rattle.resp_cluster.proofs.Told.{told_works}
 -- ---- places
 
 module _ {X : Type 0} where
-  set_there : (xs : List X) (k : ℕ) (x y : X) → slice_get xs k ≡ Some y → slice_get (set xs k x) k ≡ Some x
+  pub set_there : (xs : List X) (k : ℕ) (x y : X) → slice_get xs k ≡ Some y → slice_get (set xs k x) k ≡ Some x
   set_there xs k x y at =
       let lt = slice_get_within xs k y at in
       let len : length (set xs k x) ≡ length xs = grind (arith, common_steps) in

@@ -20,15 +20,17 @@ use Rattle.resp_routing.specs.declared.errors.RoutingError.{RoutingError}
 use Rattle.resp_routing.specs.declared.routes.Route.{Route}
 use Rattle.resp_routing.specs.declared.routes.Route.TheVariants.{Slot, Keyless}
 use Rattle.resp_cluster.specs.LinkCommands.{is_link_command}
-use Rattle.resp_cluster.specs.Links.{Links, Reaches, UsesLast, SendsTo, SentRedirects, last_used, no_links}
+use Rattle.resp_cluster.specs.Links.{IsOpenAt, Links, Reaches, UsesLast, SendsTo, SentRedirects, last_used, no_links}
 use Rattle.resp_cluster.specs.Maps.{primary_at, reader_at}
 use Rattle.resp_cluster.specs.Primaries.{ArePrimaries}
 use Rattle.resp_cluster.specs.Replies.{map_in}
-use Rattle.resp_cluster.specs.Routed.{Followed, Interrupted}
+use Rattle.resp_cluster.specs.Routed.{Followed, Interrupted, StoppedShort, WentOn}
 use Rattle.resp_cluster.specs.declared.map_source.MapError.{MapError}
 use Rattle.resp_cluster.specs.declared.map_source.MapError.TheVariants as wrong
 use Rattle.resp_cluster.specs.declared.read_from.ReadFrom.{ReadFrom}
 use Rattle.resp_cluster.specs.declared.read_from.ReadFrom.TheVariants.{Primary, Replica}
+use Rattle.resp_cluster.specs.declared.router.RouteError.{RouteError}
+use Rattle.resp_cluster.specs.declared.router.RouteError.TheVariants.{Unfollowed}
 use Rattle.resp_cluster.specs.declared.links.Sent.{Sent}
 use Rattle.resp_cluster.specs.declared.links.Sent.TheVariants.{Unreached, Answered}
 use Rattle.resp_cluster.specs.declared.node.NodeAddr.{NodeAddr}
@@ -147,7 +149,30 @@ reached (Ok (Answered r)) = Some r
 reached (Ok (Unreached e)) = None
 reached (Err e) = Some (Err e)
 
+-- what came of the last send, and whether the map is to be asked for: where that failed, or memory ran out for where it
+-- redirects
+abbrev pub EndsWith : Result Sent (RouteError Sent) → Sent → Bool → Type 0
+EndsWith (Ok sent) last failed = (last ≡ sent) × (failed ≡ has_failed sent)
+EndsWith (Err (Unfollowed sent)) last failed = (last ≡ sent) × (failed ≡ true)
+EndsWith (Err _) last failed = ⊥
+
 module _ {L : Type 0} (of_link : L → Connection) where
+  -- the link to the first node of a command stands at this place and works
+  abbrev pub IsFirstPlace : Command → Route → Cluster L → ℕ → Type 0
+  IsFirstPlace c route cluster place = (node : NodeAddr)
+      × ((first_node (only_reads c) route cluster ≡ Some node) × IsOpenAt of_link place node cluster.links)
+
+  -- a command goes on from what came of sending it to a node
+  pub data RoundOn (c : Command) (node : NodeAddr) (reply : Sent) (old new : Cluster L) (sent : Sent) : Type 0 where
+    went : (links : Links L) (map : List SlotRange)
+        → WentOn (SendsTo of_link c) SentRedirects node reply old.budget old.links old.map links map sent
+        → new ≡ record { links = links; map = map; budget = old.budget; reads = old.reads; stale = has_failed sent }
+        → RoundOn c node reply old new sent
+    stopped : (links : Links L) (map : List SlotRange)
+        → StoppedShort (SendsTo of_link c) SentRedirects node reply old.budget old.links old.map links map sent
+        → new ≡ record { links = links; map = map; budget = old.budget; reads = old.reads; stale = true }
+        → RoundOn c node reply old new sent
+
   -- a command is sent to its first node and on to where redirects point. After a failed call, and where memory ran out
   -- for a redirect, the map is asked for before the next command
   pub data Round (c : Command) (route : Route) (old new : Cluster L) (r : Result Sent RedisError) : Type 0 where

@@ -31,6 +31,10 @@ last_used links = slice_get links.links links.last
 abbrev pub link_to : {L : Type 0} → NodeAddr → L → NodeLink L
 link_to node link = record { node = node; link = link }
 
+-- it leads to this node
+abbrev pub IsLastNode : {L : Type 0} → NodeAddr → Links L → Type 0
+IsLastNode {L} node links = (link : L) × (last_used links ≡ Some (link_to node link))
+
 -- the link at this place is now this one, and was used last
 abbrev pub with_link : {L : Type 0} → ℕ → NodeLink L → Links L → Links L
 with_link place link links = record { links = slice_set links.links place link; last = place }
@@ -58,6 +62,10 @@ module _ {L : Type 0} (of_link : L → Connection) where
 
   abbrev pub IsBroken : L → Type 0
   IsBroken link = (of_link link).broken ≡ true
+
+  -- a link to this node stands at this place and works
+  abbrev pub IsOpenAt : ℕ → NodeAddr → Links L → Type 0
+  IsOpenAt place node links = (link : L) × (IsAt links place node link × Works link)
 
   -- a node is reached: a link to it that works was used last
   pub data Reaches (node : NodeAddr) (old new : Links L) (r : Result (Unit {0}) RedisError) : Type 0 where

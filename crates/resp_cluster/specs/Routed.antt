@@ -21,6 +21,10 @@ next_of Stays = None
 next_of (Moved slot node) = Some (node, false)
 next_of (Ask node) = Some (node, true)
 
+-- memory ran out for where what came of the last send redirects
+abbrev pub IsUnfollowed : {T : Type 0} → RouteError T → Type 0
+IsUnfollowed {T} e = (sent : T) × (e ≡ Unfollowed sent)
+
 -- before a send: the nodes, the map, the node that it goes to, and whether after ASKING
 pub record Turn (S : Type 0) : Type 0 where
   pub nodes : S

@@ -1,14 +1,16 @@
 //! A cluster's links, and one command over them.
 
-ghost use Rattle.std.specs.Prelude.{◌≡◌, ◌≢◌, true, false, IfOk, IfErr, MatchResult};
+ghost use Rattle.std.specs.Prelude.{◌≡◌, ◌≢◌, true, false, IfOk, IfErr, IfSome, MatchResult};
 ghost use Rattle.std.specs.Option.{option_copied};
 ghost use Rattle.resp_errors.specs.declared.redis_error.RedisError.TheVariants as form;
 ghost use Rattle.resp_cluster.specs.Cluster.{CannotGo, Goes, any_node, first_node, first_primary};
 ghost use Rattle.resp_cluster.specs.Cluster.{has_failed, is_to_one, last_link, new_cluster, no_node};
 ghost use Rattle.resp_cluster.specs.Cluster.{node_at, only_reads};
-ghost use Rattle.resp_cluster.specs.Cluster.{several_nodes, Round};
+ghost use Rattle.resp_cluster.specs.Cluster.{several_nodes, EndsWith, IsFirstPlace, Round, RoundOn};
 ghost use Rattle.resp_cluster.specs.Cluster.{answer_of, reached, CannotOpen, OnceMore, Opens, Readies};
 ghost use Rattle.resp_cluster.specs.Cluster.{IsReached, ReachesOne, Refreshes, Rounds, RoutedCall};
+ghost use Rattle.resp_cluster.specs.Links.{IsLastNode, SentRedirects};
+ghost use Rattle.resp_cluster.specs.Routed.{IsUnfollowed};
 
 mod fan_out;
 mod spread;
@@ -19,7 +21,8 @@ use crate::links::{NodeLinks, Nodes, Sent};
 use crate::map_source::MapError;
 use crate::node::NodeAddr;
 use crate::read_from::{ReadFrom, ReadOnly};
-use crate::router::{RouteError, follow};
+use crate::redirect::Redirect;
+use crate::router::{RouteError, follow, go_on};
 use crate::slot_map::SlotMap;
 use resp_command::Cmd;
 use resp_routing::{Route, args_of, is_readonly_cmd, route_of_cmd};
@@ -304,24 +307,53 @@ impl<N: Nodes> ClusterLink<N> {
         };
         let first = node.try_clone(self.alloc)?;
         let budget = self.budget;
-        match follow(
+        let outcome = follow(
             self.alloc,
             &mut self.links,
             &mut self.map,
             command,
             (first, false),
             budget,
-        ) {
-            Ok(sent) => {
-                self.stale = sent.has_failed();
-                Ok(sent)
-            }
-            Err(RouteError::Unfollowed(sent)) => {
-                self.stale = true;
-                Ok(sent)
-            }
-            Err(_) => unreachable!(),
+        );
+        let (sent, failed) = ended(outcome);
+        self.stale = failed;
+        Ok(sent)
+    }
+
+    /// The place of the link to the first node of a command, if one that works was opened to it.
+    fn first_place(&self, route: &Route, command: &Cmd) -> Option<usize>
+        ensures { IfSome result (λ place. IsFirstPlace N.Link.connection command.now route.now
+            self.now place) }
+    {
+        match self.first_node(route, command) {
+            Ok(Some(node)) => self.links.open_place(node),
+            _ => None,
         }
+    }
+
+    /// Has a command go on from what its node answered: that of the link that was used last.
+    fn round_on(&mut self, command: &Cmd, answer: RedisResult<Value>) -> Sent
+        ensures { (node : NodeAddr) → IsLastNode node self.old.links
+            → RoundOn N.Link.connection command.now node (Sent.Answered answer) self.old self.new
+            result }
+    {
+        let Some(node) = self.links.last_node() else {
+            self.stale = true;
+            return Sent::Answered(answer);
+        };
+        let budget = self.budget;
+        let outcome = go_on(
+            self.alloc,
+            &mut self.links,
+            &mut self.map,
+            command,
+            &node,
+            Sent::Answered(answer),
+            budget,
+        );
+        let (sent, failed) = ended(outcome);
+        self.stale = failed;
+        sent
     }
 
     /// Asks for the map, as `Refreshes` says: the primaries that it knows are asked in turn, and
@@ -375,7 +407,27 @@ impl<N: Nodes> ClusterLink<N> {
     fn rounds(&mut self, route: &Route, command: &Cmd) -> RedisResult<Value>
         ensures { Rounds N.Link.connection command.now route.now self.old self.new result }
     {
+        if let Some(place) = self.first_place(route, command) {
+            return self.rounds_over(place, route, command);
+        }
         match reached(self.round(route, command)) {
+            Some(answer) => answer,
+            None => self.once_more(route, command),
+        }
+    }
+
+    /// The same where the link to the first node is at this place and works. Unless it is a server's
+    /// error, what it answers is answered at once.
+    fn rounds_over(&mut self, place: usize, route: &Route, command: &Cmd) -> RedisResult<Value>
+        requires { IsFirstPlace N.Link.connection command.now route.now self.old place }
+        ensures { Rounds N.Link.connection command.now route.now self.old self.new result }
+    {
+        let answer = self.links.send_at(place, command);
+        if !may_redirect(&answer) {
+            self.stale = answer.is_err();
+            return answer;
+        }
+        match reached(Ok(self.round_on(command, answer))) {
             Some(answer) => answer,
             None => self.once_more(route, command),
         }
@@ -387,6 +439,33 @@ impl<N: Nodes> ClusterLink<N> {
     {
         self.refresh();
         answer_of(self.round(route, command))
+    }
+}
+
+/// What came of the last send, and whether the map is to be asked for: that failed, or memory ran
+/// out for where it redirects.
+fn ended(outcome: Result<Sent, RouteError<Sent>>) -> (Sent, bool)
+    requires { IfErr outcome IsUnfollowed }
+    ensures { EndsWith outcome result.0 result.1 }
+{
+    match outcome {
+        Ok(sent) => {
+            let failed = sent.has_failed();
+            (sent, failed)
+        }
+        Err(RouteError::Unfollowed(sent)) => (sent, true),
+        Err(_) => unreachable!(),
+    }
+}
+
+/// Whether an answer is a server's error: no other redirects.
+fn may_redirect(answer: &RedisResult<Value>) -> bool
+    ensures { result ≡ false → (node : NodeAddr) → SentRedirects node (Sent.Answered answer.now)
+        Redirect.Stays }
+{
+    match answer {
+        Ok(Value::ServerError(_)) => true,
+        _ => false,
     }
 }
 

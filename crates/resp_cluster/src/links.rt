@@ -1,6 +1,6 @@
 //! Links to the nodes of a cluster.
 
-ghost use Rattle.std.specs.Prelude.{◌≡◌, ◌≢◌, false, IfOk, OnOk, Some, None};
+ghost use Rattle.std.specs.Prelude.{◌≡◌, ◌≢◌, false, IfOk, IfSome, OnOk, Some, None};
 ghost use Rattle.resp_cluster.specs.Links.{IsTold, SendsOver, readonly_bytes, without_reply};
 
 use crate::node::NodeAddr;
@@ -74,9 +74,9 @@ impl<N: Nodes> Model for NodeLinks<N> {
 impl<N: Nodes> NodeLinks<N> {
     ghost use Rattle.resp_command.specs.Call.{AnswersFrom, Call};
     ghost use Rattle.resp_cluster.specs.Links.{IsAt, IsPlaceOf, HasNoLink, Reaches, SendsOver};
-    ghost use Rattle.resp_cluster.specs.Links.{UsesLast};
+    ghost use Rattle.resp_cluster.specs.Links.{IsLastNode, IsOpenAt, UsesLast};
     ghost use Rattle.resp_cluster.specs.Links.{last_used, no_links};
-    ghost use Rattle.std.specs.Prelude.{◌<◌, length, option_map};
+    ghost use Rattle.std.specs.Prelude.{◌<◌, length, option_map, slice_get};
     ghost use Rattle.std.specs.Option.{option_copied};
 
     /// No link yet. Takes no memory.
@@ -96,6 +96,16 @@ impl<N: Nodes> NodeLinks<N> {
         ensures { option_copied result ≡ last_used self.now }
     {
         self.links.get(self.last)
+    }
+
+    /// The node of the link that was used last; None also where there is no memory for its address.
+    pub(crate) fn last_node(&self) -> Option<NodeAddr>
+        ensures { IfSome result (λ node. IsLastNode node self.now) }
+    {
+        match self.last_used()?.node.try_clone(self.alloc) {
+            Ok(node) => Some(node),
+            Err(_) => None,
+        }
     }
 
     /// Has a link to a node that works, as the one that was used last.
@@ -118,6 +128,15 @@ impl<N: Nodes> NodeLinks<N> {
             }
         }
         None
+    }
+
+    /// The place of the link to a node, if it works.
+    pub(crate) fn open_place(&self, node: &NodeAddr) -> Option<usize>
+        ensures { IfSome result (λ place. IsOpenAt N.Link.connection place node.now self.now) }
+    {
+        let place = self.place_of(node)?;
+        let works = self.links[place].link.is_open();
+        if works { Some(place) } else { None }
     }
 
     /// The same of a node whose link is at this place.
@@ -158,6 +177,16 @@ impl<N: Nodes> NodeLinks<N> {
     {
         let last = self.last;
         &mut self.links[last].link
+    }
+
+    /// Sends a command over the link at this place.
+    pub(crate) fn send_at(&mut self, place: usize, command: &Cmd) -> RedisResult<Value>
+        requires { slice_get self.old.links place ≢ None }
+        ensures { UsesLast N.Link.connection (λ before after. SendsOver before after false
+            command.now result) (record self.old { last = place }) self.new }
+    {
+        self.last = place;
+        self.send_over_last(command, false)
     }
 
     /// Sends a command over the link that was used last, after `ASKING` where that is so.
