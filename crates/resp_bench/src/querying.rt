@@ -2,6 +2,7 @@
 
 use crate::Round;
 use crate::parsing::discard;
+use crate::routing::{MemoryLink, primaries_linked};
 use resp_core::{ByteLink, Cmd, ConnectionLike, FromRedisValue, Pipeline, RedisResult, cmd, pipe};
 use std::alloc::Global;
 use std::collections::{BTreeMap, HashMap};
@@ -22,6 +23,7 @@ const MANY: u64 = 100;
 pub enum Query {
     Incr,
     Get,
+    Routed,
     Lrange,
     Mget,
     Hgetall,
@@ -36,6 +38,7 @@ impl Query {
         match word {
             "incr" => Some(Query::Incr),
             "get" => Some(Query::Get),
+            "routed" => Some(Query::Routed),
             "lrange" => Some(Query::Lrange),
             "mget" => Some(Query::Mget),
             "hgetall" => Some(Query::Hgetall),
@@ -60,7 +63,7 @@ impl Query {
     fn reply(self, alloc: Global) -> RedisResult<Vec<u8>> {
         match self {
             Query::Incr => Ok(Vec::from_slice(alloc, b":1234567\r\n")?),
-            Query::Get => Ok(Vec::from_slice(alloc, FOUND)?),
+            Query::Get | Query::Routed => Ok(Vec::from_slice(alloc, FOUND)?),
             Query::Pipe => values_found(alloc),
             _ => self.elements(alloc)?.get_packed_command(),
         }
@@ -87,7 +90,7 @@ impl Query {
     fn ask(self, alloc: Global, con: &mut dyn ConnectionLike) -> RedisResult<()> {
         match self {
             Query::Incr => answer::<i64>(&keyed(alloc, "INCR")?, con),
-            Query::Get => answer::<String>(&keyed(alloc, "GET")?, con),
+            Query::Get | Query::Routed => answer::<String>(&keyed(alloc, "GET")?, con),
             Query::Lrange => answer::<Vec<String>>(&ranged(alloc, "LRANGE")?, con),
             Query::Mget => answer::<Vec<i64>>(&keyed(alloc, "MGET")?, con),
             Query::Hgetall => answer::<BTreeMap<String, String>>(&keyed(alloc, "HGETALL")?, con),
@@ -110,15 +113,32 @@ pub fn query_round(
     replies: &[u8],
     count: usize,
 ) -> RedisResult<Round> {
-    let incoming = Cursor::new(Vec::from_slice(alloc, replies)?);
-    let mut link = ByteLink::new(alloc, incoming, io::sink());
-    for _ in 0..count {
-        query.ask(alloc, &mut link)?;
+    match query {
+        Query::Routed => ask_often(alloc, query, &mut primaries_linked(alloc, replies)?, count)?,
+        _ => ask_often(alloc, query, &mut holding(alloc, replies)?, count)?,
     }
     Ok(Round {
         units: count as u64,
         bytes: replies.len() as u64,
     })
+}
+
+fn ask_often(
+    alloc: Global,
+    query: Query,
+    con: &mut dyn ConnectionLike,
+    count: usize,
+) -> RedisResult<()> {
+    for _ in 0..count {
+        query.ask(alloc, con)?;
+    }
+    Ok(())
+}
+
+/// A link that holds these replies.
+fn holding(alloc: Global, replies: &[u8]) -> RedisResult<MemoryLink> {
+    let incoming = Cursor::new(Vec::from_slice(alloc, replies)?);
+    Ok(ByteLink::new(alloc, incoming, io::sink()))
 }
 
 /// Asks and drops the answer.

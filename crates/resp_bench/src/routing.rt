@@ -1,0 +1,55 @@
+//! Three primaries whose links are in memory.
+
+use resp_cluster::{ClusterLink, NodeAddr, Nodes, SlotMap};
+use resp_core::{
+    ByteLink, ErrorKind, Reading, RedisError, RedisResult, Writing, parse_redis_value,
+};
+use std::alloc::Global;
+use std::io::{self, Cursor};
+
+/// The reply to `CLUSTER SLOTS`: three primaries, a third of the slots each.
+const SLOTS: &[u8] = b"*3\r\n\
+    *3\r\n:0\r\n:5460\r\n*2\r\n$9\r\n127.0.0.1\r\n:7001\r\n\
+    *3\r\n:5461\r\n:10922\r\n*2\r\n$9\r\n127.0.0.1\r\n:7002\r\n\
+    *3\r\n:10923\r\n:16383\r\n*2\r\n$9\r\n127.0.0.1\r\n:7003\r\n";
+
+/// A link over bytes in memory.
+pub type MemoryLink = ByteLink<Reading<Cursor<Vec<u8>>>, Writing<io::Sink>>;
+
+/// Nodes of which each answers with the same replies.
+#[derive(Drop)]
+pub struct Answering<'a> {
+    alloc: Global,
+    replies: &'a [u8],
+}
+
+impl<'a> Nodes for Answering<'a> {
+    type Link = MemoryLink;
+
+    fn connect(&mut self, _node: &NodeAddr) -> RedisResult<MemoryLink> {
+        let incoming = Cursor::new(Vec::from_slice(self.alloc, self.replies)?);
+        Ok(ByteLink::new(self.alloc, incoming, io::sink()))
+    }
+}
+
+/// A cluster with a link to each of its three primaries.
+pub fn primaries_linked<'a>(
+    alloc: Global,
+    replies: &'a [u8],
+) -> RedisResult<ClusterLink<Answering<'a>>> {
+    let map = map_of(alloc)?;
+    let nodes = map.primaries(alloc)?;
+    let mut cluster = ClusterLink::new(alloc, Answering { alloc, replies }, map, 5);
+    for node in &nodes {
+        cluster.reach(node)?;
+    }
+    Ok(cluster)
+}
+
+fn map_of(alloc: Global) -> RedisResult<SlotMap> {
+    let reply = parse_redis_value(alloc, SLOTS)?;
+    match SlotMap::from_slots_reply(alloc, &reply, "") {
+        Ok(map) => Ok(map),
+        Err(_) => Err(RedisError::from((ErrorKind::Client, "no map"))),
+    }
+}
