@@ -7,9 +7,11 @@ pub mod Following
 pub mod Gathers
 pub mod Joining
 pub mod Linking
+pub mod Merging
 pub mod MorePrimaries
 pub mod Moves
 pub mod OverLinks
+pub mod Parting
 pub mod RedirectTexts
 pub mod Rounds
 pub mod RoutedCalls

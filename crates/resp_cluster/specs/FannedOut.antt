@@ -1,29 +1,62 @@
 -- A command that goes to several nodes of a cluster.
-use Rattle.std.specs.Prelude.{◌≡◌, ◌≢◌, List, [], ◌∷◌, length, replicate, option_map, Option, None, Some}
+use Rattle.std.specs.Prelude.{◌≡◌, ◌≢◌, Bool, true, false, ◌&&◌, List, [], ◌∷◌, length, replicate, option_map, Option, None, Some, codes}
 use Rattle.std.specs.List.{flat_map, range_with_len}
 use Rattle.resp_value.specs.declared.value.Value.{Value, Array, out-Value}
 use Rattle.resp_value.specs.declared.value.Value.TheOpen.{Value-F}
+use Rattle.resp_errors.specs.declared.kinds.ErrorKind.TheVariants as kind
+use Rattle.resp_errors.specs.declared.redis_error.RedisError.{RedisError}
+use Rattle.resp_errors.specs.declared.redis_error.RedisError.TheVariants.{General, OutOfMemory}
 use Rattle.resp_command.specs.Command.{Command}
 use Rattle.resp_command.specs.Connection.{Connection}
 use Rattle.resp_routing.specs.Commands.{command_of}
-use Rattle.resp_routing.specs.Routes.{IsRoute}
+use Rattle.resp_routing.specs.Refusals.{redis_error_of}
+use Rattle.resp_routing.specs.Routes.{HasNoRoute, IsRoute}
 use Rattle.resp_routing.specs.declared.commands.RequestPolicy.{RequestPolicy}
 use Rattle.resp_routing.specs.declared.commands.RequestPolicy.TheVariants as request
 use Rattle.resp_routing.specs.declared.commands.ResponsePolicy.{ResponsePolicy}
 use Rattle.resp_routing.specs.declared.commands.ResponsePolicy.TheVariants as response
-use Rattle.resp_routing.specs.declared.routes.Route.TheVariants.{Keyless}
-use Rattle.resp_cluster.specs.Cluster.{Cluster, Readies, routed_args}
-use Rattle.resp_cluster.specs.Gathered.{Gathered}
-use Rattle.resp_cluster.specs.Merges.{MergesSum}
+use Rattle.resp_routing.specs.declared.errors.RoutingError.{RoutingError}
+use Rattle.resp_routing.specs.declared.routes.Route.{Route}
+use Rattle.resp_routing.specs.declared.routes.Route.TheVariants.{Slot, Keyless}
+use Rattle.resp_cluster.specs.Cluster.{Cluster, Readies, no_node, routed_args}
+use Rattle.resp_cluster.specs.Gathered.{Gathered, RefusedGroup}
+use Rattle.resp_cluster.specs.Merges.{MakesError, MergesSum, first_error_in}
 use Rattle.resp_cluster.specs.Primaries.{AreNodes, ArePrimaries}
 use Rattle.resp_cluster.specs.Spread.{SendsGroup}
 use Rattle.resp_cluster.specs.declared.node.NodeAddr.{NodeAddr}
 use Rattle.resp_cluster.specs.declared.node.SlotRange.{SlotRange}
 
--- a command without keys, and its policies
+-- a request policy names several nodes
+abbrev pub names_several : RequestPolicy → Bool
+names_several request.AllShards = true
+names_several request.AllNodes = true
+names_several to = false
+
+-- replies are combined by a response policy
+abbrev pub is_combined : Option ResponsePolicy → Bool
+is_combined None = true
+is_combined (Some response.AllSucceeded) = true
+is_combined (Some response.AggSum) = true
+is_combined makes = false
+
+-- the request policy of a route, where it has one
+abbrev pub policy_of : Route → Option RequestPolicy
+policy_of (Slot slot) = None
+policy_of (Keyless policy) = policy
+
+-- a command without keys, and its policies: it goes to several nodes, and their replies are combined
 pub record FansOut (c : Command) (to : RequestPolicy) (makes : Option ResponsePolicy) : Type 0 where
   pub is_route : IsRoute (routed_args c) (Keyless (Some to))
   pub is_policy : option_map (λ row. row.response_policy) (command_of (routed_args c)) ≡ Some makes
+  pub several : (names_several to && is_combined makes) ≡ true
+
+abbrev pub not_several : RedisError
+not_several = General kind.Client (codes "the command isn't sent to several nodes: use link_to") None
+
+-- why a command is not sent to several nodes: it has no route, or no such policies
+pub data CannotFanOut (c : Command) (e : RedisError) : Type 0 where
+  unrouted : (why : RoutingError) → HasNoRoute (routed_args c) why → e ≡ redis_error_of why → CannotFanOut c e
+  elsewhere : ((to : RequestPolicy) (makes : Option ResponsePolicy) → FansOut c to makes → ⊥) → e ≡ not_several → CannotFanOut c e
 
 -- the nodes that a request policy names
 abbrev pub AreNamed : RequestPolicy → List SlotRange → List NodeAddr → Type 0
@@ -48,15 +81,42 @@ Combines (Some response.AggSum) replies answer = MergesSum replies answer
 Combines makes replies answer = ⊥
 
 module _ {L : Type 0} (of_link : L → Connection) where
+  -- the nodes that a command is sent to, by a fresh map
+  pub record FansTo (c : Command) (makes : Option ResponsePolicy) (old ready : Cluster L) (nodes : List NodeAddr) : Type 0 where
+    pub to : RequestPolicy
+    pub fans_out : FansOut c to makes
+    pub readies : Readies of_link old ready
+    pub named : AreNamed to ready.map nodes
+
+  -- each of these nodes is sent the command once, and replies
+  abbrev pub SentToEach : Command → List NodeAddr → Cluster L → List Value → Cluster L → Type 0
+  SentToEach c nodes ready replies new =
+      Gathered (SendsGroup of_link) (replicate (length nodes) c) (range_with_len 0 (length nodes)) nodes ready replies new
+
   -- a command is sent once to each node that its policy names, and their replies are combined
   pub record FanOutCall (c : Command) (old : Cluster L) (answer : Value) (new : Cluster L) : Type 0 where
-    pub to : RequestPolicy
     pub makes : Option ResponsePolicy
     pub ready : Cluster L
     pub nodes : List NodeAddr
     pub replies : List Value
-    pub fans_out : FansOut c to makes
-    pub readies : Readies of_link old ready
-    pub named : AreNamed to ready.map nodes
-    pub sent : Gathered (SendsGroup of_link) (replicate (length nodes) c) (range_with_len 0 (length nodes)) nodes ready replies new
+    pub some : nodes ≢ []
+    pub goes : FansTo c makes old ready nodes
+    pub sent : SentToEach c nodes ready replies new
+    pub no_error : first_error_in replies ≡ None
     pub combined : Combines makes replies answer
+
+  -- a command to several nodes is refused with this error
+  pub data FanOutRefused (c : Command) (old new : Cluster L) (e : RedisError) : Type 0 where
+    -- it is not sent to several nodes, and nothing changes
+    unsent : (e ≢ OutOfMemory → CannotFanOut c e) → new ≡ old → FanOutRefused c old new e
+    no_memory : e ≡ OutOfMemory → FanOutRefused c old new e
+    -- the map has no such node, and none is sent it
+    nowhere : (makes : Option ResponsePolicy) → FansTo c makes old new [] → e ≡ no_node → FanOutRefused c old new e
+    -- a node is not reached, or the call over its link fails, after those before it were sent the command
+    at_node : (makes : Option ResponsePolicy) (ready : Cluster L) (nodes : List NodeAddr) → FansTo c makes old ready nodes
+        → RefusedGroup (SendsGroup of_link) (replicate (length nodes) c) (range_with_len 0 (length nodes)) nodes ready new e
+        → FanOutRefused c old new e
+    -- each node replied, and the replies make no answer
+    uncombined : (makes : Option ResponsePolicy) (ready : Cluster L) (nodes : List NodeAddr) (replies : List Value)
+        → FansTo c makes old ready nodes → SentToEach c nodes ready replies new
+        → (e ≢ OutOfMemory → MakesError (Combines makes replies) replies e) → FanOutRefused c old new e

@@ -1,6 +1,6 @@
 -- Several commands over the nodes of a cluster.
-use Rattle.std.specs.Prelude.{◌≡◌, ◌≢◌, ℕ, ◌<◌, ◌∷◌, ◌++◌, ◌⊎◌, Bool, true, false, List, [], All, AllPairs, Contains, length, slice_get, slice_index_or}
-use Rattle.std.specs.Prelude.{Option, Some, None, Result, Ok, Err, is_err, ◌||◌}
+use Rattle.std.specs.Prelude.{◌≡◌, ◌≢◌, ℕ, ◌<◌, ◌∷◌, ◌++◌, ◌⊎◌, ◌%◌, Bool, true, List, [], All, AllPairs, Contains, length, slice_get, slice_index_or}
+use Rattle.std.specs.Prelude.{Some, None, Result, Ok, Err, is_err, ◌||◌}
 use Rattle.std.specs.Global.{Vec}
 use Rattle.std.specs.List.{flat_map}
 use Rattle.resp_args.specs.Args.{Args}
@@ -13,16 +13,19 @@ use Rattle.resp_command.specs.Connection.{Connection}
 use Rattle.resp_pipeline.specs.Outcome.{Composes}
 use Rattle.resp_pipeline.specs.Pipeline.{Plan}
 use Rattle.resp_routing.specs.Commands.{command_of}
+use Rattle.resp_routing.specs.Refusals.{redis_error_of}
 use Rattle.resp_routing.specs.declared.commands.CommandInfo.{CommandInfo}
+use Rattle.resp_routing.specs.declared.errors.RoutingError.{RoutingError}
+use Rattle.resp_routing.specs.declared.errors.RoutingError.TheVariants.{UnknownCommand, CrossSlot, WrongArity}
 use Rattle.resp_routing.specs.declared.routes.Route.{Route}
 use Rattle.resp_cluster.specs.Cluster.{CannotGo, Cluster, Goes, Readies, answer_of, first_node, has_failed, no_node, only_reads, routed_args}
 use Rattle.resp_cluster.specs.Gathered.{FollowedEach, Gathered, RefusedGroup, StopsAt}
 use Rattle.resp_cluster.specs.Links.{Links, Reaches, SendsTo, SentRedirects, UsesLast}
-use Rattle.resp_cluster.specs.Merges.{Merges}
+use Rattle.resp_cluster.specs.Merges.{MakesError, Merges, first_error_in}
 use Rattle.resp_cluster.specs.Routed.{StoppedShort, WentOn}
 use Rattle.resp_cluster.specs.Splits.{IsSplit, merge_of, width_of}
 use Rattle.resp_cluster.specs.declared.links.Sent.{Sent}
-use Rattle.resp_cluster.specs.declared.links.Sent.TheVariants.{Unreached, Answered}
+use Rattle.resp_cluster.specs.declared.links.Sent.TheVariants.{Answered}
 use Rattle.resp_cluster.specs.declared.node.NodeAddr.{NodeAddr}
 use Rattle.resp_cluster.specs.declared.node.SlotRange.{SlotRange}
 use Rattle.resp_cluster.specs.declared.split.Merge.{Merge}
@@ -69,6 +72,19 @@ pub record IsPartsOf (args : Args) (merge : Merge) (parts : List Command) (place
   pub args_are : args ≡ name ∷ flat_map (λ entry. entry) entries
   pub wide : All (λ entry. length entry ≡ width_of row.keys) entries
   pub is_split : IsSplit name entries parts places
+
+-- why a command has no parts: the table lacks it, its row says of no way to merge them, or an entry lacks arguments
+pub data HasNoParts (args : Args) (why : RoutingError) : Type 0 where
+  unknown : command_of args ≡ None → why ≡ UnknownCommand → HasNoParts args why
+  no_merge : (row : CommandInfo) → command_of args ≡ Some row → merge_of row ≡ None → why ≡ CrossSlot → HasNoParts args why
+  uneven : (name : List ℕ) (rest : Args) (row : CommandInfo) → args ≡ name ∷ rest → command_of args ≡ Some row
+      → length rest % width_of row.keys ≢ 0 → why ≡ WrongArity → HasNoParts args why
+
+-- this error says why
+pub record CannotSplit (c : Command) (e : RedisError) : Type 0 where
+  pub why : RoutingError
+  pub no_parts : HasNoParts (routed_args c) why
+  pub says : e ≡ redis_error_of why
 
 -- these links and this map; the map is asked for before the next command where a call failed, now or before
 abbrev pub with_links : {L : Type 0} → Cluster L → Links L → List SlotRange → Bool → Cluster L
@@ -139,4 +155,17 @@ module _ {L : Type 0} (of_link : L → Connection) where
     pub replies : List Value
     pub parted : IsPartsOf (routed_args c) merge parts places
     pub sent : SpreadCall parts old replies new
+    pub no_error : first_error_in replies ≡ None
     pub merged : Merges merge places replies answer
+
+  -- a command in parts is refused with this error
+  pub data SplitRefused (c : Command) (old new : Cluster L) (e : RedisError) : Type 0 where
+    -- it is not split, and nothing changes
+    unsplit : (e ≢ OutOfMemory → CannotSplit c e) → new ≡ old → SplitRefused c old new e
+    -- its parts are refused
+    at_parts : (merge : Merge) (parts : List Command) (places : List ℕ) → IsPartsOf (routed_args c) merge parts places
+        → SpreadRefused parts old new e → SplitRefused c old new e
+    -- each part is replied to, and the replies make no answer
+    unmerged : (merge : Merge) (parts : List Command) (places : List ℕ) (replies : List Value)
+        → IsPartsOf (routed_args c) merge parts places → SpreadCall parts old replies new
+        → (e ≢ OutOfMemory → MakesError (Merges merge places replies) replies e) → SplitRefused c old new e

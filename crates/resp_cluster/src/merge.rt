@@ -1,13 +1,18 @@
 //! What the replies to the parts of a command make together.
 
-ghost use Rattle.std.specs.Prelude.{◌≡◌, All, FitsSigned, IfOk, IsTrue, OnOk, length, map, ◌<◌};
+ghost use Rattle.std.specs.Prelude.{◌≡◌, ◌≢◌, All, FitsSigned, IfErr, IfOk, IsFalse, IsTrue, List, None, OnOk};
+ghost use Rattle.std.specs.Prelude.{length, map, ℤ, ◌<◌};
 ghost use Rattle.std.specs.Int.{w64};
 ghost use Rattle.std.specs.List.{flat_map};
+ghost use Rattle.resp_errors.specs.Memory.{OnlyMemory};
+ghost use Rattle.resp_errors.specs.declared.redis_error.RedisError.TheVariants as form;
 ghost use Rattle.resp_cluster.specs.FannedOut.{items_of};
 ghost use Rattle.resp_cluster.specs.Gathered.{of_node};
 ghost use Rattle.resp_cluster.specs.Gathering.{Enough, from_last};
-ghost use Rattle.resp_cluster.specs.Merges.{Merges, MergesOkay, MergesSum, MergesValues, sum_of};
-ghost use Rattle.resp_value.specs.declared.value.Value.{Array, Int};
+ghost use Rattle.resp_cluster.specs.Merges.{MakesError, MakesNone, Merges, MergesOkay, MergesSum};
+ghost use Rattle.resp_cluster.specs.Merges.{MergesValues, first_error_in, other_replies, sum_of};
+ghost use Rattle.resp_cluster.specs.Merges.{IsFirstError};
+ghost use Rattle.resp_value.specs.declared.value.Value.{Array, Int, Value};
 
 use crate::gather::in_places;
 use crate::split::Merge;
@@ -24,7 +29,10 @@ pub(crate) fn merged(
     places: &[usize],
     replies: Vec<Value>,
 ) -> RedisResult<Value>
-    ensures { IfOk result (λ answer. Merges merge places.now replies.items answer) }
+    ensures merged { IfOk result (λ answer. Merges merge places.now replies.items answer) }
+    ensures passed { IfOk result (λ answer. first_error_in replies.items ≡ None) }
+    ensures refused { IfErr result (λ e. e ≢ form.OutOfMemory
+        → MakesError (Merges merge places.now replies.items) replies.items e) }
 {
     let replies = without_errors(alloc, replies)?;
     match merge {
@@ -36,7 +44,9 @@ pub(crate) fn merged(
 
 /// The replies, or the first server error in them.
 pub(crate) fn without_errors(alloc: Global, replies: Vec<Value>) -> RedisResult<Vec<Value>>
-    ensures { IfOk result (λ passed. passed.items ≡ replies.items) }
+    ensures passed { IfOk result (λ passed. passed.items ≡ replies.items) }
+    ensures none { IfOk result (λ passed. first_error_in replies.items ≡ None) }
+    ensures refused { IfErr result (λ e. e ≢ form.OutOfMemory → IsFirstError replies.items e) }
 {
     let mut passed = Vec::with_capacity(alloc, replies.len())?;
     for reply in replies {
@@ -47,7 +57,9 @@ pub(crate) fn without_errors(alloc: Global, replies: Vec<Value>) -> RedisResult<
 
 /// The values of arrays, each in the place of its key.
 fn values_of(alloc: Global, places: &[usize], replies: Vec<Value>) -> RedisResult<Value>
-    ensures { IfOk result (MergesValues places.now replies.items) }
+    ensures merged { IfOk result (MergesValues places.now replies.items) }
+    ensures refused { IfErr result (λ e. e ≢ form.OutOfMemory
+        → MakesNone (MergesValues places.now replies.items) e) }
 {
     let mut groups = elements_of(alloc, replies)?;
     if !fits(groups.as_slice(), places) {
@@ -59,7 +71,9 @@ fn values_of(alloc: Global, places: &[usize], replies: Vec<Value>) -> RedisResul
 
 /// The elements of arrays, the last one of each first.
 fn elements_of(alloc: Global, replies: Vec<Value>) -> RedisResult<Vec<Vec<Value>>>
-    ensures { IfOk result (λ groups. replies.items ≡ map Array (map from_last groups.items)) }
+    ensures arrays { IfOk result (λ groups. replies.items ≡ map Array (map from_last groups.items)) }
+    ensures refused { IfErr result (λ e. e ≢ form.OutOfMemory → (e ≡ other_replies)
+        × ((groups : List (List Value)) → replies.items ≡ map Array groups → ⊥)) }
 {
     let mut groups = Vec::with_capacity(alloc, replies.len())?;
     for reply in replies {
@@ -77,6 +91,8 @@ fn elements_of(alloc: Global, replies: Vec<Value>) -> RedisResult<Vec<Vec<Value>
 fn fits(groups: &[Vec<Value>], places: &[usize]) -> bool
     ensures known { IsTrue result → All (λ place. place < length groups.now) places.now }
     ensures enough { IsTrue result → Enough (map from_last groups.now) places.now }
+    ensures not { IsFalse result → All (λ place. place < length groups.now) places.now
+        → Enough (map from_last groups.now) places.now → ⊥ }
 {
     for part in 0..groups.len() {
         if groups[part].len() != count_of(places, part) {
@@ -101,7 +117,8 @@ fn count_of(places: &[usize], part: usize) -> usize
 
 /// Whether each place is below this one.
 fn are_below(places: &[usize], count: usize) -> bool
-    ensures { IsTrue result → All (λ place. place < count) places.now }
+    ensures known { IsTrue result → All (λ place. place < count) places.now }
+    ensures not { IsFalse result → All (λ place. place < count) places.now → ⊥ }
 {
     for place in places {
         if *place >= count {
@@ -113,7 +130,8 @@ fn are_below(places: &[usize], count: usize) -> bool
 
 /// The sum of numbers.
 pub(crate) fn sum_of(replies: &[Value]) -> RedisResult<Value>
-    ensures { IfOk result (MergesSum replies.now) }
+    ensures merged { IfOk result (MergesSum replies.now) }
+    ensures refused { IfErr result (MakesNone (MergesSum replies.now)) }
 {
     let mut sum: i64 = 0;
     for reply in replies {
@@ -129,6 +147,7 @@ pub(crate) fn sum_of(replies: &[Value]) -> RedisResult<Value>
 fn number_of(reply: &Value) -> RedisResult<i64>
     ensures is { IfOk result (λ number. reply.now ≡ Int number) }
     ensures fits { IfOk result (FitsSigned w64) }
+    ensures refused { IfErr result (λ e. (e ≡ other_replies) × ((n : ℤ) → reply.now ≡ Int n → ⊥)) }
 {
     match reply {
         Value::Int(number) => Ok(*number),
@@ -138,7 +157,8 @@ fn number_of(reply: &Value) -> RedisResult<i64>
 
 /// One array of the items of replies, where a reply that is no array is an item.
 pub(crate) fn joined(alloc: Global, replies: Vec<Value>) -> RedisResult<Value>
-    ensures { IfOk result (λ answer. answer ≡ Array (flat_map items_of replies.items)) }
+    ensures joined { IfOk result (λ answer. answer ≡ Array (flat_map items_of replies.items)) }
+    ensures memory { OnlyMemory result }
 {
     let mut items = Vec::new(alloc);
     for reply in replies {
@@ -152,7 +172,8 @@ pub(crate) fn joined(alloc: Global, replies: Vec<Value>) -> RedisResult<Value>
 
 /// `OK`, where all are.
 fn okay_of(replies: &[Value]) -> RedisResult<Value>
-    ensures { IfOk result (MergesOkay replies.now) }
+    ensures merged { IfOk result (MergesOkay replies.now) }
+    ensures refused { IfErr result (MakesNone (MergesOkay replies.now)) }
 {
     for reply in replies {
         let Value::Okay = reply else {
@@ -162,7 +183,9 @@ fn okay_of(replies: &[Value]) -> RedisResult<Value>
     Ok(Value::Okay)
 }
 
-pub(crate) fn unexpected() -> RedisError {
+pub(crate) fn unexpected() -> RedisError
+    ensures { result ≡ other_replies }
+{
     RedisError::from((
         ErrorKind::UnexpectedReturnType,
         "the parts of a command have other replies",

@@ -1,12 +1,16 @@
 //! A command that goes to several nodes of a cluster.
 
-ghost use Rattle.std.specs.Prelude.{◌≡◌, IfOk, length, replicate};
+ghost use Rattle.std.specs.Prelude.{◌≡◌, ◌≢◌, ◌⊎◌, ◌&&◌, None, true, IfErr, IfOk, length, replicate};
 ghost use Rattle.std.specs.List.{range_with_len};
-ghost use Rattle.resp_cluster.specs.FannedOut.{AreNamed, Combines, FanOutCall, FansOut};
-ghost use Rattle.resp_cluster.specs.Gathered.{Gathered};
+ghost use Rattle.resp_errors.specs.declared.redis_error.RedisError.TheVariants as form;
+ghost use Rattle.resp_cluster.specs.FannedOut.{AreNamed, CannotFanOut, Combines, FanOutCall};
+ghost use Rattle.resp_cluster.specs.FannedOut.{FanOutRefused, FansOut, SentToEach, is_combined};
+ghost use Rattle.resp_cluster.specs.FannedOut.{names_several, not_several, policy_of};
+ghost use Rattle.resp_cluster.specs.Gathered.{RefusedGroup};
+ghost use Rattle.resp_cluster.specs.Merges.{MakesError, first_error_in};
 ghost use Rattle.resp_cluster.specs.Spread.{SendsGroup};
 
-use super::ClusterLink;
+use super::{ClusterLink, no_node};
 use crate::gather::gather;
 use crate::links::Nodes;
 use crate::merge::{joined, sum_of, unexpected, without_errors};
@@ -34,18 +38,27 @@ impl<N: Nodes> ClusterLink<N> {
     /// - `AggSum`, as of `DBSIZE`: the sum;
     /// - none, as of `KEYS`: one array of the items of all, where a reply that is no array is an item.
     ///
-    /// A server's error among the replies is answered as the error; other nodes have run the command
-    /// then. Where a node isn't reached or a call over its link fails, the error is answered: the
-    /// nodes before it have run the command. Refused unsent, with kind `Client`: a command that goes
-    /// to one node, and one whose replies are combined otherwise (`INFO`, `WAIT`, `SCRIPT EXISTS`),
-    /// which [`ClusterLink::link_to`] sends to a node.
+    /// Refused, with nothing sent and nothing changed: with kind `Client` a command that goes to one
+    /// node, or whose replies are combined otherwise (`INFO`, `WAIT`, `SCRIPT EXISTS`), which
+    /// [`ClusterLink::link_to`] sends to a node; and one without a route, as
+    /// [`ClusterLink::req_routed`] refuses it. Refused unsent where the map has no such node, with kind
+    /// `ClusterConnectionNotFound`.
+    ///
+    /// Where a node isn't reached or a call over its link fails, the error is answered: the nodes before
+    /// it have run the command. Where all have replied, the first server's error in the replies is
+    /// answered, or kind `UnexpectedReturnType` where they make no such answer.
     pub fn req_fan_out(&mut self, command: &Cmd) -> RedisResult<Value>
-        ensures { IfOk result (λ answer. FanOutCall N.Link.connection command.now self.old answer
+        ensures answered { IfOk result (λ answer. FanOutCall N.Link.connection command.now self.old
+            answer self.new) }
+        ensures refused { IfErr result (FanOutRefused N.Link.connection command.now self.old
             self.new) }
     {
         let policies = policies_of(self.alloc, command)?;
         self.make_ready();
         let nodes = self.map.named_by(self.alloc, &policies.to)?;
+        if nodes.is_empty() {
+            return Err(no_node());
+        }
         let replies = self.send_to_each(nodes.as_slice(), command)?;
         let answer = combined(self.alloc, &policies.makes, replies)?;
         Ok(answer)
@@ -53,9 +66,11 @@ impl<N: Nodes> ClusterLink<N> {
 
     /// Sends a command to each of these nodes, one after the other.
     fn send_to_each(&mut self, nodes: &[NodeAddr], command: &Cmd) -> RedisResult<Vec<Value>>
-        ensures { IfOk result (λ replies. Gathered (SendsGroup N.Link.connection)
-            (replicate (length nodes.now) command.now) (range_with_len 0 (length nodes.now)) nodes.now
+        ensures sent { IfOk result (λ replies. SentToEach N.Link.connection command.now nodes.now
             self.old replies.items self.new) }
+        ensures refused { IfErr result (λ e. (e ≡ form.OutOfMemory)
+            ⊎ RefusedGroup (SendsGroup N.Link.connection) (replicate (length nodes.now) command.now)
+            (range_with_len 0 (length nodes.now)) nodes.now self.old self.new e) }
     {
         let alloc = self.alloc;
         let commands = copies(alloc, command, nodes.len())?;
@@ -67,20 +82,22 @@ impl<N: Nodes> ClusterLink<N> {
 
 impl SlotMap {
     /// The nodes that a request policy names.
-    fn named_by(&self, alloc: Global, to: &RequestPolicy) -> RedisResult<Items<NodeAddr>>
+    fn named_by(&self, alloc: Global, to: &RequestPolicy) -> Result<Items<NodeAddr>, AllocError>
+        requires { names_several to.now ≡ true }
         ensures { IfOk result (AreNamed to.now self.now) }
     {
         match to {
-            RequestPolicy::AllShards => Ok(self.primaries(alloc)?),
-            RequestPolicy::AllNodes => Ok(self.nodes(alloc)?),
-            RequestPolicy::MultiShard | RequestPolicy::Special => Err(not_several()),
+            RequestPolicy::AllShards => self.primaries(alloc),
+            RequestPolicy::AllNodes => self.nodes(alloc),
+            RequestPolicy::MultiShard | RequestPolicy::Special => unreachable!(),
         }
     }
 }
 
 /// The policies of a command that goes to several nodes, and whose replies are combined here.
 fn policies_of(alloc: Global, command: &Cmd) -> RedisResult<Policies>
-    ensures { IfOk result (λ policies. FansOut command.now policies.to policies.makes) }
+    ensures found { IfOk result (λ policies. FansOut command.now policies.to policies.makes) }
+    ensures refused { IfErr result (λ e. e ≢ form.OutOfMemory → CannotFanOut command.now e) }
 {
     let args = args_of(alloc, command, b"0")?;
     let words = args.as_slice();
@@ -91,16 +108,56 @@ fn policies_of(alloc: Global, command: &Cmd) -> RedisResult<Policies>
     let Some(info) = command_info(words) else {
         return Err(not_several());
     };
-    match (route, info.response_policy) {
-        (
-            Route::Keyless(Some(to)),
-            makes @ (None | Some(ResponsePolicy::AllSucceeded | ResponsePolicy::AggSum)),
-        ) => Ok(Policies { to, makes }),
-        _ => Err(not_several()),
+    let Some(to) = policy_of(route) else {
+        return Err(not_several());
+    };
+    let makes = info.response_policy;
+    if is_fanned_out(&to, &makes) {
+        return Ok(Policies { to, makes });
+    }
+    Err(not_several())
+}
+
+/// The request policy of a route, where it has one.
+fn policy_of(route: Route) -> Option<RequestPolicy>
+    ensures { result ≡ policy_of route }
+{
+    match route {
+        Route::Slot(_) => None,
+        Route::Keyless(policy) => policy,
     }
 }
 
-fn not_several() -> RedisError {
+/// Whether a command of these policies goes to several nodes, and their replies are combined.
+fn is_fanned_out(to: &RequestPolicy, makes: &Option<ResponsePolicy>) -> bool
+    ensures { result ≡ (names_several to.now && is_combined makes.now) }
+{
+    names_several(to) && is_combined(makes)
+}
+
+/// Whether a request policy names several nodes.
+fn names_several(to: &RequestPolicy) -> bool
+    ensures { result ≡ names_several to.now }
+{
+    match to {
+        RequestPolicy::AllShards | RequestPolicy::AllNodes => true,
+        RequestPolicy::MultiShard | RequestPolicy::Special => false,
+    }
+}
+
+/// Whether replies are combined by a response policy.
+fn is_combined(makes: &Option<ResponsePolicy>) -> bool
+    ensures { result ≡ is_combined makes.now }
+{
+    match makes {
+        None | Some(ResponsePolicy::AllSucceeded | ResponsePolicy::AggSum) => true,
+        Some(_) => false,
+    }
+}
+
+fn not_several() -> RedisError
+    ensures { result ≡ not_several }
+{
     RedisError::from((
         ErrorKind::Client,
         "the command isn't sent to several nodes: use link_to",
@@ -113,7 +170,10 @@ fn combined(
     makes: &Option<ResponsePolicy>,
     replies: Vec<Value>,
 ) -> RedisResult<Value>
-    ensures { IfOk result (Combines makes.now replies.items) }
+    ensures combined { IfOk result (Combines makes.now replies.items) }
+    ensures passed { IfOk result (λ answer. first_error_in replies.items ≡ None) }
+    ensures refused { IfErr result (λ e. e ≢ form.OutOfMemory
+        → MakesError (Combines makes.now replies.items) replies.items e) }
 {
     let replies = without_errors(alloc, replies)?;
     match makes {

@@ -3,8 +3,10 @@
 ghost use Rattle.std.specs.Prelude.{◌≡◌, ◌≢◌, true, false, IfErr, IfOk};
 ghost use Rattle.resp_errors.specs.declared.redis_error.RedisError.TheVariants as form;
 ghost use Rattle.resp_routing.specs.Commands.{words};
+ghost use Rattle.resp_routing.specs.declared.errors.RoutingError.TheVariants as refusal;
 ghost use Rattle.resp_cluster.specs.Spread.{AreDestinations, HasNoDestination, IsDestination};
 ghost use Rattle.resp_cluster.specs.Spread.{IsPartsOf, IsPlaceAmong, OneHasNone, SplitCall};
+ghost use Rattle.resp_cluster.specs.Spread.{HasNoParts, SplitRefused};
 ghost use Rattle.resp_cluster.specs.Spread.{SpreadCall, SpreadQuery, SpreadRefused};
 ghost use Rattle.resp_cluster.specs.Transactions.{TransactionQuery};
 
@@ -71,12 +73,17 @@ impl<N: Nodes> ClusterLink<N> {
     /// Sends a command whose keys may be in several slots as one command for each slot, as
     /// [`ClusterLink::req_commands`] does, and answers what their replies make together: the values of
     /// `MGET`, each in the place of its key; the sum of the numbers of `DEL`, `UNLINK`, `EXISTS` and
-    /// `TOUCH`; `OK` of `MSET`. Where a part is replied to with a server's error, that is answered.
+    /// `TOUCH`; `OK` of `MSET`. It isn't atomic: other clients may see some parts done and others not.
     ///
-    /// It isn't atomic: other clients may see some parts done and others not. Any other command is
-    /// refused unsent: as a server does, with `CROSSSLOT`.
+    /// Refused, with nothing sent and nothing changed: any other command, as a server does, with
+    /// `CROSSSLOT`; one that isn't in the table, or whose arguments don't make whole entries, with kind
+    /// `Client`. Else it fails as [`ClusterLink::req_commands`] does with its parts; or, where each is
+    /// replied to, with the first server's error in the replies, or with kind `UnexpectedReturnType`
+    /// where they make no such answer.
     pub fn req_split(&mut self, command: &Cmd) -> RedisResult<Value>
-        ensures { IfOk result (λ answer. SplitCall N.Link.connection command.now self.old answer
+        ensures answered { IfOk result (λ answer. SplitCall N.Link.connection command.now self.old
+            answer self.new) }
+        ensures refused { IfErr result (SplitRefused N.Link.connection command.now self.old
             self.new) }
     {
         let args = args_of(self.alloc, command, b"0")?;
@@ -120,8 +127,9 @@ impl<N: Nodes> ClusterLink<N> {
 
 /// The parts of a command, given its arguments, and how their replies are put together.
 fn parts_of(alloc: Global, args: &[&[u8]]) -> Result<(Merge, Parts), RoutingError>
-    ensures { IfOk result (λ found. IsPartsOf (words args.now) found.0 found.1.commands.items
+    ensures found { IfOk result (λ found. IsPartsOf (words args.now) found.0 found.1.commands.items
         found.1.places.items) }
+    ensures none { IfErr result (λ why. why ≢ refusal.OutOfMemory → HasNoParts (words args.now) why) }
 {
     let Some(info) = command_info(args) else {
         return Err(RoutingError::UnknownCommand);
