@@ -1,7 +1,7 @@
 -- Where a command goes, and where the first primary is.
-use Rattle.std.proofs.Common.{◌≡◌, ◌≢◌, ℕ, ◌+◌, ◌<◌, ◌≤◌, List, [], ◌∷◌, length, drop, get_or, Option, None, Some}
-use Rattle.std.proofs.Common.{refl, sym, ap, subst, ◌∙◌, arith, Bool, true, false, Result, Ok, Err, MatchResult, IfErr, IfOk}
-use Rattle.std.proofs.lemmas.List.{drop_more, drop_all}
+use Rattle.std.proofs.Common.{◌≡◌, ◌≢◌, ℕ, ◌+◌, ◌<◌, List, ◌∷◌, length, drop, get_or, Option, None, Some}
+use Rattle.std.proofs.Common.{refl, sym, ap, subst, ◌∙◌, Bool, true, false, Result, Ok, Err, MatchResult, IfErr, IfOk}
+use Rattle.std.proofs.lemmas.List.{drop_more}
 use Rattle.resp_args.specs.Args.{Args}
 use Rattle.resp_errors.specs.declared.redis_error.RedisError.{RedisError}
 use Rattle.resp_errors.specs.declared.redis_error.RedisError.TheVariants as form

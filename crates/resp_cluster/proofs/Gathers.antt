@@ -1,7 +1,7 @@
 -- The replies of several nodes, put in the places of the commands.
-use Rattle.std.proofs.Common.{◌≡◌, ℕ, zero, suc, ◌+◌, ◌<◌, ◌==◌, Bool, true, false, List, [], ◌∷◌, ◌++◌, map, length, take, drop, get_or}
-use Rattle.std.proofs.Common.{set, refl, sym, ap, ◌∙◌, append_assoc, append-nil, arith, inl, inr, Result, Err, Some, slice_get, if◌then◌else◌, All}
-use Rattle.std.proofs.Common.{slice_index_or, slice_set, eqb-true, eq-eqb, ne_eqb, flat_map, ◌≤◌, zero-le, subst}
+use Rattle.std.proofs.Common.{◌≡◌, ℕ, zero, suc, ◌+◌, ◌<◌, ◌==◌, Bool, true, false, List, [], ◌∷◌, ◌++◌, length, take, drop, get_or}
+use Rattle.std.proofs.Common.{refl, sym, ap, ◌∙◌, append_assoc, append-nil, arith, Result, Err, Some, slice_get, if◌then◌else◌}
+use Rattle.std.proofs.Common.{slice_set, eqb-true, eq-eqb, ne_eqb, ◌≤◌, zero-le}
 use Rattle.std.proofs.lemmas.Bool.{eqb-false}
 use Rattle.std.proofs.lemmas.List.{take_more, drop_more, take_all, drop_all, get_or-set_same, get_or-set_other, length-set}
 use Rattle.std.proofs.lemmas.List.{length-append}

@@ -1,5 +1,5 @@
 -- A command that goes on from a reply.
-use Rattle.std.proofs.Common.{◌≡◌, ℕ, ◌-◌, ◌<◌, Bool, List, Option, Some, Result, Ok, Err, IfOk, IfErr}
+use Rattle.std.proofs.Common.{ℕ, ◌-◌, ◌<◌, Bool, List, Some, Result, Ok, Err, IfOk, IfErr}
 use Rattle.resp_cluster.specs.Routed.{DidNotGoOn, Followed, Learns, NotFollowed, WentOn, on_the_way, onwards}
 use Rattle.resp_cluster.specs.declared.node.NodeAddr.{NodeAddr}
 use Rattle.resp_cluster.specs.declared.node.SlotRange.{SlotRange}

@@ -1,10 +1,9 @@
 -- A map after a slot has moved.
-use Rattle.std.proofs.Common.{◌≡◌, ◌≢◌, ℕ, ◌+◌, ◌<◌, ◌≤◌, ◌&&◌, nat_le, ◌==◌, Bool, true, false, List, [], ◌∷◌, ◌++◌, Option, None, Some}
-use Rattle.std.proofs.Common.{refl, sym, ap, ◌∙◌, cond, drop, take, length, arith, get_or, set, find, append_assoc, le_refl}
-use Rattle.std.specs.Option.{option_map_or}
+use Rattle.std.proofs.Common.{◌≡◌, ◌≢◌, ℕ, ◌+◌, ◌<◌, ◌≤◌, ◌&&◌, nat_le, ◌==◌, Bool, true, false, List, [], ◌∷◌, ◌++◌, None, Some}
+use Rattle.std.proofs.Common.{refl, sym, ap, ◌∙◌, cond, drop, take, length, arith, get_or, set, append_assoc, le_refl}
 use Rattle.std.proofs.lemmas.Bool.Decides.{nat_tests}
 use Rattle.std.proofs.lemmas.List.{drop_more, drop_all, take_more, drop-set, take-set, take-append-drop}
-use Rattle.resp_cluster.specs.Maps.{covers, is_of, moved, primary_at, range_at, has_own_range, with_range, with_primary, IsOwnPlace}
+use Rattle.resp_cluster.specs.Maps.{covers, is_of, moved, primary_at, has_own_range, with_range, with_primary, IsOwnPlace}
 use Rattle.resp_cluster.specs.declared.node.NodeAddr.{NodeAddr}
 use Rattle.resp_cluster.specs.declared.node.SlotRange.{SlotRange}
 

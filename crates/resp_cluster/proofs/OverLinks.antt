@@ -1,5 +1,5 @@
 -- A command over a cluster's links is a call of a connection that routes.
-use Rattle.std.proofs.Common.{◌≡◌, ◌≢◌, ◌⊎◌, ℕ, ◌<◌, Bool, true, false, List, [], ◌∷◌, ◌++◌, Option, None, Some, Result, Ok, Err}
+use Rattle.std.proofs.Common.{◌≡◌, ◌≢◌, ℕ, Bool, false, List, [], ◌∷◌, ◌++◌, Option, None, Some, Result, Ok, Err}
 use Rattle.std.proofs.Common.{refl, sym, ap, subst, ◌∙◌, arith, length, get_or, set, option_map}
 use Rattle.std.specs.List.{slice_get}
 use Rattle.std.proofs.lemmas.Grind.{common_steps}
@@ -8,10 +8,9 @@ use Rattle.std.proofs.Math.Seq.{get_or-append_seam}
 use Rattle.std.proofs.Common.{length-append}
 use Rattle.resp_value.specs.declared.value.Value.{Value}
 use Rattle.resp_errors.specs.declared.redis_error.RedisError.{RedisError}
-use Rattle.resp_command.specs.Call.{Asks, AnswersReply, Call, CommandCall, PackedCall, needed, Routes, carried, not_carried}
+use Rattle.resp_command.specs.Call.{Asks, AnswersReply, Call, CommandCall, needed, Routes, carried, not_carried}
 use Rattle.resp_command.specs.Command.{Command}
-use Rattle.resp_command.specs.Connection as connection
-use Rattle.resp_command.specs.Connection.{Connection, Exchange, ExchangeOf, Bytes, LinkPolicy, stays, reconnects, routes}
+use Rattle.resp_command.specs.Connection.{Connection, stays, reconnects, routes}
 use Rattle.resp_command.specs.Packed.{packed}
 use Rattle.resp_command.specs.Subscriptions.{IsUnanswered}
 use Rattle.resp_routing.specs.declared.routes.Route.{Route}

@@ -1,6 +1,6 @@
 -- The parts of a text around a byte.
-use Rattle.std.proofs.Common.{◌≡◌, ◌≢◌, ◌==◌, ℕ, ◌<◌, List, [], ◌∷◌, ◌++◌, Option, None, Some, MatchOption, get_or, take, drop, length}
-use Rattle.std.proofs.Common.{refl, sym, ap, subst, ◌∙◌, arith, true, false, Bool, Result, Ok, Err}
+use Rattle.std.proofs.Common.{◌≡◌, ◌≢◌, ◌==◌, ℕ, ◌<◌, List, [], ◌∷◌, ◌++◌, Some, get_or, take, drop}
+use Rattle.std.proofs.Common.{refl, sym, ap, subst, ◌∙◌, arith, false}
 use Rattle.std.specs.List.{All}
 use Rattle.std.specs.Str.{NoCharPasses}
 use Rattle.std.specs.Str.Pattern.{FindsChar, RFindsChar, HasCharAt, SplitsAroundMatch}
@@ -10,7 +10,7 @@ use Rattle.std.proofs.lemmas.List.{get_or_default, take-append-drop}
 use Rattle.std.proofs.lemmas.List.Elements.{All-head, All-tail}
 use Rattle.std.proofs.lemmas.Bool.Decides.{nat_tests}
 use Rattle.resp_errors.specs.Numerals.{UnsignedText}
-use Rattle.resp_errors.specs.ServerErrors.{server_kind_of, server_details_of}
+use Rattle.resp_errors.specs.ServerErrors.{server_details_of}
 use Rattle.resp_errors.specs.declared.kinds.ServerErrorKind.{ServerErrorKind}
 use Rattle.resp_errors.specs.declared.kinds.ServerErrorKind.TheVariants as kind
 use Rattle.resp_errors.specs.declared.server_error.ServerError.{ServerError}

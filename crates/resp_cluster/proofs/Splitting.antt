@@ -1,6 +1,6 @@
 -- A command in parts.
-use Rattle.std.proofs.Common.{◌≡◌, ◌≢◌, ◌⊎◌, ℕ, zero, suc, ◌+◌, ◌-◌, ◌<◌, ◌≤◌, Bool, true, false, List, [], ◌∷◌, ◌++◌, map, length, take, get_or}
-use Rattle.std.proofs.Common.{AllPairs, drop, take-append-drop, length-take, length-drop, mod-eq_of_lt, ◌%◌, refl, sym, ap, ◌∙◌, append_assoc, append-nil, arith, inl, inr, All, slice_index_or, Bor, length-append}
+use Rattle.std.proofs.Common.{◌≡◌, ◌≢◌, ℕ, ◌+◌, ◌-◌, ◌<◌, ◌≤◌, List, [], ◌∷◌, ◌++◌, length, take, get_or}
+use Rattle.std.proofs.Common.{AllPairs, drop, take-append-drop, length-take, length-drop, mod-eq_of_lt, ◌%◌, sym, ap, ◌∙◌, append_assoc, append-nil, arith, inl, inr, All, Bor, length-append}
 use Rattle.std.proofs.lemmas.List.{get_or-map, length-map, take_more, map_push, get_or_append_left, get_or_push, map-append}
 use Rattle.std.proofs.lemmas.List.Elements.{All-push}
 use Rattle.std.proofs.lemmas.List.Quantifiers.{all_pairs_push}

@@ -1,7 +1,7 @@
 -- The nodes that commands are sent to.
-use Rattle.std.proofs.Common.{◌≡◌, ◌≢◌, ◌⊎◌, ℕ, zero, suc, ◌+◌, ◌<◌, ◌≤◌, List, [], ◌∷◌, ◌++◌, All, AllPairs, length, take, get_or, slice_get}
+use Rattle.std.proofs.Common.{◌≡◌, ◌≢◌, ◌⊎◌, ℕ, zero, suc, ◌+◌, ◌<◌, ◌≤◌, List, [], ◌∷◌, ◌++◌, AllPairs, length, take, get_or, slice_get}
 use Rattle.std.specs.Global.{Vec}
-use Rattle.std.proofs.Common.{Bool, true, false, ◌||◌, Result, Ok, Err, is_err, subst, slice_index_or, refl, sym, ap, ◌∙◌, Some, inl, inr, arith, length-append}
+use Rattle.std.proofs.Common.{Bool, true, false, ◌||◌, Result, Ok, Err, is_err, subst, refl, sym, ap, ◌∙◌, Some, inl, inr, arith, length-append}
 use Rattle.std.proofs.lemmas.Bool.{cases_lt}
 use Rattle.std.proofs.lemmas.List.{take_more, get_or_append_left, get_or_push}
 use Rattle.std.proofs.lemmas.List.Elements.{All-push}

@@ -1,8 +1,7 @@
 -- Links to the nodes of a cluster, and what is sent over them.
-use Rattle.std.specs.Prelude.{◌≡◌, ◌≢◌, ◌⊎◌, ℕ, ◌<◌, Bool, true, false, List, [], ◌∷◌, ◌++◌, All, length}
+use Rattle.std.specs.Prelude.{◌≡◌, ◌≢◌, ℕ, Bool, true, false, List, [], ◌∷◌, ◌++◌, All, length}
 use Rattle.std.specs.Prelude.{slice_get, slice_set}
-use Rattle.std.specs.Prelude.{Option, None, Some, option_map, Result, Ok, Err, codes}
-use Rattle.std.specs.List.{FoldsTo}
+use Rattle.std.specs.Prelude.{Option, None, Some, Result, Ok, Err, codes}
 use Rattle.resp_value.specs.declared.value.Value.{Value}
 use Rattle.resp_errors.specs.declared.redis_error.RedisError.{RedisError}
 use Rattle.resp_command.specs.Call.{CommandCall, PackedCall}

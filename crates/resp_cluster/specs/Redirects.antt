@@ -1,5 +1,5 @@
 -- Where a reply sends its command (Redis cluster specification, "MOVED Redirection", "ASK redirection").
-use Rattle.std.specs.Prelude.{◌≡◌, ◌≢◌, ℕ, ◌<◌, ◌==◌, List, ◌∷◌, ◌++◌, All, length, Option, Some, if◌then◌else◌}
+use Rattle.std.specs.Prelude.{◌≡◌, ◌≢◌, ℕ, ◌<◌, ◌==◌, List, ◌∷◌, ◌++◌, All, length, Some, if◌then◌else◌}
 use Rattle.resp_errors.specs.Numerals.{UnsignedText}
 use Rattle.resp_errors.specs.ServerErrors.{server_kind_of, server_details_of}
 use Rattle.resp_errors.specs.declared.kinds.ServerErrorKind.{ServerErrorKind}

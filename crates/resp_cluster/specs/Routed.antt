@@ -1,5 +1,5 @@
 -- One command over the nodes of a cluster.
-use Rattle.std.specs.Prelude.{◌≡◌, ℕ, ◌-◌, ◌<◌, ◌≤◌, ◌⊎◌, Bool, true, false, List, ◌∷◌, length, Option, Some, None}
+use Rattle.std.specs.Prelude.{◌≡◌, ℕ, ◌-◌, ◌<◌, ◌≤◌, ◌⊎◌, Bool, true, false, List, length, Option, Some, None}
 use Rattle.std.specs.List.{FoldsTo}
 use Rattle.resp_cluster.specs.Maps.{primary_at, with_primary}
 use Rattle.resp_cluster.specs.declared.node.NodeAddr.{NodeAddr}

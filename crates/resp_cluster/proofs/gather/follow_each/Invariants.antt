@@ -1,4 +1,3 @@
-use Rattle.std.proofs.Common.{◌≡◌}
 use Rattle.std.specs.Vec.Iter.{into_iter_items}
 use Rattle.std.specs.Iterator.Adapters.{enumerate_source, enumerate_count}
 use Rattle.resp_cluster.proofs.Following.{FollowedSoFar}

@@ -1,6 +1,5 @@
-use Rattle.std.proofs.Common.{◌≡◌, ◌+◌, ◌++◌, ◌∷◌, [], false, None, ap, sym, ◌∙◌, arith, length-append}
+use Rattle.std.proofs.Common.{◌+◌, ◌++◌, ◌∷◌, [], false, None, ap, sym, ◌∙◌, arith, length-append}
 use Rattle.resp_command.specs.Packed.{packed}
-use Rattle.resp_cluster.specs.Gathered.{of_node, request_of}
 use Rattle.resp_cluster.proofs.Gathers.{at_most, next_elsewhere, next_here, request_push}
 use Rattle.resp_cluster.proofs.gather.group_of.Goals.{then-targets-place+in_ok-write_packed_command, else-targets-place}
 use Rattle.resp_cluster.proofs.gather.group_of.Goals as goal

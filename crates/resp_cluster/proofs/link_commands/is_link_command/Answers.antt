@@ -1,5 +1,4 @@
 use Rattle.std.proofs.Common.{refl}
-use Rattle.resp_cluster.specs.LinkCommands.{as_bytes, is_link_command}
 use Rattle.resp_cluster.proofs.link_commands.is_link_command.Goals as goal
 
 pub returns-in-None : goal.returns-in-None

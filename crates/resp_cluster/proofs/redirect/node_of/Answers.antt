@@ -1,4 +1,4 @@
-use Rattle.std.proofs.Common.{arith, rules, refl, sym, ◌∙◌}
+use Rattle.std.proofs.Common.{arith, rules}
 use Rattle.resp_cluster.specs.Redirects.{colon}
 use Rattle.resp_cluster.proofs.RedirectTexts.{at_last, no_colon, no_port}
 use Rattle.resp_cluster.proofs.redirect.node_of.Goals as goal

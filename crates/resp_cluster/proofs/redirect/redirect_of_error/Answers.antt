@@ -1,4 +1,4 @@
-use Rattle.std.proofs.Common.{rules, sym, ◌∙◌}
+use Rattle.std.proofs.Common.{rules}
 use Rattle.resp_cluster.proofs.RedirectTexts.{sends_nowhere}
 use Rattle.resp_cluster.proofs.redirect.redirect_of_error.Goals as goal
 

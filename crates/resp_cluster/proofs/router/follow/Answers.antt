@@ -1,4 +1,4 @@
-use Rattle.std.proofs.Common.{arith, rules}
+use Rattle.std.proofs.Common.{arith}
 use Rattle.resp_cluster.proofs.SoFar.{ended, interrupted, one_more, used_up}
 use Rattle.resp_cluster.proofs.router.follow.Goals as goal
 

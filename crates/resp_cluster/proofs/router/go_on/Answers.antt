@@ -1,4 +1,4 @@
-use Rattle.std.proofs.Common.{refl, inl, inr, arith, Some, None}
+use Rattle.std.proofs.Common.{refl, inl, inr, arith, None}
 use Rattle.resp_cluster.specs.Routed as routed
 use Rattle.resp_cluster.proofs.GoingOn.{did_not, went_on}
 use Rattle.resp_cluster.proofs.router.go_on.Goals as goal

@@ -1,5 +1,5 @@
-use Rattle.std.proofs.Common.{◌≡◌, ◌-◌, take, drop, length, refl, sym, ◌∙◌, ℕ, ◌<◌, ◌≢◌, zero, suc, arith, length-drop, take_all}
-use Rattle.resp_cluster.proofs.Splitting.{Cut, cut_once, some_left}
+use Rattle.std.proofs.Common.{◌-◌, drop, length, refl, sym, ◌∙◌, ℕ, ◌<◌, ◌≢◌, zero, suc, arith, length-drop, take_all}
+use Rattle.resp_cluster.proofs.Splitting.{cut_once, some_left}
 use Rattle.std.proofs.lemmas.Bool.{eqb-false}
 use Rattle.resp_cluster.proofs.split.entries.Goals as goal
 

@@ -1,4 +1,4 @@
-use Rattle.std.proofs.Common.{rules, refl, ap, ◌∙◌, Err}
+use Rattle.std.proofs.Common.{rules, refl, ◌∙◌}
 use Rattle.std.proofs.lemmas.Result.{err_from_is_err_and}
 use Rattle.resp_cluster.specs.Transactions.{no_memory, nowhere, sent, unsent}
 use Rattle.resp_cluster.proofs.cluster_link.ClusterLink.query_transaction.Goals as goal

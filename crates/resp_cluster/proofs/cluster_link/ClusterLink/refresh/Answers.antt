@@ -1,4 +1,3 @@
-use Rattle.std.proofs.Common.{rules}
 use Rattle.resp_cluster.proofs.Destinations.{learnt_then, kept_then}
 use Rattle.resp_cluster.proofs.cluster_link.ClusterLink.refresh.Goals as goal
 

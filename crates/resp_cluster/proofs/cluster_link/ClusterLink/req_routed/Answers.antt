@@ -1,4 +1,4 @@
-use Rattle.std.proofs.Common.{rules, refl}
+use Rattle.std.proofs.Common.{refl}
 use Rattle.std.proofs.lemmas.Result.{err_from_is_err_and}
 use Rattle.resp_cluster.specs.Cluster.{unsent, routed}
 use Rattle.resp_cluster.proofs.cluster_link.ClusterLink.req_routed.Goals as goal

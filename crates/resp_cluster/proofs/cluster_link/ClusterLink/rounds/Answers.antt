@@ -1,4 +1,4 @@
-use Rattle.std.proofs.Common.{rules, sym, ◌∙◌}
+use Rattle.std.proofs.Common.{sym, ◌∙◌}
 use Rattle.resp_cluster.specs.Cluster.{once, again}
 use Rattle.resp_cluster.proofs.cluster_link.ClusterLink.rounds.Goals as goal
 

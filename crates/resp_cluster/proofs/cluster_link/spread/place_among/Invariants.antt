@@ -1,4 +1,4 @@
-use Rattle.std.proofs.Common.{◌≡◌, ◌≢◌, All, take}
+use Rattle.std.proofs.Common.{◌≢◌, All, take}
 use Rattle.resp_cluster.proofs.cluster_link.spread.place_among.Given as goal
 
 abbrev pub invariant-loop-place : goal.invariant-loop-place

@@ -1,4 +1,4 @@
-use Rattle.std.proofs.Common.{arith, rules}
+use Rattle.std.proofs.Common.{arith}
 use Rattle.resp_cluster.proofs.Asking.{all_asked, found_at, one_more_asked}
 use Rattle.resp_cluster.proofs.links.NodeLinks.ask_in_turn.Goals as goal
 

@@ -1,4 +1,4 @@
-use Rattle.std.proofs.Common.{◌≢◌, take, ◌≤◌, length}
+use Rattle.std.proofs.Common.{◌≢◌, take}
 use Rattle.std.specs.List.{All}
 use Rattle.resp_cluster.proofs.links.NodeLinks.place_of.Given as goal
 

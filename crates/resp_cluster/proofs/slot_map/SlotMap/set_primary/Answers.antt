@@ -1,4 +1,4 @@
-use Rattle.std.proofs.Common.{arith, rules}
+use Rattle.std.proofs.Common.{rules}
 use Rattle.resp_cluster.proofs.Moves.{there_then, elsewhere_then}
 use Rattle.resp_cluster.proofs.slot_map.SlotMap.set_primary.Goals as goal
 
