@@ -2,7 +2,7 @@
 
 Of the C library it takes the files in native/, as a source package has them. In the repository it copies
 them there first: the archive from where `rt lib` leaves it or RESP_C_LIB says, the header and the
-allocation functions from bindings/c, and the licence.
+allocation functions from bindings/c, and the licences.
 """
 
 import os
@@ -29,8 +29,8 @@ def fill_native():
         sys.exit(f"{archive} isn't there: `rt lib` in crates/resp_c makes it; RESP_C_LIB names another")
     (HERE / "native").mkdir(exist_ok=True)
     shutil.copyfile(archive, HERE / "native" / "libresp_c.a")
-    for source in [BINDINGS / "c" / "resp_c.h", BINDINGS / "c" / "resp_alloc.c", BINDINGS.parent / "LICENSE"]:
-        shutil.copyfile(source, HERE / "native" / source.name)
+    for source in ["c/resp_c.h", "c/resp_alloc.c", "../LICENSE", "../NOTICE"]:
+        shutil.copy(BINDINGS / source, HERE / "native")
 
 
 def extension():
