@@ -4,8 +4,8 @@
 #include <stdlib.h>
 #include <string.h>
 
-/* The longest conversion of a format, with its NUL. */
-#define CONVERSION 20
+/* The longest conversion of a format, as of hiredis, with its NUL. */
+#define CONVERSION 14
 
 static const char *name_in(const char *const *names, size_t count, size_t number)
 {

@@ -77,7 +77,12 @@ uint32_t resp_pack_argv(int argc, const char *const *argv, const size_t *lens, u
  * before an integer, and one of d i o u x X or e E f F g G a A. A conversion without characters
  * makes an empty argument where it stands alone.
  *
- * Returns what resp_pack does, and RESP_RANGE where the format has another conversion.
+ * It departs from redisCommand twice. A format without arguments, as "", has no bytes, where that
+ * makes an empty array, *0. A conversion of 14 characters or more, with its percent sign, is refused,
+ * where that adds its text and takes no value.
+ *
+ * Returns what resp_pack does, and RESP_RANGE where the format has another conversion, or one of a
+ * width that printf refuses.
  */
 uint32_t resp_pack_format(uint8_t *out, size_t room, size_t *size, const char *format, ...);
 uint32_t resp_pack_vformat(uint8_t *out, size_t room, size_t *size, const char *format,

@@ -98,6 +98,22 @@ static void test_numbers(void)
     check_format(WANTED("*1\r\n$5\r\n7:x:8\r\n"), "%d:%s:%d", 7, "x", 8);
 }
 
+/* Where hiredis makes something else: an empty array, and the text of the conversion. */
+static void test_departures(void)
+{
+    static const char wanted[] = "*1\r\n$8\r\n00000007\r\n";
+    uint8_t out[ROOM];
+    size_t size = 77;
+
+    check_number("empty", RESP_DONE, resp_pack_format(out, ROOM, &size, ""));
+    check_number("empty: size", 0, (long long)size);
+    check_format(WANTED(wanted), "%00000000008d", 7);
+    check_number("14 characters", RESP_RANGE,
+                 resp_pack_format(out, ROOM, &size, "%000000000008d", 7));
+    check_number("14 characters: size", 0, (long long)size);
+    check_number("a wide one", RESP_RANGE, resp_pack_format(out, ROOM, &size, "%99999999999d", 7));
+}
+
 static void test_refused_formats(void)
 {
     check_format(REFUSED, "GET %z", 1);
@@ -332,6 +348,7 @@ int main(void)
     test_formats();
     test_numbers();
     test_refused_formats();
+    test_departures();
     test_room();
     test_long_format();
     test_argv();
