@@ -25,7 +25,7 @@ enum resp_socket_status {
 /* A connection. The program may set `timeout`; the other fields belong to the calls. */
 typedef struct resp_socket {
     int fd;      /* the descriptor, or -1 */
-    int timeout; /* how many milliseconds a call may take; below 0 there is no limit */
+    int timeout; /* how many milliseconds a call may take, but for getaddrinfo; below 0: no limit */
     resp_parser parser;
 } resp_socket;
 
@@ -39,6 +39,9 @@ const char *resp_socket_status_name(uint32_t status);
 /*
  * Connects to a host and a port, as "localhost" and "6379", or to the socket at a path. Where it
  * doesn't return RESP_DONE, the connection is closed. It must not be open before.
+ *
+ * The timeout doesn't interrupt getaddrinfo, which looks the host up and may take longer. What that
+ * took is gone from the time to connect.
  */
 uint32_t resp_socket_open(resp_socket *it, const char *host, const char *port, int timeout);
 uint32_t resp_socket_open_path(resp_socket *it, const char *path, int timeout);
