@@ -76,6 +76,40 @@ impl fmt::Debug for Command {
     }
 }
 
+/// One argument of any type, as its bytes: it mixes types in the slices that [`pack`](crate::pack) and
+/// [`pack_pipeline`](crate::pack_pipeline) take. A [`Command`] needs no memory for each argument.
+///
+/// ```
+/// use resp_c::{pack_pipeline, Arg};
+///
+/// let set: Vec<Arg> = vec!["SET".into(), "key".into(), 1.5.into()];
+/// let get: Vec<Arg> = vec!["GET".into(), b"key".into()];
+/// let wanted = b"*3\r\n$3\r\nSET\r\n$3\r\nkey\r\n$3\r\n1.5\r\n*2\r\n$3\r\nGET\r\n$3\r\nkey\r\n";
+/// assert_eq!(pack_pipeline(&[set, get], false), wanted);
+/// ```
+#[derive(Clone, PartialEq, Eq, Hash)]
+pub struct Arg(Vec<u8>);
+
+impl<T: Argument> From<T> for Arg {
+    fn from(argument: T) -> Arg {
+        let mut bytes = Vec::new();
+        argument.write_to(&mut bytes);
+        Arg(bytes)
+    }
+}
+
+impl AsRef<[u8]> for Arg {
+    fn as_ref(&self) -> &[u8] {
+        &self.0
+    }
+}
+
+impl fmt::Debug for Arg {
+    fn fmt(&self, f: &mut fmt::Formatter<'_>) -> fmt::Result {
+        write!(f, "Arg({})", self.0.escape_ascii())
+    }
+}
+
 /// What is one argument of a command: bytes and texts as they are, and numbers as `{}` prints them.
 ///
 /// ```

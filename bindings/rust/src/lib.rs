@@ -30,7 +30,7 @@
 //! assert_eq!(resp_c::pack(&["GET", "key"]), b"*2\r\n$3\r\nGET\r\n$3\r\nkey\r\n");
 //! ```
 //!
-//! A [`Command`] takes arguments of several types, and [`Parser::read_next`] reads replies from a
+//! A [`Command`] takes arguments of several types, as [`pack`] does by [`Arg`], and [`Parser::read_next`] reads replies from a
 //! connection. A value is converted by [`TryFrom`]:
 //!
 //! ```
@@ -89,7 +89,7 @@ mod parser;
 mod show;
 mod view;
 
-pub use command::{Argument, Command};
+pub use command::{Arg, Argument, Command};
 pub use encode::{Protocol, Reply};
 pub use error::{Error, Fault};
 pub use pack::{pack, pack_pipeline, version};

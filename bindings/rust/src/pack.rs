@@ -14,6 +14,17 @@ use crate::output::{written, FRAME};
 /// let bytes = resp_c::pack(&[b"GET".as_slice(), b"\xFF"]);
 /// assert_eq!(bytes, b"*2\r\n$3\r\nGET\r\n$1\r\n\xFF\r\n");
 /// ```
+///
+/// Arguments of several types are mixed by [`Arg`](crate::Arg), or added to a
+/// [`Command`](crate::Command):
+///
+/// ```
+/// use resp_c::{pack, Arg, Command};
+///
+/// let bytes = pack::<Arg>(&["SETEX".into(), b"k\xFF".into(), 60.into(), "v".into()]);
+/// assert_eq!(bytes, b"*4\r\n$5\r\nSETEX\r\n$2\r\nk\xFF\r\n$2\r\n60\r\n$1\r\nv\r\n");
+/// assert_eq!(bytes, Command::new("SETEX").arg(b"k\xFF").arg(60).arg("v").pack());
+/// ```
 pub fn pack<A: AsRef<[u8]>>(args: &[A]) -> Vec<u8> {
     let mut joined = Joined::default();
     joined.add(args);

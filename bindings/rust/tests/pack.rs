@@ -1,6 +1,6 @@
 //! Packed commands, as "Sending commands to a Redis server" of the RESP specification has them.
 
-use resp_c::{pack, pack_pipeline, version, Parser};
+use resp_c::{pack, pack_pipeline, version, Arg, Parser};
 
 #[test]
 fn a_command_is_an_array_of_bulk_strings() {
@@ -26,6 +26,22 @@ fn arguments_are_any_bytes() {
 #[test]
 fn no_arguments_give_no_bytes() {
     assert_eq!(pack::<&str>(&[]), b"");
+}
+
+#[test]
+fn arguments_of_several_types() {
+    let args: [Arg; 5] = [
+        "X".into(),
+        vec![0xFF].into(),
+        u64::MAX.into(),
+        (-0.5).into(),
+        String::new().into(),
+    ];
+    let wanted =
+        b"*5\r\n$1\r\nX\r\n$1\r\n\xFF\r\n$20\r\n18446744073709551615\r\n$4\r\n-0.5\r\n$0\r\n\r\n";
+    assert_eq!(pack(&args), wanted);
+    assert_eq!(pack_pipeline(&[&args], false), wanted);
+    assert_eq!(format!("{:?}", args[1]), r"Arg(\xff)");
 }
 
 #[test]
