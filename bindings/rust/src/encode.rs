@@ -3,8 +3,7 @@
 use crate::error::Error;
 use crate::ffi::{self, status, Lent, RawToken};
 use crate::output::{written, FRAME};
-use crate::view::{Kind, Value, View};
-use std::fmt;
+use crate::view::{Kind, Tokens, Value, View};
 
 /// The version of the protocol in which a reply is sent.
 ///
@@ -39,6 +38,16 @@ pub enum Protocol {
 ///
 /// To add is to take memory; where that runs out it aborts, as `Vec` does.
 ///
+/// `{:?}` prints its value, as that of [`Value`] does, and its tokens where it isn't one value:
+///
+/// ```
+/// let mut reply = resp_c::Reply::new();
+/// reply.array(2).int(1);
+/// assert_eq!(format!("{reply:?}"), "Reply[Array(2), Int(1)]");
+/// reply.okay();
+/// assert_eq!(format!("{reply:?}"), "array([int(1), ok])");
+/// ```
+///
 /// ```
 /// use resp_c::{Protocol, Reply};
 ///
@@ -58,13 +67,6 @@ pub enum Protocol {
 pub struct Reply {
     tokens: Vec<RawToken>,
     text: Vec<u8>,
-}
-
-impl fmt::Debug for Reply {
-    fn fmt(&self, f: &mut fmt::Formatter<'_>) -> fmt::Result {
-        f.write_str("Reply")?;
-        View::of(self.lent()).tokens().fmt(f)
-    }
 }
 
 impl Reply {
@@ -362,6 +364,11 @@ impl Reply {
         self.add(kind, text.len(), 0);
         self.text.extend_from_slice(text);
         self
+    }
+
+    /// Its tokens, which may not be one value.
+    pub(crate) fn tokens(&self) -> Tokens<'_> {
+        View::of(self.lent()).tokens()
     }
 
     fn lent(&self) -> Lent<'_> {

@@ -1,11 +1,22 @@
-//! Values as the crate `redis` prints them.
+//! Values as the crate `redis` prints them, on one line also where `{:#?}` asks for more. A double is
+//! printed by the text that was sent.
 
+use crate::encode::Reply;
 use crate::view::{Elements, Kind, Value, View};
 use std::fmt;
 
 impl fmt::Debug for View<'_> {
     fn fmt(&self, f: &mut fmt::Formatter<'_>) -> fmt::Result {
-        f.debug_tuple("View").field(&self.value()).finish()
+        self.value().fmt(f)
+    }
+}
+
+impl fmt::Debug for Reply {
+    fn fmt(&self, f: &mut fmt::Formatter<'_>) -> fmt::Result {
+        match self.view() {
+            Some(view) => view.fmt(f),
+            None => write!(f, "Reply{:?}", self.tokens()),
+        }
     }
 }
 
@@ -48,7 +59,7 @@ fn list(f: &mut fmt::Formatter<'_>, name: &str, values: Elements) -> fmt::Result
     f.write_str(")")
 }
 
-/// Prints items on one line, also where `{:#?}` asks for more.
+/// Prints items in brackets.
 fn items<T: fmt::Debug>(f: &mut fmt::Formatter<'_>, items: impl Iterator<Item = T>) -> fmt::Result {
     f.write_str("[")?;
     for (n, item) in items.enumerate() {
@@ -58,9 +69,10 @@ fn items<T: fmt::Debug>(f: &mut fmt::Formatter<'_>, items: impl Iterator<Item = 
     f.write_str("]")
 }
 
+/// Prints a push. One whose first value names no kind isn't sent.
 fn push(f: &mut fmt::Formatter<'_>, push: &Value) -> fmt::Result {
     let Some((kind, data)) = push.push() else {
-        return Ok(());
+        return list(f, "push", push.elements());
     };
     f.write_str("push(")?;
     match kind {

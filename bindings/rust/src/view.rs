@@ -116,7 +116,7 @@ impl Kind {
 /// A reply, which the parser lends until it is used again.
 ///
 /// It is a list of [`Token`]s in preorder, each value before those inside it; [`View::value`] reads
-/// it as a tree.
+/// it as a tree. `{:?}` prints its value, as that of [`Value`] does.
 ///
 /// ```
 /// # fn main() -> Result<(), resp_c::Error> {
@@ -332,7 +332,7 @@ impl FusedIterator for Tokens<'_> {}
 
 /// A value of a reply, with those inside it: a place in the tokens, which is cheap to copy.
 ///
-/// `{:?}` prints it as the crate `redis` does:
+/// `{:?}` prints it as the crate `redis` does, but a double by the text that was sent:
 ///
 /// ```
 /// # fn main() -> Result<(), resp_c::Error> {

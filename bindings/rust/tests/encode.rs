@@ -322,11 +322,3 @@ fn a_refused_reply_goes_on() {
     sent_alike(&reply, b"*2\r\n:1\r\n:2\r\n");
     refused(&copy);
 }
-
-#[test]
-fn replies_are_shown() {
-    let reply = made(|it| it.array(3).okay().bulk_string(b"\xFF!").boolean(true));
-    let shown = r#"Reply[Array(3), Okay, BulkString("\xff!"), Boolean(true)]"#;
-    assert_eq!(format!("{reply:?}"), shown);
-    assert_eq!(Error::NoEncoding.to_string(), "the reply has no encoding");
-}

@@ -422,16 +422,6 @@ fn errors_are_shown() {
     };
     assert_eq!(fault.to_string(), "BodyEnd at byte 6");
     assert_eq!(Error::Failed.to_string(), "the parser has failed before");
+    assert_eq!(Error::NoEncoding.to_string(), "the reply has no encoding");
     assert_eq!(format!("{:?}", parser()), "Parser { state: BetweenValues }");
-}
-
-#[test]
-fn replies_are_shown() {
-    let bytes = b"|1\r\n+ttl\r\n:5\r\n*5\r\n_\r\n+OK\r\n#f\r\n~1\r\n,1.5\r\n>1\r\n+k\r\n";
-    let mut parser = fed(bytes);
-    let view = parser.next().expect("no fault").expect("a whole value");
-    let array = r#"array([nil, ok, boolean(false), set([double(1.5)]), push(Other("k"), [])])"#;
-    assert_eq!(format!("{view:?}"), format!("View(attribute({array}))"));
-    let tokens = format!("{:?}", view.tokens());
-    assert!(tokens.starts_with(r#"[Attribute(1), SimpleString("ttl"), Int(5), Array(5), Nil"#));
 }
