@@ -38,7 +38,8 @@ pub enum Protocol {
 ///
 /// To add is to take memory; where that runs out it aborts, as `Vec` does.
 ///
-/// `{:?}` prints its value, as that of [`Value`] does, and its tokens where it isn't one value:
+/// `{:?}` prints its value, as that of [`Value`] does, and its tokens where it isn't one value
+/// or is too deep to be sent:
 ///
 /// ```
 /// let mut reply = resp_c::Reply::new();
@@ -364,6 +365,23 @@ impl Reply {
         self.add(kind, text.len(), 0);
         self.text.extend_from_slice(text);
         self
+    }
+
+    /// How many levels its value has, where it is one value.
+    pub(crate) fn levels(&self) -> usize {
+        let mut missing = Vec::new();
+        let mut most = 0;
+        for token in &self.tokens {
+            most = most.max(missing.len() + 1);
+            if let Some(count) = missing.last_mut() {
+                *count -= 1;
+            }
+            missing.push(Kind::of(token).parts(token.size));
+            while missing.last() == Some(&0) {
+                missing.pop();
+            }
+        }
+        most
     }
 
     /// Its tokens, which may not be one value.

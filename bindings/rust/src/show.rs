@@ -5,6 +5,9 @@ use crate::encode::Reply;
 use crate::view::{Elements, Kind, Value, View};
 use std::fmt;
 
+/// The most levels of a reply that can be sent.
+const LEVELS: usize = 1000;
+
 impl fmt::Debug for View<'_> {
     fn fmt(&self, f: &mut fmt::Formatter<'_>) -> fmt::Result {
         self.value().fmt(f)
@@ -14,8 +17,8 @@ impl fmt::Debug for View<'_> {
 impl fmt::Debug for Reply {
     fn fmt(&self, f: &mut fmt::Formatter<'_>) -> fmt::Result {
         match self.view() {
-            Some(view) => view.fmt(f),
-            None => write!(f, "Reply{:?}", self.tokens()),
+            Some(view) if self.levels() <= LEVELS => view.fmt(f),
+            _ => write!(f, "Reply{:?}", self.tokens()),
         }
     }
 }

@@ -98,7 +98,7 @@ impl Kind {
     }
 
     /// How many values come after a token of this kind and size, as parts of its value.
-    fn parts(self, size: usize) -> usize {
+    pub(crate) fn parts(self, size: usize) -> usize {
         self.checked_parts(size).unwrap_or(usize::MAX)
     }
 

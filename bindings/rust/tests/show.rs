@@ -101,3 +101,19 @@ fn tokens() {
         r#"[Attribute(1), SimpleString("ttl"), Int(5), Array(3), Nil, Boolean(false), Okay]"#
     );
 }
+
+#[test]
+fn deep_replies() {
+    for (levels, wanted) in [
+        (1000, "array([array(["),
+        (1001, "Reply[Array(1), "),
+        (100_000, "Reply["),
+    ] {
+        let mut reply = Reply::new();
+        for _ in 1..levels {
+            reply.array(1);
+        }
+        let text = format!("{:?}", reply.int(1));
+        assert!(text.starts_with(wanted), "{levels} levels");
+    }
+}
