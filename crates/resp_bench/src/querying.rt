@@ -2,7 +2,7 @@
 
 use crate::Round;
 use crate::parsing::discard;
-use crate::routing::{MemoryLink, primaries_linked};
+use crate::routing::primaries_linked;
 use resp_core::{ByteLink, Cmd, ConnectionLike, FromRedisValue, Pipeline, RedisResult, cmd, pipe};
 use std::alloc::Global;
 use std::collections::{BTreeMap, HashMap};
@@ -115,7 +115,11 @@ pub fn query_round(
 ) -> RedisResult<Round> {
     match query {
         Query::Routed => ask_often(alloc, query, &mut primaries_linked(alloc, replies)?, count)?,
-        _ => ask_often(alloc, query, &mut holding(alloc, replies)?, count)?,
+        _ => {
+            let incoming = Cursor::new(Vec::from_slice(alloc, replies)?);
+            let mut link = ByteLink::new(alloc, incoming, io::sink());
+            ask_often(alloc, query, &mut link, count)?;
+        }
     }
     Ok(Round {
         units: count as u64,
@@ -133,12 +137,6 @@ fn ask_often(
         query.ask(alloc, con)?;
     }
     Ok(())
-}
-
-/// A link that holds these replies.
-fn holding(alloc: Global, replies: &[u8]) -> RedisResult<MemoryLink> {
-    let incoming = Cursor::new(Vec::from_slice(alloc, replies)?);
-    Ok(ByteLink::new(alloc, incoming, io::sink()))
 }
 
 /// Asks and drops the answer.

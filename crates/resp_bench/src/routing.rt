@@ -18,29 +18,29 @@ pub type MemoryLink = ByteLink<Reading<Cursor<Vec<u8>>>, Writing<io::Sink>>;
 
 /// Nodes of which each answers with the same replies.
 #[derive(Drop)]
-pub struct Answering<'a> {
-    alloc: Global,
-    replies: &'a [u8],
+pub struct Answering {
+    replies: Vec<u8>,
 }
 
-impl<'a> Nodes for Answering<'a> {
+impl Nodes for Answering {
     type Link = MemoryLink;
 
     fn connect(&mut self, _node: &NodeAddr) -> RedisResult<MemoryLink> {
-        let incoming = Cursor::new(Vec::from_slice(self.alloc, self.replies)?);
-        Ok(ByteLink::new(self.alloc, incoming, io::sink()))
+        let alloc = *self.replies.allocator();
+        let incoming = Cursor::new(Vec::from_slice(alloc, self.replies.as_slice())?);
+        Ok(ByteLink::new(alloc, incoming, io::sink()))
     }
 }
 
 /// A cluster with a link to each of its three primaries.
-pub fn primaries_linked<'a>(
-    alloc: Global,
-    replies: &'a [u8],
-) -> RedisResult<ClusterLink<Answering<'a>>> {
+pub fn primaries_linked(alloc: Global, replies: &[u8]) -> RedisResult<ClusterLink<Answering>> {
     let map = map_of(alloc)?;
-    let nodes = map.primaries(alloc)?;
-    let mut cluster = ClusterLink::new(alloc, Answering { alloc, replies }, map, 5);
-    for node in &nodes {
+    let primaries = map.primaries(alloc)?;
+    let nodes = Answering {
+        replies: Vec::from_slice(alloc, replies)?,
+    };
+    let mut cluster = ClusterLink::new(alloc, nodes, map, 5);
+    for node in primaries.as_slice() {
         cluster.reach(node)?;
     }
     Ok(cluster)
