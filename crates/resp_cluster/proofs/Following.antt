@@ -4,6 +4,7 @@ use Rattle.std.proofs.Common.{Result, Ok, Err}
 use Rattle.std.proofs.lemmas.List.{drop_more, drop_all}
 use Rattle.resp_value.specs.declared.value.Value.{Value}
 use Rattle.resp_errors.specs.declared.redis_error.RedisError.{RedisError}
+use Rattle.resp_errors.specs.declared.redis_error.RedisError.TheVariants.{OutOfMemory}
 use Rattle.resp_command.specs.Command.{Command}
 use Rattle.resp_cluster.proofs.Gathers.{node_at}
 use Rattle.resp_cluster.specs.Gathered.{FollowedEach, StopsAt}
@@ -38,7 +39,7 @@ module _ {S : Type 0} (follows : S → S → NodeAddr → Command → Value → 
         let long = h.long in
         let same = h.same in
         h.stops e end
-        (rw (drop_more targets place 0 (omega arith), drop_more commands place command (omega arith), ← at) (node, (node_at nodes (get_or targets place 0) _ node refl known which, inr (new, (answer, (followed, rest))))));
+        (rw (drop_more targets place 0 (omega arith), drop_more commands place command (omega arith), ← at) (inr (node, (node_at nodes (get_or targets place 0) _ node refl known which, inr (new, (answer, (followed, rest)))))));
   }
 
   -- the next command is answered with an error
@@ -51,7 +52,18 @@ module _ {S : Type 0} (follows : S → S → NodeAddr → Command → Value → 
       let long = h'.long in
       let same = h'.same in
       h'.stops e new
-      (rw (drop_more targets place 0 (omega arith), drop_more commands place command (omega arith), ← is) (node, (node_at nodes (get_or targets place 0) _ node refl known which, inl followed)))
+      (rw (drop_more targets place 0 (omega arith), drop_more commands place command (omega arith), ← is) (inr (node, (node_at nodes (get_or targets place 0) _ node refl known which, inl followed))))
+
+  -- memory runs out before the next one goes on
+  pub none_left : (answers left : List Value) (place : ℕ) (now : S) (e : RedisError) → FollowedSoFar answers left place now
+      → e ≡ OutOfMemory → StopsAt follows nodes old targets commands replies e now
+  none_left answers left place now e h is = h.stops e now (at_once (drop place targets) (drop place commands) left)
+    where
+      at_once : (ts : List ℕ) (cs : List Command) (rs : List Value) → StopsAt follows nodes now ts cs rs e now
+      at_once (t ∷ ts) (c ∷ cs) (r ∷ rs) = inl (is, refl)
+      at_once (t ∷ ts) (c ∷ cs) [] = (is, refl)
+      at_once (t ∷ ts) [] rs = (is, refl)
+      at_once [] cs rs = (is, refl)
 
   pub next_follows : (answers answers' left left' : List Value) (count count' place : ℕ) (now : S) (reply : Value) (node : NodeAddr)
       (command : Command) (answer : Value) (new : S) → FollowedSoFar answers left' count now → left' ≡ reply ∷ left → place ≡ count

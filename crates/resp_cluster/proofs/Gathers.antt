@@ -10,7 +10,7 @@ use Rattle.resp_value.specs.declared.value.Value.{Value}
 use Rattle.resp_errors.specs.declared.redis_error.RedisError.{RedisError}
 use Rattle.resp_command.specs.Command.{Command}
 use Rattle.resp_command.specs.Packed.{packed}
-use Rattle.resp_cluster.specs.Gathered.{InPlaces, RefusedGroup, SentEach, SentGroup, given_by, of_node, request_of}
+use Rattle.resp_cluster.specs.Gathered.{InPlaces, RefusedGroup, SentEach, SentGroup, by_node, given_by, of_node, request_of}
 use Rattle.resp_cluster.specs.Gathering.{Enough}
 use Rattle.resp_cluster.specs.declared.node.NodeAddr.{NodeAddr}
 
@@ -249,14 +249,8 @@ module _ {S : Type 0} (sends : S → S → NodeAddr → List ℕ → ℕ → Res
       → slice_get nodes (length groups) ≡ Some node
       → sends before new node (request_of (of_node place targets commands)) (length (of_node place targets commands)) (Err e)
       → RefusedGroup sends commands targets nodes old new e
-  stopped nodes old groups before place node new e sent at which refused = record {
-    groups = groups;
-    before = before;
-    node = node;
-    which = which;
-    sent = sent;
-    refused = rw (← at) refused;
-  }
+  stopped nodes old groups before place node new e sent at which refused =
+      by_node groups before node which sent (rw (← at) refused)
 
   -- each gave as many as it was sent
   pub enough_of : (first : ℕ) (nodes : List NodeAddr) (old : S) (groups : List (List Value)) (new : S)

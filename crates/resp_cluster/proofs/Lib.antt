@@ -1,3 +1,4 @@
+pub mod Answering
 pub mod GoingOn
 pub mod Asking
 pub mod Destinations
@@ -5,6 +6,7 @@ pub mod Entries
 pub mod FanningOut
 pub mod Following
 pub mod Gathers
+pub mod InGroups
 pub mod Joining
 pub mod Linking
 pub mod Merging
@@ -12,6 +14,7 @@ pub mod MorePrimaries
 pub mod Moves
 pub mod OverLinks
 pub mod Parting
+pub mod Parts
 pub mod RedirectTexts
 pub mod Rounds
 pub mod RoutedCalls

@@ -12,6 +12,7 @@ use Rattle.resp_command.specs.Call.{Asks, AnswersReply, Call, CommandCall, neede
 use Rattle.resp_command.specs.Command.{Command}
 use Rattle.resp_command.specs.Connection.{Connection, stays, reconnects, routes}
 use Rattle.resp_command.specs.Packed.{packed}
+use Rattle.resp_command.specs.Parted.{Parted}
 use Rattle.resp_command.specs.Subscriptions.{IsUnanswered}
 use Rattle.resp_routing.specs.declared.routes.Route.{Route}
 use Rattle.resp_cluster.specs.Cluster as over
@@ -49,7 +50,7 @@ module _ {L : Type 0} (of_link : L → Connection) where
       let l : link_to n x ≡ link_to m y = cc in
       ap (λ i. (of_link i.link).broken) l ∙ works
 
-  reached_works : (node : NodeAddr) (old new : Links L) → Reaches of_link node old new (Ok tt) → (n : NodeAddr) (x : L)
+  pub reached_works : (node : NodeAddr) (old new : Links L) → Reaches of_link node old new (Ok tt) → (n : NodeAddr) (x : L)
       → last_used new ≡ Some (link_to n x) → (of_link x).broken ≡ false
   reached_works node old new (links.kept place link at works new_is r_is) n x is =
       same_works (last_used new) n node x link is (ap last_used new_is ∙ at) works
@@ -71,12 +72,12 @@ module _ {L : Type 0} (of_link : L → Connection) (unrouted : (link : L) → (o
   answers = AnswersReply (λ reply. answer ≡ Ok reply)
 
   -- a link that works carried the command, and was used last
-  record Carries (new : Links L) : Type 0 where
-    before : Connection
-    after : L
-    works : before.broken ≡ false
-    asks : Asks before (of_link after) (c.args ≡ []) (IsUnanswered c) (packed c.args) (needed c) answer answers
-    is_last : last_link new ≡ Some after
+  pub record Carries (new : Links L) : Type 0 where
+    pub before : Connection
+    pub after : L
+    pub works : before.broken ≡ false
+    pub asks : Asks before (of_link after) (c.args ≡ []) (IsUnanswered c) (packed c.args) (needed c) answer answers
+    pub is_last : last_link new ≡ Some after
 
   by_call : (before after : Connection) → before.broken ≡ false → before.policy ≢ routes → (asking : Bool)
       → SendsOver before after asking c (Ok v)
@@ -88,7 +89,7 @@ module _ {L : Type 0} (of_link : L → Connection) (unrouted : (link : L) → (o
       (between, (h.0, call.when_working h.0 (λ e. free (sym h.1 ∙ e))))
   by_call before after works free asking (links.not_asked e is asked r_is) = absurd (let h = r_is in cc)
 
-  by_sends : (old new : Links L) (node : NodeAddr) (asking : Bool) (sent : Sent) → sent ≡ Answered (Ok v)
+  pub by_sends : (old new : Links L) (node : NodeAddr) (asking : Bool) (sent : Sent) → sent ≡ Answered (Ok v)
       → SendsTo of_link c old new node asking sent → Carries new
   by_sends old new node asking sent is (links.unreached e reaches sent_is) =
       absurd (let h : Answered (Ok v) ≡ Unreached e = sym is ∙ sent_is in cc)
@@ -123,7 +124,7 @@ module _ {L : Type 0} (of_link : L → Connection) (unrouted : (link : L) → (o
   by_round route old new r is (over.nowhere none new_is r_is) = absurd (let h = sym r_is ∙ is in cc)
   by_round route old new r is (over.no_memory new_is r_is) = absurd (let h = sym r_is ∙ is in cc)
 
-  answered_then : (r : Result Sent RedisError) → Ok v ≡ answer_of r → r ≡ Ok (Answered (Ok v))
+  pub answered_then : (r : Result Sent RedisError) → Ok v ≡ answer_of r → r ≡ Ok (Answered (Ok v))
   answered_then (Ok (Answered x)) is = ap (λ y. Ok (Answered y)) (sym is)
   answered_then (Ok (Unreached e)) is = cc
   answered_then (Err e) is = cc
@@ -138,7 +139,7 @@ module _ {L : Type 0} (of_link : L → Connection) (unrouted : (link : L) → (o
   by_rounds route old new (over.again outcome unreached round is more) =
       by_round route more.ready new more.outcome (answered_then more.outcome more.answers) more.sends
 
-  by_routed : (old new : Cluster L) → RoutedCall of_link c old new (Ok v) → Carries new.links
+  pub by_routed : (old new : Cluster L) → RoutedCall of_link c old new (Ok v) → Carries new.links
   by_routed old new (over.unsent e cannot new_is r_is) = absurd (let h = r_is in cc)
   by_routed old new (over.routed route ready goes readies rounds) = by_rounds route ready new rounds
 
@@ -149,10 +150,23 @@ module _ {L : Type 0} (of_link : L → Connection) where
   policy_is None = refl
   policy_is (Some link) = refl
 
+  -- a call that is refused, or made over links
+  pub routed : {A : Type 0} (IsEmpty IsUnanswered : Type 0) (q : List ℕ) (n : ℕ) (r : Result A RedisError)
+      (answers : List Value → Type 0) (old new : Cluster L)
+      → Routes r (λ other. Asks other (cluster_connection of_link new) IsEmpty IsUnanswered q n r answers) (Parted q n answers)
+      → Call (cluster_connection of_link old) (cluster_connection of_link new) IsEmpty IsUnanswered q n r answers
+  routed IsEmpty IsUnanswered q n r answers old new h = record {
+    policy = policy_is (last_link new.links) ∙ sym (policy_is (last_link old.links));
+    when_broken = λ b is. absurd (let e : stays ≡ routes = sym is ∙ policy_is (last_link old.links) in cc);
+    when_lost = λ b is. absurd (let e : reconnects ≡ routes = sym is ∙ policy_is (last_link old.links) in cc);
+    when_routed = λ is. h;
+    when_working = λ works free. absurd (free (policy_is (last_link old.links)));
+  }
+
   module _ (unrouted : (link : L) → (of_link link).policy ≢ routes) (c : Command) (old new : Cluster L) where
     by_result : (x : Result Value RedisError) → RoutedCall of_link c old new x
         → Routes x (λ other. Asks other (cluster_connection of_link new) (c.args ≡ []) (IsUnanswered c) (packed c.args)
-        (needed c) x (AnswersReply (λ reply. x ≡ Ok reply)))
+        (needed c) x (AnswersReply (λ reply. x ≡ Ok reply))) (Parted (packed c.args) (needed c) (AnswersReply (λ reply. x ≡ Ok reply)))
     by_result (Err e) call = not_carried e refl
     by_result (Ok v) call =
         let h = by_routed of_link unrouted c v old new call in
@@ -163,23 +177,12 @@ module _ {L : Type 0} (of_link : L → Connection) where
 
     pub routed_call : (r : Result Value RedisError) → RoutedCall of_link c old new r
         → CommandCall (cluster_connection of_link old) (cluster_connection of_link new) c r (λ reply. r ≡ Ok reply)
-    routed_call r call = record {
-      policy = policy_is (last_link new.links) ∙ sym (policy_is (last_link old.links));
-      when_broken = λ b is. absurd (let e : stays ≡ routes = sym is ∙ policy_is (last_link old.links) in cc);
-      when_lost = λ b is. absurd (let e : reconnects ≡ routes = sym is ∙ policy_is (last_link old.links) in cc);
-      when_routed = λ is. by_result r call;
-      when_working = λ works free. absurd (free (policy_is (last_link old.links)));
-    }
+    routed_call r call = routed (c.args ≡ []) (IsUnanswered c) (packed c.args) (needed c) r (AnswersReply (λ reply. r ≡ Ok reply)) old new
+        (by_result r call)
 
--- a call that is refused
-module _ {L : Type 0} (of_link : L → Connection) {A : Type 0} (IsEmpty IsUnanswered : Type 0) (q : List ℕ) (n : ℕ)
-    (e : RedisError) (answers : List Value → Type 0) (old : Cluster L) where
-  pub refused_call : (r : Result A RedisError) → r ≡ Err e
-      → Call (cluster_connection of_link old) (cluster_connection of_link old) IsEmpty IsUnanswered q n r answers
-  refused_call r is = record {
-    policy = refl;
-    when_broken = λ b p. absurd (let e : stays ≡ routes = sym p ∙ policy_is of_link (last_link old.links) in cc);
-    when_lost = λ b p. absurd (let e : reconnects ≡ routes = sym p ∙ policy_is of_link (last_link old.links) in cc);
-    when_routed = λ p. not_carried e is;
-    when_working = λ works free. absurd (free (policy_is of_link (last_link old.links)));
-  }
+  -- a call that is refused
+  pub refused_call : {A : Type 0} (IsEmpty IsUnanswered : Type 0) (q : List ℕ) (n : ℕ) (e : RedisError)
+      (answers : List Value → Type 0) (old new : Cluster L) (r : Result A RedisError) → r ≡ Err e
+      → Call (cluster_connection of_link old) (cluster_connection of_link new) IsEmpty IsUnanswered q n r answers
+  refused_call IsEmpty IsUnanswered q n e answers old new r is =
+      routed IsEmpty IsUnanswered q n r answers old new (not_carried e is)

@@ -104,7 +104,7 @@ module _ {A : Type 0} (old new : Connection) (q : List ℕ) (n : ℕ) (r : Resul
   })
   exchange_of bytes (connection.out_of_memory h) = connection.out_of_memory (no_memory bytes h)
 
-  exchange : Exchange old new q n r answers → Exchange old' new' q n r answers
+  pub exchange : Exchange old new q n r answers → Exchange old' new' q n r answers
   exchange h = record {
     same = record {
       pipelines = refl;

@@ -1,5 +1,5 @@
 -- The nodes that commands are sent to.
-use Rattle.std.proofs.Common.{◌≡◌, ◌≢◌, ◌⊎◌, ℕ, zero, suc, ◌+◌, ◌<◌, ◌≤◌, List, [], ◌∷◌, ◌++◌, AllPairs, length, take, get_or, slice_get}
+use Rattle.std.proofs.Common.{◌≡◌, ◌≢◌, ℕ, zero, suc, ◌+◌, ◌<◌, ◌≤◌, List, [], ◌∷◌, ◌++◌, AllPairs, length, take, get_or, slice_get}
 use Rattle.std.specs.Global.{Vec}
 use Rattle.std.proofs.Common.{Bool, true, false, ◌||◌, Result, Ok, Err, is_err, subst, refl, sym, ap, ◌∙◌, Some, inl, inr, arith, length-append}
 use Rattle.std.proofs.lemmas.Bool.{cases_lt}
@@ -11,13 +11,12 @@ use Rattle.resp_command.specs.Call.{AnswersFrom, Call}
 use Rattle.resp_command.specs.Connection.{Connection}
 use Rattle.resp_errors.specs.declared.redis_error.RedisError.{RedisError}
 use Rattle.resp_value.specs.declared.value.Value.{Value}
-use Rattle.resp_errors.specs.declared.redis_error.RedisError.TheVariants.{OutOfMemory}
 use Rattle.resp_cluster.specs.Cluster.{Cluster, Readies, answer_of, has_failed}
 use Rattle.resp_cluster.specs.Gathered.{Gathered, RefusedGroup, StopsAt}
 use Rattle.resp_cluster.specs.Links.{Links, Reaches, SendsTo, SentRedirects, UsesLast}
-use Rattle.resp_cluster.specs.Routed.{StoppedShort, WentOn}
-use Rattle.resp_cluster.specs.Spread.{AreDestinations, FollowsReply, IsDestination, IsPlaceAmong, SendsGroup, SpreadRefused}
-use Rattle.resp_cluster.specs.Spread.{at_group, called, no_memory, on_the_way, stopped, unreached, went}
+use Rattle.resp_cluster.specs.Routed.{StoppedShort, WentOn, at_once}
+use Rattle.resp_cluster.specs.Spread.{AreDestinations, FollowsReply, IsDestination, IsPlaceAmong, SendsGroup, SpreadRefused, awaited}
+use Rattle.resp_cluster.specs.Spread.{at_group, called, on_the_way, stopped, unreached, went}
 use Rattle.resp_cluster.specs.declared.links.Sent.{Sent}
 use Rattle.resp_cluster.specs.declared.links.Sent.TheVariants.{Answered}
 use Rattle.resp_cluster.specs.declared.node.SlotRange.{SlotRange}
@@ -107,6 +106,10 @@ next_destination cluster commands at command nodes node nodes' place targets h w
     rw (take_more commands at command within, ← at_is) (one_command_more nodes node nodes' place among cluster (take at commands)
     command targets h is)
 
+-- a command whose reply is waited for is that already
+pub awaited_is : (c : Command) → c.no_response ≡ false → awaited c ≡ c
+awaited_is c is = ap (λ b. record c { no_response = b }) (sym is)
+
 -- ---- a call that was made from these parts of a cluster
 
 pub or_true : (b : Bool) → true ≡ b || true
@@ -143,11 +146,13 @@ module _ {L : Type 0} (of_link : L → Connection) (links : Links L) (map : List
       sent_given is = from_view stale (or_false stale ∙ ap (λ b. stale || b) (sym is))
 
   module _ (c : Command) (reply : Value) (new_links : Links L) (new_map : List SlotRange) (sent : Sent) where
-    module _ (h : WentOn (SendsTo of_link c) SentRedirects node (Answered (Ok reply)) budget links map new_links new_map sent) where
+    module _ (plain : c.no_response ≡ false)
+        (h : WentOn (SendsTo of_link c) SentRedirects node (Answered (Ok reply)) budget links map new_links new_map sent) where
       went_from : (failed : Bool) → failed ≡ stale || has_failed sent
           → FollowsReply of_link old (after new_links new_map failed) node c reply (answer_of (Ok sent))
       went_from failed is = subst (λ o. FollowsReply of_link o (after new_links new_map failed) node c reply (answer_of (Ok sent)))
-          view (went new_links new_map sent h (ap (after new_links new_map) is) refl)
+          view (went new_links new_map sent (subst (λ k. WentOn (SendsTo of_link k) SentRedirects node (Answered (Ok reply))
+          budget links map new_links new_map sent) (sym (awaited_is c plain)) h) (ap (after new_links new_map) is) refl)
 
       pub went_refused : has_failed sent ≡ true
           → FollowsReply of_link old (after new_links new_map true) node c reply (answer_of (Ok sent))
@@ -157,23 +162,36 @@ module _ {L : Type 0} (of_link : L → Connection) (links : Links L) (map : List
           → FollowsReply of_link old (after new_links new_map stale) node c reply (answer_of (Ok sent))
       went_given is = went_from stale (or_false stale ∙ ap (λ b. stale || b) (sym is))
 
-    pub stopped_short : StoppedShort (SendsTo of_link c) SentRedirects node (Answered (Ok reply)) budget links map new_links new_map sent
+    of_stopped : StoppedShort (SendsTo of_link (awaited c)) SentRedirects node (Answered (Ok reply)) budget links map new_links new_map sent
         → FollowsReply of_link old (after new_links new_map true) node c reply (answer_of (Ok sent))
-    stopped_short h = subst (λ o. FollowsReply of_link o (after new_links new_map true) node c reply (answer_of (Ok sent))) view
+    of_stopped h = subst (λ o. FollowsReply of_link o (after new_links new_map true) node c reply (answer_of (Ok sent))) view
         (stopped new_links new_map sent h (ap (after new_links new_map) (or_true stale)) refl)
+
+    pub stopped_short : c.no_response ≡ false
+        → StoppedShort (SendsTo of_link c) SentRedirects node (Answered (Ok reply)) budget links map new_links new_map sent
+        → FollowsReply of_link old (after new_links new_map true) node c reply (answer_of (Ok sent))
+    stopped_short plain h = of_stopped (subst (λ k. StoppedShort (SendsTo of_link k) SentRedirects node (Answered (Ok reply))
+        budget links map new_links new_map sent) (sym (awaited_is c plain)) h)
+
+  -- memory ran out for the command as one whose reply is waited for
+  pub not_followed : (c : Command) (reply : Value) → FollowsReply of_link old (after links map true) node c reply (Ok reply)
+  not_followed c reply = of_stopped c reply links map (Answered (Ok reply)) (at_once refl refl refl)
+
+pub of_awaited : {L : Type 0} (of_link : L → Connection) (old new : Cluster L) (node : NodeAddr) (c : Command) (reply : Value)
+    (r : Result Value RedisError) → FollowsReply of_link old new node (awaited c) reply r → FollowsReply of_link old new node c reply r
+of_awaited of_link old new node c reply r (went links map sent h new_is r_is) = went links map sent h new_is r_is
+of_awaited of_link old new node c reply r (stopped links map sent h new_is r_is) = stopped links map sent h new_is r_is
 
 -- ---- how commands over a cluster are refused
 
 module _ {L : Type 0} (of_link : L → Connection) (commands : List Command) (old ready new : Cluster L) (nodes : List NodeAddr)
     (targets : List ℕ) (readies : Readies of_link old ready) (are : AreDestinations ready commands nodes targets) (e : RedisError) where
-  pub group_refused : (e ≡ OutOfMemory) ⊎ RefusedGroup (SendsGroup of_link) commands targets nodes ready new e
+  pub group_refused : RefusedGroup (SendsGroup of_link) commands targets nodes ready new e
       → SpreadRefused of_link commands old new e
-  group_refused (inl none) = no_memory none
-  group_refused (inr refused) = at_group ready nodes targets readies are refused
+  group_refused refused = at_group ready nodes targets readies are refused
 
   pub way_refused : (gathered : Cluster L) (replies : List Value)
       → Gathered (SendsGroup of_link) commands targets nodes ready replies gathered
-      → (e ≡ OutOfMemory) ⊎ StopsAt (FollowsReply of_link) nodes gathered targets commands replies e new
+      → StopsAt (FollowsReply of_link) nodes gathered targets commands replies e new
       → SpreadRefused of_link commands old new e
-  way_refused gathered replies sent (inl none) = no_memory none
-  way_refused gathered replies sent (inr stops) = on_the_way ready gathered nodes targets replies readies are sent stops
+  way_refused gathered replies sent stops = on_the_way ready gathered nodes targets replies readies are sent stops

@@ -109,10 +109,12 @@ module _ {L : Type 0} (of_link : L → Connection) where
   pub data FanOutRefused (c : Command) (old new : Cluster L) (e : RedisError) : Type 0 where
     -- it is not sent to several nodes, and nothing changes
     unsent : (e ≢ OutOfMemory → CannotFanOut c e) → new ≡ old → FanOutRefused c old new e
-    no_memory : e ≡ OutOfMemory → FanOutRefused c old new e
+    -- memory ran out before any node was sent it
+    no_memory : e ≡ OutOfMemory → Readies of_link old new → FanOutRefused c old new e
     -- the map has no such node, and none is sent it
     nowhere : (makes : Option ResponsePolicy) → FansTo c makes old new [] → e ≡ no_node → FanOutRefused c old new e
-    -- a node is not reached, or the call over its link fails, after those before it were sent the command
+    -- a node is not reached, or the call over its link fails, or memory runs out, after those before it were sent the
+    -- command
     at_node : (makes : Option ResponsePolicy) (ready : Cluster L) (nodes : List NodeAddr) → FansTo c makes old ready nodes
         → RefusedGroup (SendsGroup of_link) (replicate (length nodes) c) (range_with_len 0 (length nodes)) nodes ready new e
         → FanOutRefused c old new e

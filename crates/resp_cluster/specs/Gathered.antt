@@ -5,6 +5,7 @@ use Rattle.std.specs.Global.{Vec}
 use Rattle.std.specs.List.{flat_map}
 use Rattle.resp_value.specs.declared.value.Value.{Value}
 use Rattle.resp_errors.specs.declared.redis_error.RedisError.{RedisError}
+use Rattle.resp_errors.specs.declared.redis_error.RedisError.TheVariants.{OutOfMemory}
 use Rattle.resp_command.specs.Command.{Command}
 use Rattle.resp_command.specs.Packed.{packed}
 use Rattle.resp_cluster.specs.declared.node.NodeAddr.{NodeAddr}
@@ -53,15 +54,14 @@ module _ {S : Type 0} (sends : S → S → NodeAddr → List ℕ → ℕ → Res
       pub placed : InPlaces groups targets replies
       pub whole : length replies ≡ length commands
 
-    -- a node refuses its commands, after those before it were sent theirs
-    pub record RefusedGroup (nodes : List NodeAddr) (old new : S) (e : RedisError) : Type 0 where
-      pub groups : List (List Value)
-      pub before : S
-      pub node : NodeAddr
-      pub which : slice_get nodes (length groups) ≡ Some node
-      pub sent : SentEach 0 nodes old groups before
-      pub refused : sends before new node (request_of (of_node (length groups) targets commands))
-          (length (of_node (length groups) targets commands)) (Err e)
+    -- after the first nodes were sent theirs, the next one refuses its commands, or memory runs out
+    pub data RefusedGroup (nodes : List NodeAddr) (old new : S) (e : RedisError) : Type 0 where
+      by_node : (groups : List (List Value)) (before : S) (node : NodeAddr) → slice_get nodes (length groups) ≡ Some node
+          → SentEach 0 nodes old groups before
+          → sends before new node (request_of (of_node (length groups) targets commands))
+          (length (of_node (length groups) targets commands)) (Err e) → RefusedGroup nodes old new e
+      no_memory : (groups : List (List Value)) → SentEach 0 nodes old groups new → e ≡ OutOfMemory
+          → RefusedGroup nodes old new e
 
 module _ {S : Type 0} (follows : S → S → NodeAddr → Command → Value → Result Value RedisError → Type 0)
     (nodes : List NodeAddr) where
@@ -74,11 +74,13 @@ module _ {S : Type 0} (follows : S → S → NodeAddr → Command → Value → 
   FollowedEach old [] [] [] [] new = old ≡ new
   FollowedEach old targets commands replies answers new = ⊥
 
-  -- commands go on from their replies, one after the other, until one of them is answered with this error
+  -- commands go on from their replies, one after the other, until one of them is answered with this error, or memory
+  -- runs out
   abbrev pub StopsAt : S → List ℕ → List Command → List Value → RedisError → S → Type 0
   StopsAt old (target ∷ targets) (command ∷ commands) (reply ∷ replies) e new =
-      (node : NodeAddr) × ((slice_get nodes target ≡ Some node)
+      ((e ≡ OutOfMemory) × (old ≡ new))
+      ⊎ ((node : NodeAddr) × ((slice_get nodes target ≡ Some node)
       × (follows old new node command reply (Err e)
       ⊎ (between : S) × ((answer : Value) × (follows old between node command reply (Ok answer)
-      × StopsAt between targets commands replies e new))))
-  StopsAt old targets commands replies e new = ⊥
+      × StopsAt between targets commands replies e new)))))
+  StopsAt old targets commands replies e new = (e ≡ OutOfMemory) × (old ≡ new)

@@ -1,5 +1,5 @@
 -- Several commands over the nodes of a cluster.
-use Rattle.std.specs.Prelude.{◌≡◌, ◌≢◌, ℕ, ◌<◌, ◌∷◌, ◌++◌, ◌⊎◌, ◌%◌, Bool, true, List, [], All, AllPairs, Contains, length, slice_get, slice_index_or}
+use Rattle.std.specs.Prelude.{◌≡◌, ◌≢◌, ℕ, ◌<◌, ◌∷◌, ◌++◌, ◌⊎◌, ◌%◌, Bool, true, false, List, [], All, AllPairs, Contains, length, slice_get, slice_index_or}
 use Rattle.std.specs.Prelude.{Some, None, Result, Ok, Err, is_err, ◌||◌}
 use Rattle.std.specs.Global.{Vec}
 use Rattle.std.specs.List.{flat_map}
@@ -91,6 +91,10 @@ abbrev pub with_links : {L : Type 0} → Cluster L → Links L → List SlotRang
 with_links old links map failed =
     record { links = links; map = map; budget = old.budget; reads = old.reads; stale = old.stale || failed }
 
+-- a command as one of several: its reply is waited for
+abbrev pub awaited : Command → Command
+awaited c = record c { no_response = false }
+
 module _ {L : Type 0} (of_link : L → Connection) where
   -- a node is sent a request of so many commands: it is not reached, or its link makes the call
   pub data SendsGroup (old new : Cluster L) (node : NodeAddr) (request : List ℕ) (count : ℕ)
@@ -105,10 +109,10 @@ module _ {L : Type 0} (of_link : L → Connection) where
   pub data FollowsReply (old new : Cluster L) (node : NodeAddr) (c : Command) (reply : Value)
       (r : Result Value RedisError) : Type 0 where
     went : (links : Links L) (map : List SlotRange) (sent : Sent)
-        → WentOn (SendsTo of_link c) SentRedirects node (Answered (Ok reply)) old.budget old.links old.map links map sent
+        → WentOn (SendsTo of_link (awaited c)) SentRedirects node (Answered (Ok reply)) old.budget old.links old.map links map sent
         → new ≡ with_links old links map (has_failed sent) → r ≡ answer_of (Ok sent) → FollowsReply old new node c reply r
     stopped : (links : Links L) (map : List SlotRange) (sent : Sent)
-        → StoppedShort (SendsTo of_link c) SentRedirects node (Answered (Ok reply)) old.budget old.links old.map links map sent
+        → StoppedShort (SendsTo of_link (awaited c)) SentRedirects node (Answered (Ok reply)) old.budget old.links old.map links map sent
         → new ≡ with_links old links map true → r ≡ answer_of (Ok sent) → FollowsReply old new node c reply r
 
   -- commands over a cluster: each node is sent those that go there as one request, and each reply stands in the place
@@ -126,14 +130,13 @@ module _ {L : Type 0} (of_link : L → Connection) where
 
   -- commands over a cluster are refused with this error
   pub data SpreadRefused (commands : List Command) (old new : Cluster L) (e : RedisError) : Type 0 where
-    no_memory : e ≡ OutOfMemory → SpreadRefused commands old new e
     -- one has no node, and none is sent
     unsent : Readies of_link old new → (e ≢ OutOfMemory → OneHasNone new commands e) → SpreadRefused commands old new e
-    -- a node is not reached, or the call over its link fails, after those before it were sent theirs
+    -- a node is not reached, or the call over its link fails, or memory runs out, after those before it were sent theirs
     at_group : (ready : Cluster L) (nodes : List NodeAddr) (targets : List ℕ) → Readies of_link old ready
         → AreDestinations ready commands nodes targets → RefusedGroup SendsGroup commands targets nodes ready new e
         → SpreadRefused commands old new e
-    -- one that is redirected is answered with it, after those before it
+    -- one that is redirected is answered with it, or memory runs out, after those before it
     on_the_way : (ready gathered : Cluster L) (nodes : List NodeAddr) (targets : List ℕ) (replies : List Value)
         → Readies of_link old ready → AreDestinations ready commands nodes targets
         → Gathered SendsGroup commands targets nodes ready replies gathered

@@ -1,36 +1,88 @@
 //! A cluster's links as one connection.
 
+ghost use Rattle.std.specs.Prelude.{◌≡◌, ◌∷◌, [], All, IfOk, false, length};
+ghost use Rattle.resp_cluster.specs.Gathered.{request_of};
+ghost use Rattle.resp_cluster.specs.Routing.{RepliedTo, WasSentWhole, cluster_connection};
+
 use crate::cluster_link::ClusterLink;
+use crate::gather::SendGroups;
 use crate::links::Nodes;
+use crate::packed_commands::commands_in;
 use resp_command::{Cmd, ConnectionLike};
 use resp_value::{ErrorKind, RedisError, RedisResult, Value};
 
-/// A connection that routes: a command goes by [`ClusterLink::req_routed`]. It takes one command at
-/// a time, and refuses packed ones, which say no keys: kind `Client`.
-impl<N: Nodes> ConnectionLike for ClusterLink<N> {
-    ghost use Rattle.resp_cluster.specs.Routing.{cluster_connection};
+/// The bytes that begin a transaction.
+const MULTI: &[u8] = b"*1\r\n$5\r\nMULTI\r\n";
 
+impl<N: Nodes> ClusterLink<N> {
+    /// The replies to packed commands: to a transaction as [`Pipeline::query`] sends it over one
+    /// node, to one command by [`ClusterLink::req_routed`], and to others by
+    /// [`ClusterLink::req_commands`].
+    ///
+    /// [`Pipeline::query`]: resp_pipeline::Pipeline::query
+    fn replies_to(&mut self, commands: &[Cmd], bytes: &[u8]) -> RedisResult<Vec<Value>>
+        requires packed { request_of commands.now ≡ bytes.now }
+        requires awaited { All (λ c. c.no_response ≡ false) commands.now }
+        ensures answered { IfOk result (λ replies. RepliedTo N.Link.connection bytes.now
+            (length commands.now) replies.items self.new) }
+        ensures counted { IfOk result (λ replies. length replies.items ≡ length commands.now) }
+    {
+        if bytes.starts_with(MULTI) {
+            return self.req_transaction(commands, bytes);
+        }
+        if commands.len() == 1 {
+            return self.req_one(&commands[0]);
+        }
+        self.req_commands(commands)
+    }
+
+    /// The reply to one command, as a list.
+    fn req_one(&mut self, command: &Cmd) -> RedisResult<Vec<Value>>
+        requires { command.now.no_response ≡ false }
+        ensures answered { IfOk result (λ replies. RepliedTo N.Link.connection
+            (request_of (command.now ∷ [])) 1 replies.items self.new) }
+        ensures counted { IfOk result (λ replies. length replies.items ≡ 1) }
+    {
+        let mut replies = Vec::with_capacity(self.allocator(), 1)?;
+        let reply = self.req_routed(command)?;
+        replies.push(reply)?;
+        Ok(replies)
+    }
+}
+
+/// A connection that routes: a command goes by [`ClusterLink::req_routed`], and so does a packed
+/// one. Several packed commands go as [`ClusterLink::req_commands`] sends them, and a transaction to
+/// one node. Bytes that aren't packed commands, so many as replies are wanted, are refused with kind
+/// `Client`.
+impl<N: Nodes> ConnectionLike for ClusterLink<N> {
     ghost connection = { cluster_connection N.Link.connection };
 
     fn req_command(&mut self, cmd: &Cmd) -> RedisResult<Value> {
         self.req_routed(cmd)
     }
 
-    fn req_packed_command(&mut self, _bytes: &[u8]) -> RedisResult<Value> {
-        Err(RedisError::from((ErrorKind::Client, "a packed command has no route")))
+    fn req_packed_command(&mut self, bytes: &[u8]) -> RedisResult<Value> {
+        let commands = commands_in(self.allocator(), bytes, 1)?;
+        self.req_routed(&commands[0])
     }
 
     fn req_packed_commands(
         &mut self,
-        _bytes: &[u8],
-        _offset: usize,
-        _count: usize,
+        bytes: &[u8],
+        offset: usize,
+        count: usize,
     ) -> RedisResult<Vec<Value>> {
-        Err(RedisError::from((ErrorKind::Client, "a packed command has no route")))
+        let Some(wanted) = offset.checked_add(count) else {
+            return Err(too_many());
+        };
+        let commands = commands_in(self.allocator(), bytes, wanted)?;
+        let mut replies = self.replies_to(commands.as_slice(), bytes)?;
+        let answers = replies.split_off(offset)?;
+        Ok(answers)
     }
 
     fn supports_pipelining(&self) -> bool {
-        false
+        true
     }
 
     fn is_open(&self) -> bool {
@@ -39,4 +91,11 @@ impl<N: Nodes> ConnectionLike for ClusterLink<N> {
             None => false,
         }
     }
+}
+
+fn too_many() -> RedisError {
+    RedisError::from((
+        ErrorKind::Client,
+        "more replies are wanted than can be counted",
+    ))
 }

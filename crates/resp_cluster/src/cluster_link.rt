@@ -213,6 +213,11 @@ impl<N: Nodes> ClusterLink<N> {
         }
     }
 
+    /// What gives it memory.
+    pub(crate) fn allocator(&self) -> Global {
+        self.alloc
+    }
+
     /// The map of slots.
     pub fn map(&self) -> &SlotMap
         ensures { result.now ≡ self.now.map }

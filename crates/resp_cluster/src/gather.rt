@@ -61,8 +61,8 @@ pub(crate) fn gather<C: SendGroups>(
     requires each { length targets.now ≡ length commands.now }
     ensures gathered { IfOk result (λ replies. Gathered C.sends commands.now targets.now nodes.now
         cluster.old replies.items cluster.new) }
-    ensures refused { IfErr result (λ e. (e ≡ RedisError.OutOfMemory)
-        ⊎ RefusedGroup C.sends commands.now targets.now nodes.now cluster.old cluster.new e) }
+    ensures refused { IfErr result (RefusedGroup C.sends commands.now targets.now nodes.now
+        cluster.old cluster.new) }
 {
     let mut groups = send_groups(alloc, cluster, nodes, commands, targets)?;
     let replies = in_places(alloc, &mut groups, targets)?;
@@ -83,8 +83,8 @@ pub(crate) fn follow_each<C: SendGroups>(
     requires replies { length replies.items ≡ length commands.now }
     ensures followed { IfOk result (λ answers. FollowedEach C.follows nodes.now cluster.old
         targets.now commands.now replies.items answers.items cluster.new) }
-    ensures stopped { IfErr result (λ e. (e ≡ RedisError.OutOfMemory) ⊎ StopsAt C.follows nodes.now
-        cluster.old targets.now commands.now replies.items e cluster.new) }
+    ensures stopped { IfErr result (λ e. StopsAt C.follows nodes.now cluster.old targets.now
+        commands.now replies.items e cluster.new) }
 {
     let mut answers = Vec::with_capacity(alloc, commands.len())?;
     for (place, reply) in replies.into_iter().enumerate() {
@@ -107,8 +107,8 @@ fn send_groups<C: SendGroups>(
     ensures count { IfOk result (λ groups. length groups.items ≡ length nodes.now) }
     ensures sent { IfOk result (λ groups. SentEach C.sends commands.now targets.now 0 nodes.now
         cluster.old (map from_last groups.items) cluster.new) }
-    ensures refused { IfErr result (λ e. (e ≡ RedisError.OutOfMemory)
-        ⊎ RefusedGroup C.sends commands.now targets.now nodes.now cluster.old cluster.new e) }
+    ensures refused { IfErr result (RefusedGroup C.sends commands.now targets.now nodes.now
+        cluster.old cluster.new) }
 {
     let mut groups = Vec::with_capacity(alloc, nodes.len())?;
     for place in 0..nodes.len() {
@@ -131,7 +131,7 @@ fn send_to<C: SendGroups>(
     requires each { length targets.now ≡ length commands.now }
     ensures sent { IfOk result (λ replies. SentGroup C.sends
         (of_node place targets.now commands.now) cluster.old node.now replies.items cluster.new) }
-    ensures refused { IfErr result (λ e. (e ≡ RedisError.OutOfMemory)
+    ensures refused { IfErr result (λ e. ((e ≡ RedisError.OutOfMemory) × (cluster.new ≡ cluster.old))
         ⊎ C.sends cluster.old cluster.new node.now
         (request_of (of_node place targets.now commands.now))
         (length (of_node place targets.now commands.now)) (Err e)) }

@@ -10,6 +10,7 @@ mod links;
 mod map_source;
 mod merge;
 mod node;
+mod packed_commands;
 mod read_from;
 mod redirect;
 mod router;

@@ -19,6 +19,15 @@ pub(crate) fn is_link_command(command: &Cmd) -> bool
     }
 }
 
+/// Whether this is `EXEC`.
+pub(crate) fn is_exec(command: &Cmd) -> bool {
+    let mut shown = command.args_iter();
+    match next_arg(&mut shown) {
+        Some(name) => name.eq_ignore_ascii_case(b"EXEC") && shown.len() == 0,
+        None => false,
+    }
+}
+
 /// The bytes of the next argument, if there is one; a cursor argument counts as 0.
 fn next_arg<'a>(shown: &mut ArgsIter<'a>) -> Option<&'a [u8]>
     ensures some { IfSome result (λ arg. as_bytes (args_left shown.old)

@@ -8,7 +8,7 @@ use Rattle.resp_errors.specs.declared.redis_error.RedisError.TheVariants.{Io, Pa
 use Rattle.resp_errors.specs.declared.kinds.IoKind.TheVariants.{UnexpectedEof}
 use Rattle.resp_errors.specs.declared.parsing_error.ParsingError.TheVariants.{Fault}
 use Rattle.resp_command.specs.Call.{Asks, Call, CommandCall, Reconnects, Refuses, Routes, AnswersReply, Answers}
-use Rattle.resp_command.specs.Call.{broken_link, no_command, no_reply, refused, replaced, not_carried, carried, needed}
+use Rattle.resp_command.specs.Call.{broken_link, no_command, no_reply, refused, replaced, not_carried, carried, parted, needed}
 use Rattle.resp_command.specs.Command.{Command}
 use Rattle.resp_command.specs.CommandQuery.{CommandQuery}
 use Rattle.resp_command.specs.Connection.{push_room, Connection, Bytes, ExchangeOf, Exchange, replied}
@@ -16,6 +16,7 @@ use Rattle.resp_command.specs.Connection.{malformed}
 use Rattle.resp_command.specs.Connection.{early_end}
 use Rattle.resp_command.specs.Connection.{sink_failed, source_failed, out_of_memory}
 use Rattle.resp_command.specs.Packed.{packed}
+use Rattle.resp_command.specs.Parted.{Parted}
 use Rattle.resp_command.proofs.PackedReadsBack.{packed_reads_only}
 use Rattle.resp_command.proofs.OneTaking.{takes_one_thing}
 
@@ -105,7 +106,7 @@ module _ {A B : Type 0} (new : Connection) (q : List ℕ) (n : ℕ) (answers ans
   exchange_of_ok bytes a r turn (source_failed h) = absurd h.answer
   exchange_of_ok bytes a r turn (out_of_memory h) = absurd (let k = h.answer in cc)
 
-  exchange_ok : (a : A) (r : Result B RedisError)
+  pub exchange_ok : (a : A) (r : Result B RedisError)
       → ((replies : List Value) → length replies ≡ n → answers replies → answers' replies)
       → Exchange {A = A} old new q n (Ok a) answers → Exchange {A = B} old new q n r answers'
   exchange_ok a r turn h = record {
@@ -128,7 +129,7 @@ module _ {A B : Type 0} (new : Connection) (q : List ℕ) (n : ℕ) (answers ans
     otherwise = λ m k. exchange_err e none (h.otherwise m k);
   }
 
-  asks_ok : (IsEmpty IsUnanswered : Type 0) (a : A) (r : Result B RedisError)
+  pub asks_ok : (IsEmpty IsUnanswered : Type 0) (a : A) (r : Result B RedisError)
       → ((replies : List Value) → length replies ≡ n → answers replies → answers' replies)
       → Asks {A = A} old new IsEmpty IsUnanswered q n (Ok a) answers → Asks {A = B} old new IsEmpty IsUnanswered q n r answers'
   asks_ok IsEmpty IsUnanswered a r turn h = record {
@@ -150,14 +151,19 @@ module _ {A B : Type 0} (old new : Connection) (MadeOver MadeOver' : Connection 
   reconnects_ok a r (refused f h) = absurd (refuses_ok old new a f h)
   reconnects_ok a r (replaced other works h) = replaced other works (turn other h)
 
-  -- one that routes
-  pub routes_err : (e : RedisError) → Routes {A = A} (Err e) MadeOver → Routes {A = B} (Err e) MadeOver'
-  routes_err e (not_carried f h) = not_carried e refl
-  routes_err e (carried other works h) = carried other works (turn other h)
+  module _ (IsParted IsParted' : Type 0) (turn_parted : IsParted → IsParted') where
+    -- one that routes
+    pub routes_err : (e : RedisError) → Routes {A = A} (Err e) MadeOver IsParted
+        → Routes {A = B} (Err e) MadeOver' IsParted'
+    routes_err e (not_carried f h) = not_carried e refl
+    routes_err e (carried other works h) = carried other works (turn other h)
+    routes_err e (parted h) = parted (turn_parted h)
 
-  pub routes_ok : (a : A) (r : Result B RedisError) → Routes {A = A} (Ok a) MadeOver → Routes {A = B} r MadeOver'
-  routes_ok a r (not_carried f h) = absurd (let k = h in cc)
-  routes_ok a r (carried other works h) = carried other works (turn other h)
+    pub routes_ok : (a : A) (r : Result B RedisError) → Routes {A = A} (Ok a) MadeOver IsParted
+        → Routes {A = B} r MadeOver' IsParted'
+    routes_ok a r (not_carried f h) = absurd (let k = h in cc)
+    routes_ok a r (carried other works h) = carried other works (turn other h)
+    routes_ok a r (parted h) = parted (turn_parted h)
 
 -- the same answer, by less that is said of the call over the other
 pub reconnects_over : {A : Type 0} (old new : Connection) (r : Result A RedisError)
@@ -166,10 +172,27 @@ pub reconnects_over : {A : Type 0} (old new : Connection) (r : Result A RedisErr
 reconnects_over old new r MadeOver MadeOver' turn (refused e h) = refused e h
 reconnects_over old new r MadeOver MadeOver' turn (replaced other works h) = replaced other works (turn other h)
 
-pub routes_over : {A : Type 0} (r : Result A RedisError) (MadeOver MadeOver' : Connection → Type 0)
-    → ((other : Connection) → MadeOver other → MadeOver' other) → Routes r MadeOver → Routes r MadeOver'
-routes_over r MadeOver MadeOver' turn (not_carried e h) = not_carried e h
-routes_over r MadeOver MadeOver' turn (carried other works h) = carried other works (turn other h)
+pub routes_over : {A : Type 0} (r : Result A RedisError) (MadeOver MadeOver' : Connection → Type 0) (IsParted : Type 0)
+    → ((other : Connection) → MadeOver other → MadeOver' other) → Routes r MadeOver IsParted
+    → Routes r MadeOver' IsParted
+routes_over r MadeOver MadeOver' IsParted turn (not_carried e h) = not_carried e h
+routes_over r MadeOver MadeOver' IsParted turn (carried other works h) = carried other works (turn other h)
+routes_over r MadeOver MadeOver' IsParted turn (parted h) = parted h
+
+-- the replies over several links, by another answer that they make
+pub parted_turned : (q : List ℕ) (n : ℕ) (answers answers' : List Value → Type 0)
+    → ((replies : List Value) → length replies ≡ n → answers replies → answers' replies)
+    → Parted q n answers → Parted q n answers'
+parted_turned q n answers answers' turn h = record {
+  commands = h.commands;
+  replies = h.replies;
+  request = h.request;
+  no_transaction = h.no_transaction;
+  each = h.each;
+  enough = h.enough;
+  several = h.several;
+  answer = turn h.replies h.enough h.answer;
+}
 
 module _ {A B : Type 0} (old new : Connection) (q : List ℕ) (n : ℕ) (answers answers' : List Value → Type 0)
     (IsEmpty IsUnanswered : Type 0) where
@@ -181,7 +204,8 @@ module _ {A B : Type 0} (old new : Connection) (q : List ℕ) (n : ℕ) (answers
     when_lost = λ b again. reconnects_err old new _ _
         (λ other. asks_err new q n answers answers' other IsEmpty IsUnanswered e none) e (h.when_lost b again);
     when_routed = λ b. routes_err old new _ _
-        (λ other. asks_err new q n answers answers' other IsEmpty IsUnanswered e none) e (h.when_routed b);
+        (λ other. asks_err new q n answers answers' other IsEmpty IsUnanswered e none) _ _
+        (parted_turned q n answers answers' (λ replies _ h. absurd (none replies h))) e (h.when_routed b);
     when_working = λ b own. asks_err new q n answers answers' old IsEmpty IsUnanswered e none (h.when_working b own);
   }
 
@@ -194,7 +218,8 @@ module _ {A B : Type 0} (old new : Connection) (q : List ℕ) (n : ℕ) (answers
     when_lost = λ b again. reconnects_ok old new _ _
         (λ other. asks_ok new q n answers answers' other IsEmpty IsUnanswered a r turn) a r (h.when_lost b again);
     when_routed = λ b. routes_ok old new _ _
-        (λ other. asks_ok new q n answers answers' other IsEmpty IsUnanswered a r turn) a r (h.when_routed b);
+        (λ other. asks_ok new q n answers answers' other IsEmpty IsUnanswered a r turn) _ _
+        (parted_turned q n answers answers' turn) a r (h.when_routed b);
     when_working = λ b own. asks_ok new q n answers answers' old IsEmpty IsUnanswered a r turn (h.when_working b own);
   }
 

@@ -8,6 +8,7 @@ use Rattle.resp_errors.specs.declared.redis_error.RedisError.TheVariants.{Genera
 use Rattle.resp_value.specs.FirstError.{first_error}
 use Rattle.resp_from.specs.Conversion.{ConvertsCall}
 use Rattle.resp_command.specs.Packed.{packed}
+use Rattle.resp_command.specs.Parted.{Parted}
 use Rattle.resp_command.specs.Command.{Command}
 use Rattle.resp_command.specs.Connection.{Connection, Exchange, stays, reconnects, routes}
 use Rattle.resp_command.specs.Subscriptions.{IsUnanswered}
@@ -40,11 +41,13 @@ pub data Reconnects {A : Type 0} (old new : Connection) (r : Result A RedisError
   replaced : (other : Connection) → other.broken ≡ false → MadeOver other
       → Reconnects old new r MadeOver
 
--- a connection that routes: the call is refused, or it is made over the link that it belongs to,
--- which works
-pub data Routes {A : Type 0} (r : Result A RedisError) (MadeOver : Connection → Type 0) : Type 0 where
-  not_carried : (e : RedisError) → r ≡ Err e → Routes r MadeOver
-  carried : (other : Connection) → other.broken ≡ false → MadeOver other → Routes r MadeOver
+-- a connection that routes: the call is refused; or it is made over the link that it belongs to,
+-- which works; or its commands are parted over several such links
+pub data Routes {A : Type 0} (r : Result A RedisError) (MadeOver : Connection → Type 0)
+    (IsParted : Type 0) : Type 0 where
+  not_carried : (e : RedisError) → r ≡ Err e → Routes r MadeOver IsParted
+  carried : (other : Connection) → other.broken ≡ false → MadeOver other → Routes r MadeOver IsParted
+  parted : IsParted → Routes r MadeOver IsParted
 
 -- a call over a connection that works: refused where the command is empty, or where no reply would
 -- come to it, and else an exchange
@@ -63,7 +66,7 @@ pub record Call {A : Type 0} (old new : Connection) (IsEmpty IsUnanswered : Type
   pub when_lost : old.broken ≡ true → old.policy ≡ reconnects →
       Reconnects old new r (λ other. Asks other new IsEmpty IsUnanswered q n r answers)
   pub when_routed : old.policy ≡ routes →
-      Routes r (λ other. Asks other new IsEmpty IsUnanswered q n r answers)
+      Routes r (λ other. Asks other new IsEmpty IsUnanswered q n r answers) (Parted q n answers)
   pub when_working : old.broken ≡ false → old.policy ≢ routes →
       Asks old new IsEmpty IsUnanswered q n r answers
 

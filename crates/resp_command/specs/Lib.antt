@@ -10,6 +10,7 @@ pub mod NextPush
 pub mod Packed
 pub mod PackingLaw
 pub mod PageParts
+pub mod Parted
 pub mod Pieces
 pub mod ScanLaw
 pub mod ScanReplies

@@ -21,8 +21,9 @@ use resp_value::{RedisResult, Value};
 /// place before it sends the next request, and sends none twice.
 ///
 /// A connection that routes, as to the nodes of a cluster, makes each call over a link that it
-/// chooses and that works, and is then what that link is. Or it refuses the call, by any error, and
-/// then nothing is said of what it is.
+/// chooses and that works, and is then what that link is. Or it parts several commands over such
+/// links, but not a transaction: each reply is then one that such a link gave to its command. Or it
+/// refuses the call, by any error. Where it parts or refuses, nothing is said of what it is then.
 ///
 /// Pushes that stand before the last reply to a request are set aside, and count as no reply.
 pub trait ConnectionLike {

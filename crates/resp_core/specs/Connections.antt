@@ -1,7 +1,7 @@
 -- What the contracts of commands and connections cite, given out for the crates of users.
 pub use Rattle.resp_command.specs.Call.{Asks, Call, CommandCall, PackedCall, Answers, AnswersReply}
 pub use Rattle.resp_command.specs.Call.{Reconnects, Refuses, Routes, needed, refused, replaced}
-pub use Rattle.resp_command.specs.Call.{carried, not_carried}
+pub use Rattle.resp_command.specs.Call.{carried, not_carried, parted}
 pub use Rattle.resp_command.specs.Command.{Command, new_command}
 pub use Rattle.resp_command.specs.CommandQuery.{CommandQuery}
 pub use Rattle.resp_command.specs.Connection.{Connection, Bytes, Exchange, ExchangeOf, LinkPolicy}
@@ -13,6 +13,7 @@ pub use Rattle.resp_command.specs.Cursors.{HoldsCursor, with_cursor, with_cursor
 pub use Rattle.resp_command.specs.Cursors.{with_extended_arg}
 pub use Rattle.resp_command.specs.NextPush.{IsMessage, IsReply, IsServerError, NextPush}
 pub use Rattle.resp_command.specs.Packed.{as_value, packed}
+pub use Rattle.resp_command.specs.Parted.{Parted, RepliedOver, multi_bytes}
 pub use Rattle.resp_command.specs.ScanLaw.{Calls, LawOfScans, WholeScan}
 pub use Rattle.resp_command.specs.ScanReplies.{Given, Gives, GivesFirst, IsBatch, IsPage, IsFirstPage}
 pub use Rattle.resp_command.specs.ScanReplies.{ReadsPage}

@@ -64,7 +64,7 @@ module _ {X V : Type 0} (items : V → List Value) (old new : Connection) (p : P
         policy = call.policy;
         when_broken = λ _ b same. inl (call.when_broken b same);
         when_lost = λ _ b again. reconnects_over _ _ _ _ _ (λ other asks. asks.otherwise (λ k. k) (λ k. k)) (call.when_lost b again);
-        when_routed = λ _ b. routes_over _ _ _ (λ other asks. asks.otherwise (λ k. k) (λ k. k)) (call.when_routed b);
+        when_routed = λ _ b. routes_over _ _ _ _ (λ other asks. asks.otherwise (λ k. k) (λ k. k)) (call.when_routed b);
         when_working = λ _ b own. (call.when_working b own).otherwise (λ k. k) (λ k. k);
       }
 
@@ -81,6 +81,6 @@ module _ {X V : Type 0} (items : V → List Value) (old new : Connection) (p : P
         policy = call.policy;
         when_broken = λ _ b same. inl (call.when_broken b same);
         when_lost = λ _ b again. reconnects_over _ _ _ _ _ (λ other asks. asks.otherwise (λ k. k) (λ k. k)) (call.when_lost b again);
-        when_routed = λ _ b. routes_over _ _ _ (λ other asks. asks.otherwise (λ k. k) (λ k. k)) (call.when_routed b);
+        when_routed = λ _ b. routes_over _ _ _ _ (λ other asks. asks.otherwise (λ k. k) (λ k. k)) (call.when_routed b);
         when_working = λ _ b own. (call.when_working b own).otherwise (λ k. k) (λ k. k);
       }

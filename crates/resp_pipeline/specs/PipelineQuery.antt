@@ -9,6 +9,7 @@ use Rattle.resp_command.specs.Connection.{push_room, Connection, Exchange, stays
 use Rattle.resp_pipeline.specs.Outcome.{Outcome}
 use Rattle.resp_pipeline.specs.Pipeline.{Plan, request, replies_needed}
 use Rattle.resp_pipeline.specs.PipelineLaw.{LawOfPipelines}
+use Rattle.resp_command.specs.Parted.{Parted}
 use Rattle.resp_command.specs.Taken.{TakesOneThing}
 
 -- what a connection is refused with that takes one command at a time
@@ -33,6 +34,6 @@ pub record PipelineQuery {X : Type 0} (old new : Connection) (p : Plan)
       (Outcome p of_value result))
   pub when_routed : old.pipelines ≡ true → old.policy ≡ routes →
       Routes result (λ other. Exchange other new (request p) (replies_needed p) result
-      (Outcome p of_value result))
+      (Outcome p of_value result)) (Parted (request p) (replies_needed p) (Outcome p of_value result))
   pub when_working : old.pipelines ≡ true → old.broken ≡ false → old.policy ≢ routes →
       Exchange old new (request p) (replies_needed p) result (Outcome p of_value result)

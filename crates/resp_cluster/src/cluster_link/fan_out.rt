@@ -68,9 +68,9 @@ impl<N: Nodes> ClusterLink<N> {
     fn send_to_each(&mut self, nodes: &[NodeAddr], command: &Cmd) -> RedisResult<Vec<Value>>
         ensures sent { IfOk result (λ replies. SentToEach N.Link.connection command.now nodes.now
             self.old replies.items self.new) }
-        ensures refused { IfErr result (λ e. (e ≡ form.OutOfMemory)
-            ⊎ RefusedGroup (SendsGroup N.Link.connection) (replicate (length nodes.now) command.now)
-            (range_with_len 0 (length nodes.now)) nodes.now self.old self.new e) }
+        ensures refused { IfErr result (RefusedGroup (SendsGroup N.Link.connection)
+            (replicate (length nodes.now) command.now) (range_with_len 0 (length nodes.now)) nodes.now
+            self.old self.new) }
     {
         let alloc = self.alloc;
         let commands = copies(alloc, command, nodes.len())?;

@@ -7,7 +7,7 @@ ghost use Rattle.resp_routing.specs.declared.errors.RoutingError.TheVariants as 
 ghost use Rattle.resp_cluster.specs.Spread.{AreDestinations, HasNoDestination, IsDestination};
 ghost use Rattle.resp_cluster.specs.Spread.{IsPartsOf, IsPlaceAmong, OneHasNone, SplitCall};
 ghost use Rattle.resp_cluster.specs.Spread.{HasNoParts, SplitRefused};
-ghost use Rattle.resp_cluster.specs.Spread.{SpreadCall, SpreadQuery, SpreadRefused};
+ghost use Rattle.resp_cluster.specs.Spread.{SpreadCall, SpreadQuery, SpreadRefused, awaited};
 ghost use Rattle.resp_cluster.specs.Transactions.{TransactionQuery};
 
 use super::{ClusterLink, answer_of, no_node, route_for};
@@ -147,6 +147,15 @@ fn parts_of(alloc: Global, args: &[&[u8]]) -> Result<(Merge, Parts), RoutingErro
     }
 }
 
+/// The same command, as one whose reply is waited for.
+fn awaited(command: &Cmd) -> Result<Cmd, AllocError>
+    ensures { IfOk result (λ c. c ≡ awaited command.now) }
+{
+    let mut awaited = command.try_clone()?;
+    awaited.set_no_response(false);
+    Ok(awaited)
+}
+
 /// The place of a node among others; it is added where it isn't there.
 fn place_among(nodes: &mut Vec<NodeAddr>, node: NodeAddr) -> Result<usize, AllocError>
     ensures { IfOk result (IsPlaceAmong nodes.old.items node nodes.new.items) }
@@ -189,6 +198,25 @@ impl<N: Nodes> SendGroups for ClusterLink<N> {
     }
 
     fn follow_reply(&mut self, node: &NodeAddr, command: &Cmd, reply: Value) -> RedisResult<Value> {
+        if !command.is_no_response() {
+            return self.follow_awaited(node, command, reply);
+        }
+        let Ok(awaited) = awaited(command) else {
+            self.stale = true;
+            return Ok(reply);
+        };
+        self.follow_awaited(node, &awaited, reply)
+    }
+}
+
+impl<N: Nodes> ClusterLink<N> {
+    ghost use Rattle.resp_cluster.specs.Spread.{FollowsReply};
+
+    /// Sends a command whose reply is waited for on to where the reply of a node points.
+    fn follow_awaited(&mut self, node: &NodeAddr, command: &Cmd, reply: Value) -> RedisResult<Value>
+        requires { command.now.no_response ≡ false }
+        ensures { FollowsReply N.Link.connection self.old self.new node.now command.now reply result }
+    {
         let (alloc, budget) = (self.alloc, self.budget);
         let sent = Sent::Answered(Ok(reply));
         match go_on(

@@ -1,21 +1,23 @@
 //! A transaction over the nodes of a cluster.
 
-ghost use Rattle.std.specs.Prelude.{◌≡◌, ◌≢◌, IfErr, IfOk};
+ghost use Rattle.std.specs.Prelude.{◌≡◌, ◌≢◌, IfErr, IfOk, length};
 ghost use Rattle.resp_errors.specs.declared.redis_error.RedisError.TheVariants as form;
 ghost use Rattle.resp_pipeline.specs.Pipeline.{request};
 ghost use Rattle.resp_routing.specs.Refusals.{redis_error_of};
 ghost use Rattle.resp_cluster.specs.Together.{AreApart, CannotGoTogether, GoTogether, Joins};
-ghost use Rattle.resp_cluster.specs.Transactions.{SendsWhole, TransactionQuery};
+ghost use Rattle.resp_cluster.specs.Routing.{WasSentWhole};
+ghost use Rattle.resp_cluster.specs.Transactions.{FindsNode, SendsWhole, TransactionQuery};
 
 use super::{ClusterLink, no_node, route_for};
 use crate::gather::SendGroups;
+use crate::link_commands::is_exec;
 use crate::links::Nodes;
 use crate::node::NodeAddr;
 use resp_command::Cmd;
 use resp_from::FromRedisValue;
 use resp_pipeline::Pipeline;
 use resp_routing::{Route, RoutingError};
-use resp_value::RedisResult;
+use resp_value::{ErrorKind, RedisError, RedisResult, Value};
 use std::alloc::Global;
 
 impl<N: Nodes> ClusterLink<N> {
@@ -27,14 +29,42 @@ impl<N: Nodes> ClusterLink<N> {
         ensures { TransactionQuery N.Link.connection pipeline.now T.of_value self.old self.new
             result }
     {
-        let route = common_route(self.alloc, pipeline.commands())?;
         let request = pipeline.get_packed_pipeline()?;
+        let node = self.common_node(pipeline.commands())?;
+        self.send_whole(pipeline, request.as_slice(), &node)
+    }
+
+    /// The node that commands go to together, by the map that it then has.
+    fn common_node(&mut self, commands: &[Cmd]) -> RedisResult<NodeAddr>
+        ensures { FindsNode N.Link.connection commands.now self.old self.new result }
+    {
+        let route = common_route(self.alloc, commands)?;
         self.make_ready();
         let Some(node) = self.primary_or_any(&route) else {
             return Err(no_node());
         };
-        let first = node.try_clone(self.alloc)?;
-        self.send_whole(pipeline, request.as_slice(), &first)
+        let node = node.try_clone(self.alloc)?;
+        Ok(node)
+    }
+
+    /// Sends the commands of a transaction, packed, `MULTI` and `EXEC` among them, to the node that
+    /// the others go to together, and answers their replies. Where one is an error, the map is asked
+    /// for before the next command.
+    pub(crate) fn req_transaction(
+        &mut self,
+        commands: &[Cmd],
+        request: &[u8],
+    ) -> RedisResult<Vec<Value>>
+        ensures whole { IfOk result (λ replies. WasSentWhole N.Link.connection request.now
+            (length commands.now) replies self.new) }
+        ensures counted { IfOk result (λ replies. length replies.items ≡ length commands.now) }
+    {
+        let node = self.common_node(between_ends(commands)?)?;
+        let replies = self.send_group(&node, request, commands.len())?;
+        if has_server_error(replies.as_slice()) {
+            self.stale = true;
+        }
+        Ok(replies)
     }
 
     /// Sends a transaction, packed, to this node.
@@ -83,4 +113,22 @@ fn join(alloc: Global, one: Route, other: Route) -> RedisResult<Route>
         (Route::Slot(slot), _) => Ok(Route::Slot(slot)),
         (Route::Keyless(_), route) => Ok(route),
     }
+}
+
+/// The commands of a transaction between its first and its last, which is `EXEC`.
+fn between_ends(commands: &[Cmd]) -> RedisResult<&[Cmd]> {
+    match commands {
+        [_, inner @ .., last] if is_exec(last) => Ok(inner),
+        _ => Err(RedisError::from((ErrorKind::Client, "a packed transaction ends with EXEC"))),
+    }
+}
+
+/// Whether a reply is a server's error.
+fn has_server_error(replies: &[Value]) -> bool {
+    for reply in replies {
+        if matches!(reply, Value::ServerError(_)) {
+            return true;
+        }
+    }
+    false
 }

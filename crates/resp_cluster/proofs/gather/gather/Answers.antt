@@ -1,6 +1,7 @@
 use Rattle.std.proofs.Common.{◌≡◌, ◌+◌, map, length, ap, sym, ◌∙◌, arith}
 use Rattle.std.proofs.lemmas.List.{length-map}
-use Rattle.resp_cluster.specs.Gathered.{of_node}
+use Rattle.std.proofs.lemmas.Result.{err_from_is_err_and}
+use Rattle.resp_cluster.specs.Gathered.{no_memory, of_node}
 use Rattle.resp_cluster.proofs.Gathers.{as_many, enough_of}
 use Rattle.resp_cluster.specs.Gathering.{from_last}
 use Rattle.resp_cluster.proofs.gather.gather.Goals as goal
@@ -21,3 +22,8 @@ returns-clause-gathered g c =
       placed = c.in_ok-replies.ensures.places;
       whole = c.in_ok-replies.ensures.whole ∙ c.requires.each;
     }
+
+pub returns-in_err-replies-clause-refused : goal.returns-in_err-replies-clause-refused
+returns-in_err-replies-clause-refused g c =
+    let p = err_from_is_err_and c.from_residual-in_err-replies.result c.from_residual-in_err-replies.ensures.1 in
+    rw (p.1, p.2) (no_memory (map from_last c.in_ok-groups.groups.items) c.in_ok-groups.ensures.sent c.in_err-replies.ensures.memory)

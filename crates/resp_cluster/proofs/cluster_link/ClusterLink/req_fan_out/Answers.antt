@@ -1,4 +1,4 @@
-use Rattle.std.proofs.Common.{◌≡◌, [], true, false, refl, sym, ◌∙◌, subst, inl, inr}
+use Rattle.std.proofs.Common.{◌≡◌, [], true, false, refl, sym, ◌∙◌, subst}
 use Rattle.std.proofs.lemmas.Result.{err_from_is_err_and}
 use Rattle.resp_cluster.specs.FannedOut.{FansTo, at_node, no_memory, nowhere, uncombined, unsent}
 use Rattle.resp_cluster.proofs.FanningOut.{fans_to, first_is}
@@ -20,14 +20,16 @@ returns-then-is_empty-clause-refused g c =
     nowhere _ (subst (λ n. FansTo g.N.Link.ConnectionLike.connection c.args.command.now c.in_ok-policies.policies.makes c.args.self.now
     c.make_ready.new.self n) none goes) c.no_node.ensures
 
+pub returns-in_err-nodes-clause-refused : goal.returns-in_err-nodes-clause-refused
+returns-in_err-nodes-clause-refused g c =
+    let p = err_from_is_err_and c.from_residual-in_err-nodes.result c.from_residual-in_err-nodes.ensures.1 in
+    rw p.1 (no_memory p.2 c.make_ready.ensures)
+
 pub returns-in_err-replies-clause-refused : goal.returns-in_err-replies-clause-refused
 returns-in_err-replies-clause-refused g c =
     let p = err_from_is_err_and c.from_residual-in_err-replies.result c.from_residual-in_err-replies.ensures.1 in
-    rw (p.1, p.2) (elim c.in_err-replies.ensures.refused [
-      | inl memory ↦ no_memory memory
-      | inr refused ↦ at_node _ _ _ (fans_to _ _ _ _ _ _ _ _ c.self-2.view_is c.in_ok-policies.ensures.found c.make_ready.ensures
-          c.in_ok-nodes.ensures) (rw (← c.as_slice.ensures) refused)
-    ])
+    rw (p.1, p.2) (at_node _ _ _ (fans_to _ _ _ _ _ _ _ _ c.self-2.view_is c.in_ok-policies.ensures.found c.make_ready.ensures
+    c.in_ok-nodes.ensures) (rw (← c.as_slice.ensures) c.in_err-replies.ensures.refused))
 
 pub returns-in_err-answer-clause-refused : goal.returns-in_err-answer-clause-refused
 returns-in_err-answer-clause-refused g c =

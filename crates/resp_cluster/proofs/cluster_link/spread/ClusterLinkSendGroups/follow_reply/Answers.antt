@@ -1,18 +1,8 @@
-use Rattle.std.proofs.Common.{sym, ◌∙◌}
-use Rattle.resp_cluster.proofs.Spreading.{stopped_short, went_given, went_refused}
+use Rattle.resp_cluster.proofs.Spreading.{not_followed, of_awaited}
 use Rattle.resp_cluster.proofs.cluster_link.spread.ClusterLinkSendGroups.follow_reply.Goals as goal
 
-pub returns-then-failed : goal.returns-then-failed
-returns-then-failed g c =
-    rw c.answer_of-answer.ensures (went_refused _ _ _ _ _ _ _ c.self.view_is _ _ _ _ _ _ c.in-Ok.ensures.went
-    (sym c.has_failed-failed.ensures ∙ c.if-failed.true))
+pub returns-in_default : goal.returns-in_default
+returns-in_default g c = not_followed _ _ _ _ _ _ _ c.self.view_is _ _ _
 
-pub returns-else-failed : goal.returns-else-failed
-returns-else-failed g c =
-    rw c.answer_of-answer.ensures (went_given _ _ _ _ _ _ _ c.self.view_is _ _ _ _ _ _ c.in-Ok.ensures.went
-    (sym c.has_failed-failed.ensures ∙ c.if-failed.false))
-
-pub returns-in-Err-Unfollowed : goal.returns-in-Err-Unfollowed
-returns-in-Err-Unfollowed g c =
-    rw c.answer_of.ensures (stopped_short _ _ _ _ _ _ _ c.self.view_is _ _ _ _ _ _
-    (rw c.in-Err-Unfollowed.field-0-is at c.in-Err-Unfollowed.ensures.did_not))
+pub returns : goal.returns
+returns g c = of_awaited _ _ _ _ _ _ _ (rw (← c.in-Ok.ensures) c.follow_awaited-2.ensures)
