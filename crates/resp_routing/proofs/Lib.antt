@@ -5,3 +5,4 @@ pub mod OneSlot
 pub mod OneTag
 pub mod Remainders
 pub mod Within
+pub mod WithoutBrace

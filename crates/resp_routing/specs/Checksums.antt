@@ -1,6 +1,6 @@
 -- CRC-16/XMODEM, a bit at a time. A register holds the coefficients of a polynomial of degree below 16 over the field
 -- of two elements, that of x^15 first.
-use Rattle.std.specs.Prelude.{ℕ, zero, suc, ◌*◌, ◌/◌, ◌%◌, ◌^◌, List, [], ◌∷◌, bit_xor}
+use Rattle.std.specs.Prelude.{ℕ, zero, suc, ◌*◌, ◌/◌, ◌%◌, ◌^◌, ◌==◌, if◌then◌else◌, List, [], ◌∷◌, Option, None, Some, bit_xor}
 
 -- times x, modulo x^16 + x^12 + x^5 + 1: where x^16 comes up, it is x^12 + x^5 + 1, which is 0x1021
 abbrev pub times_x : ℕ → ℕ
@@ -22,3 +22,8 @@ after_bytes r (b ∷ bs) = after_bytes (after_byte r b) bs
 -- the remainder of the bytes and sixteen zero bits
 abbrev pub remainder : List ℕ → ℕ
 remainder bs = after_bytes 0 bs
+
+-- the register after these bytes, if none of them is a {
+unfoldable pub without_brace : ℕ → List ℕ → Option ℕ
+without_brace r [] = Some r
+without_brace r (b ∷ bs) = if b == 0x7b then None else without_brace (after_byte r b) bs

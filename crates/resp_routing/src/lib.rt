@@ -11,6 +11,7 @@ mod keys;
 pub mod laws;
 mod lookup;
 mod places;
+mod remainder_tables;
 mod routes;
 mod slots;
 mod table;

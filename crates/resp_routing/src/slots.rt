@@ -3,7 +3,7 @@
 ghost use Rattle.std.specs.Prelude.{◌≡◌, ◌<◌};
 ghost use Rattle.resp_routing.specs.Slots.{IsHashTag, IsSlot};
 
-use crate::checksum::crc16;
+use crate::checksum::{crc16, crc16_without_brace};
 use memchr::memchr;
 
 /// How many slots a cluster has.
@@ -28,6 +28,18 @@ pub fn hash_tag(key: &[u8]) -> &[u8]
 /// The slot of a key, below [`SLOT_COUNT`]: the checksum of its hash tag, modulo the number of
 /// slots. Those of `foo` and `{foo}new` are 12182.
 pub fn get_slot(key: &[u8]) -> u16
+    ensures slot { IsSlot key.now result }
+    ensures range { result < SLOT_COUNT }
+{
+    match crc16_without_brace(key) {
+        Some(checksum) => checksum % SLOT_COUNT,
+        None => slot_of_tag(key),
+    }
+}
+
+/// The same of a key that has a `{`.
+#[inline(never)]
+fn slot_of_tag(key: &[u8]) -> u16
     ensures slot { IsSlot key.now result }
     ensures range { result < SLOT_COUNT }
 {
