@@ -38,7 +38,7 @@ module _ (name subcommand : List ℕ) where
   abbrev here : ℕ
   here = place_of name subcommand
 
-  row_here : (row : CommandInfo) → is_named name subcommand row ≡ true
+  pub row_here : (row : CommandInfo) → is_named name subcommand row ≡ true
       → place_of (unpadded row.name) (unpadded row.subcommand) ≡ here
   row_here row named =
       let both = both_of _ _ named in

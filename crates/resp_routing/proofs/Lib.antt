@@ -1,5 +1,7 @@
 pub mod Appending
+pub mod CommonNames
 pub mod FirstKey
+pub mod FirstWords
 pub mod InPlace
 pub mod OneSlot
 pub mod OneTag

@@ -7,7 +7,7 @@ ghost use Rattle.resp_routing.specs.Routes.{HasNoRoute, IsRoute};
 
 use crate::command_args::{args_of, bytes_of};
 use crate::errors::RoutingError;
-use crate::lookup::command_info;
+use crate::lookup::info_of_two;
 use crate::routes::{Route, route_of};
 use crate::slots::get_slot;
 use resp_command::{ArgsIter, Cmd};
@@ -38,8 +38,8 @@ fn slot_of_first(command: &Cmd, cursor: &[u8]) -> Option<u16>
     let count = shown.len();
     let name = next_arg(&mut shown, cursor)?;
     let key = next_arg(&mut shown, cursor)?;
-    let info = command_info(&[name, key])?;
-    if info.fits(count) && info.keys.is_first() {
+    let info = info_of_two(name, key)?;
+    if info.arity.takes(count) && info.keys.is_first() {
         Some(get_slot(key))
     } else {
         None

@@ -1,6 +1,7 @@
 //! Finding a command in the table.
 
-ghost use Rattle.std.specs.Prelude.{◌≡◌, true};
+ghost use Rattle.std.specs.Prelude.{◌≡◌, ◌∷◌, [], IsTrue, true, codes};
+ghost use Rattle.std.specs.Str.{str_eq_ignore_ascii_case};
 ghost use Rattle.std.specs.List.{find};
 ghost use Rattle.std.specs.Option.{option_copied};
 ghost use Rattle.resp_routing.specs.Commands.{command_in, command_of, is_named, takes, unpadded};
@@ -11,6 +12,12 @@ use crate::commands::{Arity, CommandInfo, Keys};
 use crate::places::place_of;
 use crate::table::COMMANDS;
 
+/// Where the table has the row of `GET`.
+const GET: usize = 134;
+
+/// Where the table has the row of `SET`.
+const SET: usize = 265;
+
 /// What is known of a command, given its arguments, the name first; None of one that [`COMMANDS`]
 /// doesn't have.
 ///
@@ -19,21 +26,50 @@ use crate::table::COMMANDS;
 pub fn command_info(args: &[&[u8]]) -> Option<&'static CommandInfo>
     ensures { option_copied result ≡ command_of (words args.now) }
 {
-    info_in(&COMMANDS, args)
+    match args {
+        [] => None,
+        [name] => row_named(&COMMANDS, name, &[]),
+        [name, word, ..] => info_of_two(name, word),
+    }
 }
 
-/// The row of a command in this table.
-#[tactic(auto, unfolding(crate::specs::Commands::command_in))]
-fn info_in(table: &'static [CommandInfo], args: &[&[u8]]) -> Option<&'static CommandInfo>
-    requires { are_in_place 0 table.now ≡ true }
-    ensures { option_copied result ≡ command_in table.now (words args.now) }
+/// The same, given the first two arguments. The most usual names are told by their letters.
+#[inline]
+pub(crate) fn info_of_two(name: &[u8], word: &[u8]) -> Option<&'static CommandInfo>
+    ensures { option_copied result ≡ command_of (name.now ∷ word.now ∷ []) }
 {
-    let [name, rest @ ..] = args else {
-        return None;
-    };
+    if is_get(name) {
+        Some(&COMMANDS[GET])
+    } else if is_set(name) {
+        Some(&COMMANDS[SET])
+    } else {
+        info_in(&COMMANDS, name, word)
+    }
+}
+
+/// Whether this is the name of the command `GET`.
+fn is_get(name: &[u8]) -> bool
+    ensures { IsTrue result → IsTrue (str_eq_ignore_ascii_case (codes "get") name.now) }
+{
+    matches!(name, [b'G' | b'g', b'E' | b'e', b'T' | b't'])
+}
+
+/// Whether this is the name of the command `SET`.
+fn is_set(name: &[u8]) -> bool
+    ensures { IsTrue result → IsTrue (str_eq_ignore_ascii_case (codes "set") name.now) }
+{
+    matches!(name, [b'S' | b's', b'E' | b'e', b'T' | b't'])
+}
+
+/// The row in this table of a command with these first two arguments.
+#[tactic(auto, unfolding(crate::specs::Commands::command_in))]
+fn info_in(table: &'static [CommandInfo], name: &[u8], word: &[u8]) -> Option<&'static CommandInfo>
+    requires { are_in_place 0 table.now ≡ true }
+    ensures { option_copied result ≡ command_in table.now (name.now ∷ word.now ∷ []) }
+{
     let command = row_named(table, name, &[])?;
-    match (&command.keys, rest) {
-        (Keys::OfSubcommand, [word, ..]) => row_named(table, name, word),
+    match command.keys {
+        Keys::OfSubcommand => row_named(table, name, word),
         _ => Some(command),
     }
 }

@@ -8,4 +8,4 @@ returns-then-is_first c =
     rw (← c.args_iter-shown.ensures.shown)
     (after_two (bytes_of c.args.cursor.now) _ _ _ c.in_ok-name.name.now c.in_ok-key.key.now c.in_ok-info.info.now c.len-count.result
     c.get_slot.result c.in_ok-name.ensures c.in_ok-key.ensures c.len-count.ensures.value c.in_ok-info.ensures
-    (sym c.fits.ensures ∙ c.if-fits.true) (c.is_first.ensures c.if-is_first.true) c.get_slot.ensures.slot)
+    (sym c.takes.ensures ∙ c.if-takes.true) (c.is_first.ensures c.if-is_first.true) c.get_slot.ensures.slot)
