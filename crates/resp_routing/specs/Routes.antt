@@ -4,7 +4,7 @@ use Rattle.std.specs.Prelude.{Result, Ok, Err, IsOkAnd, length, slice_get, if◌
 use Rattle.std.specs.List.{filter_map}
 use Rattle.std.specs.Option.{option_map_or}
 use Rattle.resp_args.specs.Args.{Args}
-use Rattle.resp_routing.specs.Commands.{command_of}
+use Rattle.resp_routing.specs.Commands.{command_of, takes}
 use Rattle.resp_routing.specs.Keys.{Positions, fits, keys_in, named}
 use Rattle.resp_routing.specs.Slots.{IsSlot}
 use Rattle.resp_routing.specs.declared.commands.Access.{Access}
@@ -36,6 +36,13 @@ abbrev pub IsFirstKey : Keys → Type 0
 IsFirstKey keys =
     (name key : List ℕ) (rest : Args)
     → hashed_args (hashed_in keys (name ∷ key ∷ rest)) (name ∷ key ∷ rest) ≡ Ok (key ∷ [])
+
+-- a command with this row takes so many arguments, its one key is the first of them after the name, and the slot is this
+-- key's
+pub record IsFirstOf (row : CommandInfo) (count : ℕ) (key : List ℕ) (slot : ℕ) : Type 0 where
+  pub taken : takes row.arity count ≡ true
+  pub first : IsFirstKey row.keys
+  pub is_slot : IsSlot key slot
 
 -- of a command with this row
 abbrev pub hashed_by : Option CommandInfo → Args → Result Args RoutingError

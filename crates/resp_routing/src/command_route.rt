@@ -3,13 +3,15 @@
 ghost use Rattle.std.specs.Prelude.{◌≡◌, ◌≢◌, ◌∷◌, IfOk, IfErr, IfSome, map};
 ghost use Rattle.resp_command.specs.ShownArgs.{args_left};
 ghost use Rattle.resp_routing.specs.CommandArgs.{args_with, bytes_of};
-ghost use Rattle.resp_routing.specs.Routes.{HasNoRoute, IsRoute};
+ghost use Rattle.resp_routing.specs.Routes.{HasNoRoute, IsFirstOf, IsRoute};
 
 use crate::command_args::{args_of, bytes_of};
+use crate::commands::CommandInfo;
 use crate::errors::RoutingError;
-use crate::lookup::info_of_two;
+use crate::lookup::{GET, info_of_two, is_get};
 use crate::routes::{Route, route_of};
 use crate::slots::get_slot;
+use crate::table::COMMANDS;
 use resp_command::{ArgsIter, Cmd};
 use std::alloc::Global;
 
@@ -38,8 +40,20 @@ fn slot_of_first(command: &Cmd, cursor: &[u8]) -> Option<u16>
     let count = shown.len();
     let name = next_arg(&mut shown, cursor)?;
     let key = next_arg(&mut shown, cursor)?;
-    let info = info_of_two(name, key)?;
-    if info.arity.takes(count) && info.keys.is_first() {
+    if is_get(name) {
+        slot_by(&COMMANDS[GET], count, key)
+    } else {
+        slot_by(info_of_two(name, key)?, count, key)
+    }
+}
+
+/// The slot of this key, if it is the one key of a command with this row and so many arguments, and
+/// its first after the name.
+#[inline(always)]
+fn slot_by(row: &CommandInfo, count: usize, key: &[u8]) -> Option<u16>
+    ensures { IfSome result (λ slot. IsFirstOf row.now count key.now slot) }
+{
+    if row.arity.takes(count) && row.keys.is_first() {
         Some(get_slot(key))
     } else {
         None

@@ -13,7 +13,7 @@ use crate::places::place_of;
 use crate::table::COMMANDS;
 
 /// Where the table has the row of `GET`.
-const GET: usize = 134;
+pub(crate) const GET: usize = 134;
 
 /// Where the table has the row of `SET`.
 const SET: usize = 265;
@@ -48,7 +48,7 @@ pub(crate) fn info_of_two(name: &[u8], word: &[u8]) -> Option<&'static CommandIn
 }
 
 /// Whether this is the name of the command `GET`.
-fn is_get(name: &[u8]) -> bool
+pub(crate) fn is_get(name: &[u8]) -> bool
     ensures { IsTrue result → IsTrue (str_eq_ignore_ascii_case (codes "get") name.now) }
 {
     matches!(name, [b'G' | b'g', b'E' | b'e', b'T' | b't'])
