@@ -1,5 +1,6 @@
 pub mod Appending
 pub mod CommonNames
+pub mod FirstFour
 pub mod FirstKey
 pub mod FirstWords
 pub mod InPlace

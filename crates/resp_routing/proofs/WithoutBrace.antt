@@ -1,10 +1,11 @@
 -- Texts without { and their checksums.
 use Rattle.std.proofs.Common.{◌≡◌, ◌≢◌, ℕ, ◌+◌, ◌<◌, Bool, zero, suc, true, false, ◌==◌, List, [], ◌∷◌, length, get_or, drop, take, ◌-◌, ◌≤◌, cond, Option, None, Some, refl, sym, ap, ◌∙◌, arith, eq-eqb, ne_eqb, inr, ◌%◌}
 use Rattle.std.proofs.lemmas.Bool.{eqb-true, false≢true}
-use Rattle.std.proofs.lemmas.List.{drop_more, take_rest}
+use Rattle.std.proofs.lemmas.List.{drop_more}
 use Rattle.std.proofs.Math.ListN.{drop_of_length-le}
 use Rattle.resp_routing.specs.Checksums.{after_byte, after_bytes, without_brace}
 use Rattle.resp_routing.specs.Slots.{IsSlot}
+use Rattle.resp_routing.proofs.FirstFour.{first_four}
 
 passed : (r b : ℕ) (bs : List ℕ) → b ≢ 0x7b → without_brace r (b ∷ bs) ≡ without_brace (after_byte r b) bs
 unfolding without_brace
@@ -23,13 +24,11 @@ pub next_four : (left : List ℕ) (r after : ℕ) (all : Option ℕ) → 4 ≤ l
     → (get_or left 0 0 ≢ 0x7b) × (get_or left 1 0 ≢ 0x7b) × (get_or left 2 0 ≢ 0x7b) × (get_or left 3 0 ≢ 0x7b)
     → after ≡ after_byte (after_byte (after_byte (after_byte r (get_or left 0 0)) (get_or left 1 0)) (get_or left 2 0)) (get_or left 3 0)
     → without_brace r left ≡ all → without_brace after (take (length left - 4) (drop 4 left)) ≡ all
-next_four [] r after all long other is held = absurd (omega arith)
-next_four (a ∷ []) r after all long other is held = absurd (omega arith)
-next_four (a ∷ b ∷ []) r after all long other is held = absurd (omega arith)
-next_four (a ∷ b ∷ c ∷ []) r after all long other is held = absurd (omega arith)
-next_four (a ∷ b ∷ c ∷ d ∷ bs) r after all long other is held =
-    ap (without_brace after) (take_rest (a ∷ b ∷ c ∷ d ∷ bs) 4) ∙ ap (λ s. without_brace s bs) is
-    ∙ sym (passed_four r a b c d bs other.0 other.1 other.2 other.3) ∙ held
+next_four left r after all long other is held =
+    let rest : List ℕ = take (length left - 4) (drop 4 left) in
+    ap (λ s. without_brace s rest) is
+    ∙ sym (passed_four r (get_or left 0 0) (get_or left 1 0) (get_or left 2 0) (get_or left 3 0) rest other.0 other.1 other.2 other.3)
+    ∙ sym (ap (without_brace r) (first_four left long)) ∙ held
 
 pub passed_at : (text : List ℕ) (i r after : ℕ) → i < length text → get_or text i 0 ≢ 0x7b
     → after ≡ after_byte r (get_or text i 0) → without_brace after (drop (i + 1) text) ≡ without_brace r (drop i text)

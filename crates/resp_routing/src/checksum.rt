@@ -1,7 +1,7 @@
 //! The checksum that slots are computed of.
 
 ghost use Rattle.std.specs.Prelude.{◌≡◌, ◌≢◌, IfSome, IsTrue, Some, not};
-ghost use Rattle.resp_routing.specs.Checksums.{remainder, after_byte, without_brace};
+ghost use Rattle.resp_routing.specs.Checksums.{remainder, after_byte, after_bytes, without_brace};
 
 use crate::remainder_tables::REMAINDERS;
 
@@ -12,6 +12,19 @@ pub fn crc16(bytes: &[u8]) -> u16
     ensures { result ≡ remainder bytes.now }
 {
     let mut register: u16 = 0;
+    let mut left = bytes;
+    while let [a, b, c, d, rest @ ..] = left {
+        register = fed_four(register, *a, *b, *c, *d);
+        left = rest;
+    }
+    fed_all(register, left)
+}
+
+/// The register after these bytes.
+fn fed_all(before: u16, bytes: &[u8]) -> u16
+    ensures { result ≡ after_bytes before bytes.now }
+{
+    let mut register = before;
     for byte in bytes {
         register = fed(register, *byte);
     }

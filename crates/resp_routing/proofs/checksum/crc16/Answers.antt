@@ -1,22 +1,16 @@
-use Rattle.std.proofs.Common.{◌≡◌, ℕ, ◌<◌, ◌+◌, List, get_or, drop, length, arith, sym, ap, ◌∙◌}
-use Rattle.std.proofs.lemmas.List.{drop_more}
-use Rattle.std.proofs.Math.ListN.{drop_of_length-le}
-use Rattle.resp_routing.specs.Checksums.{after_bytes, remainder, after_byte}
+use Rattle.std.proofs.Common.{◌≡◌, ℕ, ◌-◌, ◌≤◌, List, length, get_or, take, drop, sym, ap, ◌∙◌}
+use Rattle.resp_routing.specs.Checksums.{after_byte, after_bytes}
+use Rattle.resp_routing.proofs.FirstFour.{first_four}
 use Rattle.resp_routing.proofs.checksum.crc16.Goals as goal
 
-one_more : (bytes : List ℕ) (i before after : ℕ) → i < length bytes → after_bytes before (drop i bytes) ≡ remainder bytes
-    → after ≡ after_byte before (get_or bytes i 0) → after_bytes after (drop (i + 1) bytes) ≡ remainder bytes
+four_more : (left : List ℕ) (r after all : ℕ) → 4 ≤ length left
+    → after ≡ after_byte (after_byte (after_byte (after_byte r (get_or left 0 0)) (get_or left 1 0)) (get_or left 2 0)) (get_or left 3 0)
+    → after_bytes r left ≡ all → after_bytes after (take (length left - 4) (drop 4 left)) ≡ all
 unfolding after_bytes
-one_more bytes i before after p held is =
-    ap (λ r. after_bytes r (drop (i + 1) bytes)) is
-    ∙ sym (ap (after_bytes before) (drop_more bytes i 0 p)) ∙ held
+four_more left r after all long is held =
+    ap (λ s. after_bytes s (take (length left - 4) (drop 4 left))) is ∙ sym (ap (after_bytes r) (first_four left long)) ∙ held
 
-at_end : (bytes : List ℕ) (i r : ℕ) → length bytes ≡ i → after_bytes r (drop i bytes) ≡ remainder bytes → r ≡ remainder bytes
-unfolding after_bytes
-at_end bytes i r e held = sym (ap (after_bytes r) (drop_of_length-le bytes (omega arith))) ∙ held
-
-pub loop-byte-preserved : goal.loop-byte-preserved
-loop-byte-preserved c = one_more c.args.bytes.now c.loop-byte.byte-index c.loop-byte.register c.fed-register.result c.loop-byte-test.true c.loop-byte.invariant c.fed-register.ensures
-
-pub returns : goal.returns
-returns c = at_end c.args.bytes.now c.loop-byte.byte-index c.loop-byte.register (omega (arith, c.loop-byte-test.false, c.loop-byte.auto.byte-index-end)) c.loop-byte.invariant
+pub loop-left-preserved : goal.loop-left-preserved
+loop-left-preserved c =
+    four_more c.loop-left.left.now c.loop-left.register c.fed_four-register.result _ c.in-len4-up.len_at_least
+    c.fed_four-register.ensures c.loop-left.invariant

@@ -1,6 +1,9 @@
-use Rattle.std.proofs.Common.{◌≡◌, drop}
+use Rattle.std.proofs.Common.{◌≡◌, length}
 use Rattle.resp_routing.specs.Checksums.{after_bytes, remainder}
 use Rattle.resp_routing.proofs.checksum.crc16.Given as goal
 
-abbrev pub invariant-loop-byte : goal.invariant-loop-byte
-invariant-loop-byte l = after_bytes l.register (drop l.byte-index l.bytes) ≡ remainder l.bytes
+abbrev pub invariant-loop-left : goal.invariant-loop-left
+invariant-loop-left l = after_bytes l.register l.left ≡ remainder l.bytes
+
+abbrev pub decreases-loop-left : goal.decreases-loop-left
+decreases-loop-left l = length l.left
