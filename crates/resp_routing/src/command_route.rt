@@ -40,6 +40,7 @@ fn slot_of_first(command: &Cmd, cursor: &[u8]) -> Option<u16>
     let count = shown.len();
     let name = next_arg(&mut shown, cursor)?;
     let key = next_arg(&mut shown, cursor)?;
+    // Apart, so that what is asked of this row is known when it is compiled.
     if is_get(name) {
         slot_by(&COMMANDS[GET], count, key)
     } else {

@@ -33,7 +33,8 @@ pub fn command_info(args: &[&[u8]]) -> Option<&'static CommandInfo>
     }
 }
 
-/// The same, given the first two arguments. The most usual names are told by their letters.
+/// The same, given the first two arguments. The names that are sent most are told by their letters,
+/// which is quicker than by their place.
 #[inline]
 pub(crate) fn info_of_two(name: &[u8], word: &[u8]) -> Option<&'static CommandInfo>
     ensures { option_copied result ≡ command_of (name.now ∷ word.now ∷ []) }
