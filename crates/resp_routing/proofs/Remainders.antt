@@ -137,8 +137,8 @@ shifted a b =
     let ex : bit_xor a b * 2 ^ 8 + 0 ≡ bit_xor a b * 256 = omega arith in
     ap (λ x. bit_xor x (b * 256)) ea ∙ ap (bit_xor (a * 2 ^ 8 + 0)) eb ∙ e ∙ ex
 
--- two bytes of a register, and two more
-pub two_bytes : (n r a b : ℕ) → r < 2 ^ 16 → a < 256 → b < 256
+-- the two bytes of a register, and two more
+two_bytes : (n r a b : ℕ) → r < 2 ^ 16 → a < 256 → b < 256
     → times_power n (after_byte (after_byte r a) b)
     ≡ bit_xor (times_power (16 + n) (bit_xor (r / 256) a * 256)) (times_power (8 + n) (bit_xor (r % 256) b * 256))
 two_bytes n r a b p q s =
