@@ -48,7 +48,8 @@ impl<N: Nodes> ClusterLink<N> {
     }
 
     /// Sends a pipeline over the nodes that its commands go to, and converts their replies as
-    /// [`Pipeline::query`] does.
+    /// [`Pipeline::query`] does. That may be called over these links, too: its bytes are then read
+    /// back into commands.
     ///
     /// A transaction is sent to one node by [`Pipeline::query`]: that of the slot that its keys are in,
     /// or of the link that was used last where it has none. It is refused unsent with `CROSSSLOT` where
