@@ -5,20 +5,21 @@ use Rattle.std.specs.Prelude.{slice_index_or}
 use Rattle.std.specs.Global.{Vec}
 use Rattle.resp_value.specs.declared.value.Value.{Value}
 use Rattle.resp_errors.specs.declared.redis_error.RedisError.{RedisError}
-use Rattle.resp_command.specs.Call.{AnswersFrom, AnswersReply, Asks, Call, PackedCall, Routes, carried, needed, parted}
+use Rattle.resp_command.specs.Call.{AnswersFrom, AnswersReply, Asks, Call, CommandCall, PackedCall, Routes, carried, needed, not_carried, parted}
 use Rattle.resp_command.specs.Command.{Command}
 use Rattle.resp_command.specs.Connection.{Connection, Exchange, routes}
 use Rattle.resp_command.specs.Packed.{packed}
 use Rattle.resp_command.specs.Parted.{Parted, multi_bytes}
+use Rattle.resp_command.specs.Subscriptions.{IsUnanswered}
 use Rattle.resp_command.proofs.Queries.{exchange_ok, parted_turned}
-use Rattle.resp_cluster.specs.Cluster.{Cluster, RoutedCall, last_link, unsent, routed as went_by}
+use Rattle.resp_cluster.specs.Cluster.{Cluster, last_link}
 use Rattle.resp_cluster.specs.Gathered.{request_of}
 use Rattle.resp_cluster.specs.Links.{link_to}
 use Rattle.resp_cluster.specs.Routing.{RepliedTo, WasSentWhole, by_one, in_parts, cluster_connection, routing, routing_over}
 use Rattle.resp_cluster.specs.Spread.{SendsGroup, SpreadCall, called, unreached}
 use Rattle.resp_cluster.specs.declared.node.NodeAddr.{NodeAddr}
-use Rattle.resp_cluster.proofs.OverLinks.{by_routed, reached_works, refused_call, routed, set_there}
-use Rattle.resp_cluster.proofs.Parts.{OneReply, as_many, parts}
+use Rattle.resp_cluster.proofs.OverLinks.{policy_is, reached_works, refused_call, routed, set_there}
+use Rattle.resp_cluster.proofs.Parts.{OneReply, answer_of_reply, as_many, parts}
 use Rattle.resp_cluster.proofs.RoutedCalls.{exchange}
 
 -- the one command of a list
@@ -55,24 +56,34 @@ module _ {L : Type 0} (of_link : L → Connection) (unrouted : (link : L) → (o
   by_whole q n replies new h = by_group q n replies h.ready h.sent new h.node h.links h.sends
 
   -- one command
-  pub by_command : (c : Command) (v : Value) (old new : Cluster L) → c.no_response ≡ false → RoutedCall of_link c old new (Ok v)
+  module _ (c : Command) (v : Value) (new : Cluster L) (waits : c.no_response ≡ false) where
+    one : needed c ≡ 1
+    one = rw waits refl
+
+    only : (given : List Value) → length given ≡ needed c → OneReply v given → given ≡ v ∷ []
+    only [] len is = let h = one in absurd (omega (arith, len, h))
+    only (reply ∷ []) len is = let e : v ≡ reply = cc in ap (λ x. x ∷ []) (sym e)
+    only (reply ∷ next ∷ more) len is = absurd is
+
+    by_routes : Routes (Ok v) (λ other. Asks other (cluster_connection of_link new) (c.args ≡ []) (IsUnanswered c) (packed c.args)
+        (needed c) (Ok v) (OneReply v)) (Parted (packed c.args) (needed c) (OneReply v))
+        → RepliedTo of_link (request_of (c ∷ [])) 1 (v ∷ []) new
+    by_routes (not_carried e is) = absurd (let h = is in cc)
+    by_routes (carried other works asks) =
+        let last = cluster_connection of_link new in
+        let asked = asks.otherwise (λ none. let k = (asks.when_empty none).answer in cc)
+        (λ none. let k = (asks.when_unanswered none).answer in cc) in
+        let turned = exchange_ok {A = Value} {B = List Value} last (packed c.args) (needed c) (OneReply v) (λ given. given ≡ v ∷ [])
+        other v (Ok (v ∷ [])) only asked in
+        by_one other works
+        (subst (λ q. Exchange other last q 1 (Ok (v ∷ [])) (λ given. given ≡ v ∷ [])) (sym (append-nil (packed c.args)))
+        (subst (λ n. Exchange other last (packed c.args) n (Ok (v ∷ [])) (λ given. given ≡ v ∷ [])) one turned))
+    by_routes (parted h) = absurd (h.several one)
+
+  pub by_command : (c : Command) (v : Value) (old new : Cluster L) → c.no_response ≡ false
+      → CommandCall (cluster_connection of_link old) (cluster_connection of_link new) c (Ok v) (λ reply. answer_of_reply v ≡ Ok reply)
       → RepliedTo of_link (request_of (c ∷ [])) 1 (v ∷ []) new
-  by_command c v old new waits (unsent e cannot new_is r_is) = absurd (let h = r_is in cc)
-  by_command c v old new waits (went_by route ready goes readies rounds) =
-      let h = by_routed of_link unrouted c v old new (went_by route ready goes readies rounds) in
-      let asked = h.asks.otherwise goes.some goes.answered in
-      let one : needed c ≡ 1 = rw waits refl in
-      let turned = exchange_ok {A = Value} {B = List Value} (of_link h.after) (packed c.args) (needed c)
-      (OneReply v) (λ given. given ≡ v ∷ []) h.before v (Ok (v ∷ []))
-      (λ given len is. only given (len ∙ one) is) asked in
-      over_last h.before h.after (request_of (c ∷ [])) 1 (v ∷ []) new h.works h.is_last
-      (subst (λ q. Exchange h.before (of_link h.after) q 1 (Ok (v ∷ [])) (λ given. given ≡ v ∷ [])) (sym (append-nil (packed c.args)))
-      (subst (λ n. Exchange h.before (of_link h.after) (packed c.args) n (Ok (v ∷ [])) (λ given. given ≡ v ∷ [])) one turned))
-    where
-      only : (given : List Value) → length given ≡ 1 → OneReply v given → given ≡ v ∷ []
-      only [] len is = absurd (omega (arith, len))
-      only (reply ∷ []) len is = let e : v ≡ reply = cc in ap (λ x. x ∷ []) (sym e)
-      only (reply ∷ next ∷ more) len is = absurd is
+  by_command c v old new waits h = by_routes c v new waits (h.when_routed (policy_is of_link (last_link old.links)))
 
   -- ---- by what came of it
 
@@ -134,7 +145,8 @@ module _ {L : Type 0} (of_link : L → Connection) (unrouted : (link : L) → (o
 
     -- a packed command
     pub packed_call : (c : Command) (r : Result Value RedisError) → request_of (c ∷ []) ≡ q → c.no_response ≡ false
-        → RoutedCall of_link c old new r → PackedCall (cluster_connection of_link old) (cluster_connection of_link new) q r
+        → CommandCall (cluster_connection of_link old) (cluster_connection of_link new) c r (λ reply. r ≡ Ok reply)
+        → PackedCall (cluster_connection of_link old) (cluster_connection of_link new) q r
     packed_call c (Err e) is waits h =
         refused_call of_link (q ≡ []) ⊥ q 1 e (AnswersReply (λ reply. Err e ≡ Ok reply)) old new (Err e) refl
     packed_call c (Ok v) is waits h =

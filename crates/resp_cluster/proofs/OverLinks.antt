@@ -139,14 +139,14 @@ module _ {L : Type 0} (of_link : L → Connection) (unrouted : (link : L) → (o
   by_rounds route old new (over.again outcome unreached round is more) =
       by_round route more.ready new more.outcome (answered_then more.outcome more.answers) more.sends
 
-  pub by_routed : (old new : Cluster L) → RoutedCall of_link c old new (Ok v) → Carries new.links
+  by_routed : (old new : Cluster L) → RoutedCall of_link c old new (Ok v) → Carries new.links
   by_routed old new (over.unsent e cannot new_is r_is) = absurd (let h = r_is in cc)
   by_routed old new (over.routed route ready goes readies rounds) = by_rounds route ready new rounds
 
 -- ---- as a connection
 
 module _ {L : Type 0} (of_link : L → Connection) where
-  policy_is : (link : Option L) → (routing_over of_link link).policy ≡ routes
+  pub policy_is : (link : Option L) → (routing_over of_link link).policy ≡ routes
   policy_is None = refl
   policy_is (Some link) = refl
 

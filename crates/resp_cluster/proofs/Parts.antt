@@ -56,7 +56,7 @@ zip_long R [] (y ∷ ys) all = absurd all
 zip_long R (x ∷ xs) [] all = absurd all
 zip_long R (x ∷ xs) (y ∷ ys) all = ap suc (zip_long R xs ys all.1)
 
-abbrev answer_of_reply : Value → Result Value RedisError
+abbrev pub answer_of_reply : Value → Result Value RedisError
 answer_of_reply v = Ok v
 
 -- the reply to a command is this

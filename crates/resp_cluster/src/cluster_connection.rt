@@ -44,7 +44,7 @@ impl<N: Nodes> ClusterLink<N> {
         ensures counted { IfOk result (λ replies. length replies.items ≡ 1) }
     {
         let mut replies = Vec::with_capacity(self.allocator(), 1)?;
-        let reply = self.req_routed(command)?;
+        let reply = self.req_command(command)?;
         replies.push(reply)?;
         Ok(replies)
     }
@@ -63,7 +63,7 @@ impl<N: Nodes> ConnectionLike for ClusterLink<N> {
 
     fn req_packed_command(&mut self, bytes: &[u8]) -> RedisResult<Value> {
         let commands = commands_in(self.allocator(), bytes, 1)?;
-        self.req_routed(&commands[0])
+        self.req_command(&commands[0])
     }
 
     fn req_packed_commands(

@@ -74,6 +74,7 @@ impl<N: Nodes> Model for ClusterLink<N> {
 }
 
 /// Where a command goes, if to one node.
+#[inline(always)]
 fn route_for(alloc: Global, command: &Cmd) -> RedisResult<Route>
     ensures goes { IfOk result (Goes command.now) }
     ensures refused { IfErr result (λ e. e ≢ form.OutOfMemory → CannotGo command.now e) }

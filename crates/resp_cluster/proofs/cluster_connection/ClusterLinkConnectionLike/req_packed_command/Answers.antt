@@ -15,6 +15,7 @@ returns g c =
     let command = c.index.result.now in
     let found = c.in_ok-commands.ensures in
     let one = alone c.in_ok-commands.commands.items command found.counted in
-    packed_call g.N.Link.ConnectionLike.connection g.met.N.Link.Unrouted.unrouted c.args.bytes.now c.args.self.now _ command _
+    packed_call g.N.Link.ConnectionLike.connection g.met.N.Link.Unrouted.unrouted c.args.bytes.now c.args.self.now
+    c.req_command.new.self command c.req_command.result
     (ap (λ k. request_of (k ∷ [])) c.index.ensures ∙ ap request_of (sym one) ∙ found.sent)
-    (rw c.index.ensures (found.awaited 0 command (let len = found.counted in omega (arith, len)))) c.req_routed.ensures
+    (rw c.index.ensures (found.awaited 0 command (let len = found.counted in omega (arith, len)))) c.req_command.ensures
