@@ -89,20 +89,45 @@ impl Query {
     /// Asks once, and drops the answer.
     fn ask(self, alloc: Global, con: &mut dyn ConnectionLike) -> RedisResult<()> {
         match self {
-            Query::Incr => answer::<i64>(&keyed(alloc, "INCR")?, con),
-            Query::Get | Query::Routed => answer::<String>(&keyed(alloc, "GET")?, con),
-            Query::Lrange => answer::<Vec<String>>(&ranged(alloc, "LRANGE")?, con),
-            Query::Mget => answer::<Vec<i64>>(&keyed(alloc, "MGET")?, con),
-            Query::Hgetall => answer::<BTreeMap<String, String>>(&keyed(alloc, "HGETALL")?, con),
-            Query::Hashed => answer::<HashMap<String, String>>(&keyed(alloc, "HGETALL")?, con),
-            Query::Zrange => answer::<Vec<(String, i64)>>(&scored(alloc)?, con),
-            Query::Pipe => {
-                let values: Vec<String> = many(alloc)?.query(con)?;
-                discard(values);
-                Ok(())
-            }
+            Query::Incr => ask_keyed::<i64>(alloc, "INCR", con),
+            Query::Get | Query::Routed => ask_keyed::<String>(alloc, "GET", con),
+            Query::Lrange => ask_ranged(alloc, con),
+            Query::Mget => ask_keyed::<Vec<i64>>(alloc, "MGET", con),
+            Query::Hgetall => ask_keyed::<BTreeMap<String, String>>(alloc, "HGETALL", con),
+            Query::Hashed => ask_keyed::<HashMap<String, String>>(alloc, "HGETALL", con),
+            Query::Zrange => ask_scored(alloc, con),
+            Query::Pipe => ask_many(alloc, con),
         }
     }
+}
+
+// Each asks in a function of its own: one for all would clear the locals of all at each call, which
+// took 250 instructions of a query.
+
+#[inline(never)]
+fn ask_keyed<T: FromRedisValue + Drop>(
+    alloc: Global,
+    name: &str,
+    con: &mut dyn ConnectionLike,
+) -> RedisResult<()> {
+    answer::<T>(&keyed(alloc, name)?, con)
+}
+
+#[inline(never)]
+fn ask_ranged(alloc: Global, con: &mut dyn ConnectionLike) -> RedisResult<()> {
+    answer::<Vec<String>>(&ranged(alloc, "LRANGE")?, con)
+}
+
+#[inline(never)]
+fn ask_scored(alloc: Global, con: &mut dyn ConnectionLike) -> RedisResult<()> {
+    answer::<Vec<(String, i64)>>(&scored(alloc)?, con)
+}
+
+#[inline(never)]
+fn ask_many(alloc: Global, con: &mut dyn ConnectionLike) -> RedisResult<()> {
+    let values: Vec<String> = many(alloc)?.query(con)?;
+    discard(values);
+    Ok(())
 }
 
 /// Asks `count` times over a connection that holds the replies.
