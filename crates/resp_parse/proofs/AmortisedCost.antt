@@ -131,3 +131,15 @@ module _ {B : Type 0} (old m : Machine B) (c d : Counts) (at : ℕ) (h : CostSoF
     pub CostSoFar-built_within : (u : Value) → BuiltWithin new (least_bytes mid + 3 * built v) (Ok (Some u))
         → least_bytes new + 3 * built u ≤ least_bytes old + (at + n)
     CostSoFar-built_within u k = omega (arith, h.built_within, w, k)
+
+-- a call was counted as well
+pub Spent-called : {B : Type 0} (old new : Machine B) (c d : Counts) (n : ℕ) → Spent old new c d n
+    → Spent old new (record c { calls = c.calls + 1 }) (record d { calls = d.calls + 1 }) n
+Spent-called old new c d n p = (
+  record {
+    same = ap (λ (t : Counts). record t { calls = t.calls + 1 }) p.0.same;
+    once = p.0.once;
+    examined = p.0.examined;
+  },
+  p.1,
+)

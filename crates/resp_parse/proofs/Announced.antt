@@ -1,8 +1,10 @@
 -- What a header announces, as a machine begins it.
-use Rattle.std.proofs.Common.{◌≡◌, ℕ, suc, pos, ap, List, [], ◌∷◌, refl, ◌∙◌, Some, None, Result, Ok, Err}
+use Rattle.std.proofs.Common.{◌≡◌, ◌<◌, ℕ, zero, suc, pos, ap, List, [], ◌∷◌, All, refl, ◌∙◌, arith, codes, true, false}
+use Rattle.std.proofs.Common.{Some, None, Result, Ok, Err}
 use Rattle.std.specs.Str.{IsUtf8, is_utf8}
-use Rattle.std.proofs.lemmas.Str.{IsUtf8-from_is_utf8, is_utf8-from_IsUtf8}
-use Rattle.resp_value.specs.declared.value.Value.{Value}
+use Rattle.std.proofs.lemmas.Str.{IsUtf8-from_is_utf8, is_utf8-from_IsUtf8, IsUtf8-from_ascii}
+use Rattle.std.proofs.lemmas.Str.Ascii.{IsAscii-from_all}
+use Rattle.resp_value.specs.declared.value.Value.{Value, Nil, Okay, Int, Boolean}
 use Rattle.resp_errors.specs.declared.kinds.FrameFault.{FrameFault}
 use Rattle.resp_errors.specs.declared.kinds.FrameFault.TheVariants.{LineNotUtf8}
 use Rattle.resp_parse.specs.declared.read_error.ReadError.{ReadError}
@@ -95,3 +97,45 @@ announced-bulk line n i =
     let e : integer_in line ≡ Ok (pos n) = rw (integer_in, i.value) refl in
     in_line-text type_byte.BulkString line i.text_is
     ∙ ap (λ r. with_valid r (or_nil (λ k. a_body k (body_value body_kind.Bulk)))) e
+
+-- lines that need no reading
+
+ascii-utf8 : (text : List ℕ) → All (λ b. b < 128) text → IsUtf8 text
+ascii-utf8 text h = IsUtf8-from_ascii text (IsAscii-from_all text h)
+
+one-utf8 : (a : ℕ) → a < 128 → IsUtf8 (a ∷ [])
+one-utf8 a l = ascii-utf8 (a ∷ []) below
+  where
+    below : All (λ b. b < 128) (a ∷ [])
+    below zero d k = l
+    below (suc n) d k = absurd (omega arith)
+
+ok-utf8 : IsUtf8 (codes "OK")
+ok-utf8 = ascii-utf8 (codes "OK") below
+  where
+    below : All (λ b. b < 128) (codes "OK")
+    below zero d k = omega arith
+    below (suc zero) d k = omega arith
+    below (suc (suc n)) d k = absurd (omega arith)
+
+none-utf8 : IsUtf8 []
+none-utf8 = ascii-utf8 [] (λ n d k. absurd (omega arith))
+
+pub ok-announced : announced_in_line type_byte.SimpleString (codes "OK") ≡ complete Okay
+ok-announced = in_line-text type_byte.SimpleString (codes "OK") ok-utf8
+
+pub nil-announced : announced_in_line type_byte.Null [] ≡ complete Nil
+nil-announced = in_line-text type_byte.Null [] none-utf8
+
+pub true-announced : announced_in_line type_byte.Boolean (codes "t") ≡ complete (Boolean true)
+true-announced = in_line-text type_byte.Boolean (codes "t") (one-utf8 116 (omega arith))
+
+pub false-announced : announced_in_line type_byte.Boolean (codes "f") ≡ complete (Boolean false)
+false-announced = in_line-text type_byte.Boolean (codes "f") (one-utf8 102 (omega arith))
+
+-- a number is an integer
+pub announced-int : (line : List ℕ) (n : ℕ) → IsNumeral line n → announced_in_line type_byte.Integer line
+    ≡ complete (Int (pos n))
+announced-int line n i =
+    let e : integer_in line ≡ Ok (pos n) = rw (integer_in, i.value) refl in
+    in_line-text type_byte.Integer line i.text_is ∙ ap (λ r. with_valid r (λ k. complete (Int k))) e

@@ -1,18 +1,18 @@
 -- What is built in a flat reply.
-use Rattle.std.proofs.Common.{◌≡◌, ℕ, suc, ◌+◌, ◌-◌, ◌*◌, ℤ, List, [], ◌∷◌, ◌++◌, length, map, take, refl, ap, sym, ◌∙◌}
+use Rattle.std.proofs.Common.{◌≡◌, ℕ, suc, ◌+◌, ◌-◌, ◌*◌, List, [], ◌∷◌, ◌++◌, length, map, take, refl, ap, sym, ◌∙◌}
 use Rattle.std.proofs.Common.{append_assoc, zero-add, arith, Ok}
 use Rattle.std.proofs.lemmas.List.{length-append, append-nil}
 use Rattle.std.proofs.lemmas.Grind.{common_steps}
-use Rattle.resp_value.specs.declared.value.Value.{Value, Int, SimpleString, BulkString, Array, Set, Map}
+use Rattle.resp_value.specs.declared.value.Value.{Value, SimpleString, BulkString, Array, Set, Map}
 use Rattle.resp_value.specs.declared.value.Value.{fold-roll-Value}
-use Rattle.resp_value.specs.declared.value.Value.TheVariants.{rolls-Int, rolls-SimpleString, rolls-BulkString}
+use Rattle.resp_value.specs.declared.value.Value.TheVariants.{rolls-SimpleString, rolls-BulkString}
 use Rattle.resp_value.specs.declared.value.Value.TheVariants.{rolls-Array, rolls-Set, rolls-Map}
 use Rattle.resp_value.specs.declared.value.Value.TheOpen.{Value-F}
 use Rattle.resp_value.specs.Views.{pairs}
 use Rattle.resp_flat.specs.declared.token.Token.{Token}
 use Rattle.resp_flat.specs.declared.token.TokenKind.TheVariants as token
 use Rattle.resp_flat.specs.declared.flat_reply.FlatReply.{FlatReply}
-use Rattle.resp_flat.specs.FlatReplies.{sized, numbered, placed, joined, tokens_step, tokens_of, text_step, text_of}
+use Rattle.resp_flat.specs.FlatReplies.{sized, placed, joined, tokens_step, tokens_of, text_step, text_of}
 use Rattle.resp_flat.proofs.TokenSizes.{placed-append}
 use Rattle.resp_flat.proofs.Appending.{tokens_of_array, tokens_of_set, tokens_of_map, tokens_of_attribute}
 use Rattle.resp_flat.proofs.Appending.{text_of_attribute}
@@ -79,12 +79,6 @@ module _ (r s : FlatReply) (opens : List ℕ) (fs : List OpenAggregate) where
 
 -- ---- leaves
 
-tokens_of_int : (n : ℤ) → tokens_of (Int n) ≡ numbered token.Int n ∷ []
-tokens_of_int n = ap tokens_of (sym (rolls-Int n)) ∙ fold-roll-Value Tokens tokens_step (Value-F.Int n)
-
-text_of_int : (n : ℤ) → text_of (Int n) ≡ []
-text_of_int n = ap text_of (sym (rolls-Int n)) ∙ fold-roll-Value (List ℕ) text_step (Value-F.Int n)
-
 tokens_of_simple : (x : List ℕ) → tokens_of (SimpleString x) ≡ sized token.SimpleString (length x) ∷ []
 tokens_of_simple x = ap tokens_of (sym (rolls-SimpleString x))
     ∙ fold-roll-Value Tokens tokens_step (Value-F.SimpleString x)
@@ -99,13 +93,6 @@ text_of_bulk : (x : List ℕ) → text_of (BulkString x) ≡ x
 text_of_bulk x = ap text_of (sym (rolls-BulkString x)) ∙ fold-roll-Value (List ℕ) text_step (Value-F.BulkString x)
 
 module _ (r s : FlatReply) (opens : List ℕ) (fs : List OpenAggregate) where
-  pub flat-int : (n : ℤ) → HoldsFlat r opens fs [] [] → s.tokens.items ≡ r.tokens.items
-      ++ placed (length r.text.items) (numbered token.Int n ∷ []) → s.text.items ≡ r.text.items →
-      HoldsFlat s opens fs (tokens_of (Int n)) (text_of (Int n))
-  flat-int n h t z = flat-appended r s opens fs (tokens_of (Int n)) (text_of (Int n)) h
-      (t ∙ ap (λ (ts : Tokens). r.tokens.items ++ placed (length r.text.items) ts) (sym (tokens_of_int n)))
-      (z ∙ sym (append-nil r.text.items) ∙ ap (λ (y : List ℕ). r.text.items ++ y) (sym (text_of_int n)))
-
   pub flat-simple : (x : List ℕ) → HoldsFlat r opens fs [] [] → s.tokens.items ≡ r.tokens.items
       ++ placed (length r.text.items) (sized token.SimpleString (length x) ∷ []) → s.text.items ≡ r.text.items ++ x →
       HoldsFlat s opens fs (tokens_of (SimpleString x)) (text_of (SimpleString x))

@@ -14,6 +14,7 @@ pub mod Skipping
 pub mod Completions
 pub mod Counting
 pub mod Running
+pub mod Scalars
 pub mod FaultOffsets
 pub mod FewDigits
 pub mod FilledBodies

@@ -1,8 +1,9 @@
 -- The first line of bytes, by the place of its LF.
-use Rattle.std.proofs.Common.{◌≡◌, ℕ, zero, suc, ◌+◌, ◌-◌, ◌<◌, ◌≤◌, true, false, ◌&&◌, ◌==◌, List, [], ◌∷◌, ◌++◌}
+use Rattle.std.proofs.Common.{◌≡◌, ℕ, zero, suc, ◌+◌, ◌-◌, ◌<◌, ◌≤◌, Bool, true, false, nat_lt, ◌&&◌, ◌==◌, List, [], ◌∷◌}
+use Rattle.std.proofs.Common.{◌++◌}
 use Rattle.std.proofs.Common.{length, take, drop, get_or, refl, ap, sym, subst, ◌∙◌, arith, Some}
-use Rattle.std.proofs.lemmas.Bool.{and_parts, and_from}
-use Rattle.std.proofs.lemmas.Bool.Decides.{Decides-eqb}
+use Rattle.std.proofs.lemmas.Bool.{and_parts, and_from, ltb-true}
+use Rattle.std.proofs.lemmas.Bool.Decides.{Decides-eqb, nat_tests}
 use Rattle.std.proofs.lemmas.Grind.{common_steps}
 use Rattle.resp_parse.specs.Lines.{NoneBefore, Scanned}
 use Rattle.resp_parse.specs.PlainReading.{got, incomplete, line}
@@ -59,3 +60,12 @@ Scanned-longer bs more n h =
       none = λ k l cr lf. h.none k l (sym (get_or-append bs more k (omega arith)) ∙ cr)
           (sym (get_or-append bs more (suc k) (omega arith)) ∙ lf);
     }
+
+-- bytes that hold no CR LF end before that of a line does
+pub scanned-before : (bs : List ℕ) (n len : ℕ) → Scanned bs n → get_or bs len 0 ≡ 13 → get_or bs (suc len) 0 ≡ 10
+    → n ≤ len + 1
+scanned-before bs n len h cr lf = by_test (nat_lt (suc len) n) refl
+  where
+    by_test : (b : Bool) → nat_lt (suc len) n ≡ b → n ≤ len + 1
+    by_test true e = absurd (h.none len (ltb-true (suc len) n e) cr lf)
+    by_test false e = grind (arith, nat_tests)

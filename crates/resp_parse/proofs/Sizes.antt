@@ -2,14 +2,14 @@
 use Rattle.std.proofs.Common.{◌≡◌, ℕ, zero, suc, ◌+◌, ◌-◌, ◌*◌, ◌<◌, ◌≤◌, Bool, true, false, cond, List, [], ◌∷◌}
 use Rattle.std.proofs.Common.{length, take, map, refl, arith, Option, None, Some, Result, Ok, Err, ◌==◌, ℤ, pos, negsuc}
 use Rattle.std.proofs.Common.{codes}
-use Rattle.std.specs.Str.{bytes_eq, is_utf8, trim}
+use Rattle.std.specs.Str.{bytes_eq, trim}
 use Rattle.std.specs.List.{position_or_len, before_first, after_first}
 use Rattle.resp_value.specs.Names.{format_named, kind_named}
 use Rattle.resp_errors.specs.ServerErrors.{server_error}
-use Rattle.resp_errors.specs.declared.kinds.FrameFault.TheVariants.{LineNotUtf8, NotDouble, NotBoolean}
+use Rattle.resp_errors.specs.declared.kinds.FrameFault.TheVariants.{NotDouble, NotBoolean}
 use Rattle.resp_errors.specs.declared.kinds.FrameFault.TheVariants.{NoVerbatimFormat, BadPushKind}
 use Rattle.resp_value.specs.declared.value.Value.{Value, Okay, Int, SimpleString, BulkString, Array, Map, Boolean, Set}
-use Rattle.resp_value.specs.declared.value.Value.{VerbatimString, Push, Double}
+use Rattle.resp_value.specs.declared.value.Value.{VerbatimString, Push, Double, ServerError, BigNumber}
 use Rattle.resp_value.specs.declared.names.PushKind.{PushKind}
 use Rattle.resp_value.specs.declared.names.PushKind.TheVariants.{Other}
 use Rattle.resp_errors.specs.declared.kinds.FrameFault.{FrameFault}
@@ -18,15 +18,17 @@ use Rattle.resp_parse.specs.declared.type_byte.TypeByte.{TypeByte}
 use Rattle.resp_parse.specs.declared.type_byte.TypeByte.TheVariants as type_byte
 use Rattle.resp_parse.specs.declared.shape.BodyKind.{BodyKind}
 use Rattle.resp_parse.specs.declared.shape.BodyKind.TheVariants as body_kind
+use Rattle.resp_parse.specs.declared.shape.LineKind.{LineKind}
+use Rattle.resp_parse.specs.declared.shape.LineKind.TheVariants as line_kind
 use Rattle.resp_parse.specs.declared.shape.ElementsKind.{ElementsKind}
 use Rattle.resp_parse.specs.declared.shape.ElementsKind.TheVariants as elements_kind
 use Rattle.resp_parse.specs.Number.{integer_in, length_in}
 use Rattle.resp_parse.specs.Double.{double_in, is_double}
 use Rattle.resp_containers.specs.Lossy.{lossy}
 use Rattle.resp_parse.specs.Grammar.{Announcement, complete, body, elements, invalid, with_valid, or_nil, or_empty_push}
-use Rattle.resp_parse.specs.Grammar.{simple, boolean_in, bulk_error, verbatim_text, verbatim, is_colon, last_element}
+use Rattle.resp_parse.specs.Grammar.{simple, empty_push, boolean_in, bulk_error, verbatim_text, verbatim, is_colon, last_element}
 use Rattle.resp_parse.specs.Grammar.{attribute, push_kind, push, announced}
-use Rattle.resp_parse.specs.Shapes.{body_value, elements_value, announced_in_line}
+use Rattle.resp_parse.specs.Shapes.{body_value, elements_value, line_value}
 use Rattle.resp_parse.specs.Built.{sum_of_pairs, first_built, built}
 use Rattle.std.proofs.lemmas.List.Sums.{sum_by-cons, sum-map}
 use Rattle.resp_parse.proofs.BuiltOf.{built_pair, built-Nil, built-Okay, built-Int, built-SimpleString}
@@ -206,9 +208,12 @@ announced-small type_byte.Set text = valid-small (integer_in text)
 announced-small type_byte.Push text = valid-small (integer_in text) (or_empty_push (λ n. elements n push))
     (λ n _. push-or-small (λ n. elements n push) n (λ k vs v l e. push-small vs v e))
 
-pub in_line-small : (kind : TypeByte) (line : List ℕ) → Small (announced_in_line kind line)
-in_line-small kind line = by_test (is_utf8 line)
-  where
-    by_test : (u : Bool) → Small (cond u (announced kind line) (invalid LineNotUtf8))
-    by_test true = announced-small kind line
-    by_test false = tt
+-- a value that is read from its line
+pub line-small : (kind : LineKind) (text : List ℕ) (v : Value) → line_value kind text ≡ Ok v → built v ≡ 1
+line-small line_kind.Error text v e =
+    let z : ServerError (server_error text) ≡ v = cc in rw (← z) (built-ServerError (server_error text))
+line-small line_kind.Double text v e = double-small text v e
+line-small line_kind.BigNumber text v e =
+    let z : BigNumber text ≡ v = cc in rw (← z) (built-BigNumber text)
+line-small line_kind.EmptyPush text v e =
+    let z : empty_push ≡ v = cc in rw (← z) empty_push-small

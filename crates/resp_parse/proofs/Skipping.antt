@@ -1,12 +1,10 @@
 -- A parser between values that drops the first of its bytes.
 use Rattle.std.proofs.Common.{◌≡◌, ℕ, zero, suc, ◌+◌, ◌-◌, ◌≤◌, ◌<◌, Bool, true, false, List, [], ◌∷◌, ◌++◌, length, Option}
 use Rattle.std.proofs.Common.{drop, refl, ap, sym, ◌∙◌, subst, arith, Some, None}
-use Rattle.std.proofs.lemmas.Grind.{common_steps}
-use Rattle.std.proofs.lemmas.List.{length-drop, length-append}
+use Rattle.std.proofs.lemmas.List.{length-drop}
 use Rattle.resp_parse.specs.declared.body.Body.{Body}
 use Rattle.resp_parse.specs.declared.machine.Machine.{Machine}
 use Rattle.resp_parse.specs.Counts.{Counts}
-use Rattle.resp_parse.specs.Lines.{Scanned}
 use Rattle.resp_parse.specs.Resume.{fresh_of, IsLooked, IsScanned}
 use Rattle.resp_parse.specs.Invariant.{Resumes, Holds, Counted, CountsTaken}
 use Rattle.resp_parse.proofs.Counting.{scanned-within}

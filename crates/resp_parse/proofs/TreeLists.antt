@@ -1,5 +1,5 @@
 -- The elements of open aggregates in a tree.
-use Rattle.std.proofs.Common.{◌≡◌, List, [], ◌∷◌, ◌++◌, refl, sym, ◌∙◌}
+use Rattle.std.proofs.Common.{◌≡◌, List, [], ◌∷◌, ◌++◌, refl}
 use Rattle.resp_value.specs.declared.value.Value.{Value}
 use Rattle.resp_parse.specs.declared.elements.Elements.{Elements}
 use Rattle.resp_parse.specs.declared.elements.Elements.TheVariants.{Values}
@@ -8,7 +8,6 @@ use Rattle.resp_parse.specs.declared.shape.ElementsKind.{ElementsKind}
 use Rattle.resp_parse.specs.declared.shape.ElementsKind.TheVariants as elements_kind
 use Rattle.resp_parse.specs.KeptElements.{kept_as}
 use Rattle.resp_parse.specs.TreeBuilders.{elements_of, HoldsElements, HoldsWhole}
-use Rattle.resp_parse.proofs.LastElements.{snoc-injective}
 
 -- one more is opened inside them
 pub opened-lists : (outer : List Elements) (elements : Elements) (fs : List OpenAggregate)

@@ -1,7 +1,8 @@
 -- The parser's own form of what a header announces.
 use Rattle.std.specs.Prelude.{◌≡◌, ℕ, ◌+◌, ◌*◌, ◌<◌, ◌^◌, cond, List, [], ◌∷◌, Result, Ok, Err}
 use Rattle.std.specs.Str.{is_utf8}
-use Rattle.resp_value.specs.declared.value.Value.{Value, Nil, Int, BulkString, ServerError, BigNumber, Array, Map, Set}
+use Rattle.resp_value.specs.declared.value.Value.{Value, Nil, Okay, Int, BulkString, ServerError, BigNumber, Array, Map, Set}
+use Rattle.resp_value.specs.declared.value.Value.{Boolean}
 use Rattle.resp_errors.specs.declared.kinds.FrameFault.{FrameFault}
 use Rattle.resp_errors.specs.declared.kinds.FrameFault.TheVariants.{LineNotUtf8}
 use Rattle.resp_flat.specs.declared.token.TokenKind.{TokenKind}
@@ -14,11 +15,12 @@ use Rattle.resp_parse.specs.declared.shape.LineKind.TheVariants as line_kind
 use Rattle.resp_parse.specs.declared.shape.ElementsKind.{ElementsKind}
 use Rattle.resp_parse.specs.declared.shape.ElementsKind.TheVariants as elements_kind
 use Rattle.resp_parse.specs.declared.shape.Shape.{Shape}
-use Rattle.resp_parse.specs.declared.shape.Shape.TheVariants.{Nil as Nothing, Int as Integer, Simple, Line, Body}
+use Rattle.resp_parse.specs.declared.shape.Shape.TheVariants.{Nil as Nothing, Okay as Fine, Boolean as Truth}
+use Rattle.resp_parse.specs.declared.shape.Shape.TheVariants.{Int as Integer, Simple, Line, Body}
 use Rattle.resp_parse.specs.declared.shape.Shape.TheVariants.{Elements}
 use Rattle.resp_parse.specs.declared.read_error.ReadError.{ReadError}
 use Rattle.resp_parse.specs.declared.read_error.ReadError.TheVariants.{Memory, Fault}
-use Rattle.resp_parse.specs.Grammar.{Announcement, complete, body, elements, invalid, with_valid, boolean_in}
+use Rattle.resp_parse.specs.Grammar.{Announcement, complete, body, elements, invalid, with_valid}
 use Rattle.resp_parse.specs.Grammar.{empty_push, simple, bulk_error, verbatim, attribute, push, announced}
 use Rattle.resp_parse.specs.Double.{double_in}
 use Rattle.resp_errors.specs.ServerErrors.{server_error}
@@ -41,7 +43,6 @@ elements_value elements_kind.Push = push
 -- what a text makes that is a whole line
 abbrev pub line_value : LineKind → List ℕ → Result Value FrameFault
 line_value line_kind.Error text = Ok (ServerError (server_error text))
-line_value line_kind.Boolean text = boolean_in text
 line_value line_kind.Double text = double_in text
 line_value line_kind.BigNumber text = Ok (BigNumber text)
 line_value line_kind.EmptyPush text = Ok empty_push
@@ -79,6 +80,8 @@ is_small _ = Unit {0}
 -- what a shape stands for
 abbrev pub announcement_of : Shape → Announcement
 announcement_of Nothing = complete Nil
+announcement_of Fine = complete Okay
+announcement_of (Truth b) = complete (Boolean b)
 announcement_of (Integer n) = complete (Int n)
 announcement_of (Simple text) = complete (simple text.now)
 announcement_of (Line kind text) = with_valid (line_value kind text.now) complete

@@ -1,7 +1,7 @@
 //! What is built of a value that is read.
 
 ghost use Rattle.std.specs.Prelude.{◌≡◌, ◌∷◌, ◌+◌, ◌++◌, ℕ, suc, [], List, Option, IfOk, OnOk, MatchResult};
-ghost use Rattle.resp_value.specs.declared.value.Value.{Value, Int, BulkString};
+ghost use Rattle.resp_value.specs.declared.value.Value.{Value, BulkString};
 ghost use Rattle.resp_parse.specs.declared.body.Body.{Body};
 ghost use Rattle.resp_parse.specs.declared.open_aggregates.OpenAggregate.{OpenAggregate};
 ghost use Rattle.resp_parse.specs.Building.{Progress, nothing, filling, whole, progress_of};
@@ -47,12 +47,6 @@ pub(crate) trait Builder: Drop {
     /// A value that its line spells.
     fn leaf(&mut self, value: Value) -> Result<SeenValue, AllocError>
         ensures seen { IfOk result (λ v. v ≡ value) }
-        ensures stands { (fs : List OpenAggregate) → stands self.old fs nothing →
-            IfOk result (λ v. stands self.new fs (whole v)) };
-
-    /// An integer.
-    fn int(&mut self, n: i64) -> Result<SeenValue, AllocError>
-        ensures seen { IfOk result (λ v. v ≡ Int n) }
         ensures stands { (fs : List OpenAggregate) → stands self.old fs nothing →
             IfOk result (λ v. stands self.new fs (whole v)) };
 

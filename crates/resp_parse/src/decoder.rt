@@ -1,14 +1,14 @@
 //! A decoder of replies whose bytes come in pieces, whatever it builds of them.
 
-ghost use Rattle.std.specs.Prelude.{◌≡◌, ◌≢◌, ◌↔◌, ◌++◌, ◌+◌, ◌≤◌, ◌⊎◌, [], true, false, Err, List, ℕ};
-ghost use Rattle.std.specs.Prelude.{length, drop, IsTrue, OnOk, IfSome, None};
+ghost use Rattle.std.specs.Prelude.{◌≡◌, ◌≢◌, ◌↔◌, ◌++◌, ◌+◌, ◌≤◌, ◌⊎◌, [], true, false, Ok, Err, List, ℕ};
+ghost use Rattle.std.specs.Prelude.{length, drop, IsTrue, OnOk, IfSome, None, Some};
 ghost use Rattle.std.specs.Vec.{vec_capacity};
 ghost use Rattle.resp_parse.specs.State.{StandsAfter, FailedAfter, IsBetweenValues, has_failed};
 ghost use Rattle.resp_parse.specs.State.{KeepsFaultOffset, refusal_of, answered};
 ghost use Rattle.resp_parse.specs.Limits.{AreLimits, IsSizeLimit};
 ghost use Rattle.resp_parse.specs.Limited.{FaultShownAt};
 ghost use Rattle.resp_parse.specs.Invariant.{PassesLimit};
-ghost use Rattle.resp_parse.specs.Calls.{Feeds, TakesInto, Asks};
+ghost use Rattle.resp_parse.specs.Calls.{Feeds, Takes, TakesInto, Asks};
 ghost use Rattle.resp_parse.specs.Bounds.{Bounded, FedBy, OneCall, AskedFor};
 ghost use Rattle.resp_parse.specs.Counts.{nothing_done};
 
@@ -18,7 +18,7 @@ use crate::limits::{LONGEST, Limits};
 use crate::machine::Machine;
 use crate::read_error::ReadError;
 use crate::source::ReplySource;
-use resp_value::{FrameFault, IoKind, ParsingError, RedisError, RedisResult};
+use resp_value::{FrameFault, IoKind, ParsingError, RedisError, RedisResult, Value};
 use std::alloc::{AllocError, Global};
 use std::marker::Model;
 
@@ -185,10 +185,68 @@ impl<B: Builder> Decoder<B> {
         if self.failed {
             return Err(failed_before());
         }
+        if self.waits() {
+            return Ok(false);
+        }
         match self.read(out) {
             Ok(taken) => Ok(taken),
             Err(why) => Err(refusal(why)),
         }
+    }
+
+    /// Whether no value can be taken before more bytes come, as the last byte held shows. It is then
+    /// looked at, and the call is counted; else nothing is done.
+    #[inline(always)]
+    pub(crate) fn waits(&mut self) -> bool
+        requires works { self.old.failed ≡ false }
+        ensures takes { (b : List ℕ) → StandsAfter self.old b → result ≡ true →
+            Takes b self.new (Ok None) }
+        ensures limits { self.new.limits ≡ self.old.limits }
+        ensures bounds { Bounded self.new }
+        ensures offset { self.new.fault_offset ≡ None }
+        ensures counts { result ≡ true → OneCall self.old.counts self.new.counts }
+        ensures same { result ≡ false → self.new ≡ self.old }
+    {
+        let unparsed = &self.buffer[self.consumed..];
+        if unparsed.len() > self.size_limit - self.taken {
+            return false;
+        }
+        if !self.machine.looks_on(unparsed, &mut self.counts) {
+            return false;
+        }
+        self.counts.call();
+        true
+    }
+
+    /// The next value, where nothing of it was looked at and it is of few bytes, which are held; else
+    /// nothing is done. None too where there is no memory for it.
+    #[inline(always)]
+    pub(crate) fn scalar(&mut self) -> Option<Value>
+        requires works { self.old.failed ≡ false }
+        ensures takes { (b : List ℕ) → StandsAfter self.old b →
+            IfSome result (λ v. Takes b self.new (Ok (Some v))) }
+        ensures limits { self.new.limits ≡ self.old.limits }
+        ensures bounds { Bounded self.new }
+        ensures offset { self.new.fault_offset ≡ None }
+        ensures counts { IfSome result (λ v. OneCall self.old.counts self.new.counts) }
+        ensures same { result ≡ None → self.new ≡ self.old }
+    {
+        let alloc = *self.buffer.allocator();
+        let unparsed = &self.buffer[self.consumed..];
+        let room = self.size_limit - self.taken;
+        if unparsed.len() > room || self.machine.scanned > 0 || !self.machine.is_fresh() {
+            return None;
+        }
+        let (taken, value) = self.machine.scalar(alloc, unparsed)?;
+        self.counts.call();
+        self.counts.iterate();
+        self.counts.iterate();
+        self.counts.examine(taken);
+        self.consumed += taken;
+        self.value_len = self.taken + taken;
+        self.taken = 0;
+        self.since.restart(&self.buffer[self.consumed..]);
+        Some(value)
     }
 
     /// Reads on.

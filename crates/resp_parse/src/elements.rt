@@ -160,8 +160,17 @@ fn set_last_value(pairs: &mut Items<(Value, Value)>, value: Value)
     let none = Items::new(pairs.allocator());
     let mut all = mem::replace(pairs, none).into_vec();
     match all.last_mut() {
-        Some(last) => drop(mem::replace(&mut last.1, value)),
+        Some(last) => let_go(mem::replace(&mut last.1, value)),
         None => drop(value),
     }
     *pairs = all.into();
+}
+
+/// Drops a value, and without a call where it is nil, as what stands beside a key is.
+#[inline(always)]
+fn let_go(value: Value) {
+    match value {
+        Value::Nil => {}
+        other => drop(other),
+    }
 }

@@ -1,8 +1,9 @@
 //! A value that is built as a flat reply.
 
-ghost use Rattle.std.specs.Prelude.{◌≡◌, ◌++◌, ℕ, suc, take, drop, List, IfOk};
+ghost use Rattle.std.specs.Prelude.{◌≡◌, ◌++◌, ◌∷◌, ℕ, suc, [], length, take, drop, List, IfOk, IfSome, OnOk};
 ghost use Rattle.std.specs.Str.{is_utf8};
 ghost use Rattle.resp_value.specs.declared.value.Value.{BulkString};
+ghost use Rattle.resp_flat.specs.FlatReplies.{placed, tokens_of, text_of};
 ghost use Rattle.resp_parse.specs.declared.open_aggregates.OpenAggregate.{OpenAggregate};
 ghost use Rattle.resp_parse.specs.Building.{filling, whole};
 ghost use Rattle.resp_parse.specs.Computes.{Computes};
@@ -31,6 +32,18 @@ pub(crate) struct FlatBuilder {
 }
 
 impl FlatBuilder {
+    /// The tokens and the text of a value, after those before.
+    #[inline(never)]
+    fn append(&mut self, value: &Value) -> Result<(), AllocError>
+        ensures tokens { OnOk result (self.new.reply.tokens.items ≡ self.old.reply.tokens.items
+            ++ placed (length self.old.reply.text.items) (tokens_of value.now)) }
+        ensures text { OnOk result (self.new.reply.text.items
+            ≡ self.old.reply.text.items ++ text_of value.now) }
+        ensures opens { self.new.opens ≡ self.old.opens }
+    {
+        self.reply.append(value)
+    }
+
     /// The bytes of the body are a bulk string.
     fn bulk_body(&mut self, body: &Body) -> Result<SeenValue, AllocError>
         ensures seen { IfOk result (λ v. v ≡ BulkString body.now.seen) }
@@ -107,20 +120,14 @@ impl Builder for FlatBuilder {
         }
     }
 
+    #[inline(always)]
     fn leaf(&mut self, value: Value) -> Result<SeenValue, AllocError> {
         let seen = SeenValue::of(&value);
-        self.reply.append(&value)?;
+        match token_alone(&value, self.reply.text.len()) {
+            Some(token) => self.reply.tokens.push(token)?,
+            None => self.append(&value)?,
+        }
         Ok(seen)
-    }
-
-    fn int(&mut self, n: i64) -> Result<SeenValue, AllocError> {
-        self.reply.tokens.push(Token {
-            kind: TokenKind::Int,
-            size: 0,
-            number: n,
-            start: self.reply.text.len(),
-        })?;
-        Ok(SeenValue::of(&Value::Int(n)))
     }
 
     fn simple(&mut self, _alloc: Global, text: &str) -> Result<SeenValue, AllocError> {
@@ -207,6 +214,27 @@ impl Builder for FlatBuilder {
     }
 
     ghost paid_for = { λ b fs body h. flat-paid_for b.reply b.opens.items b.start fs body h };
+}
+
+/// The token of a value of which it is all, where it stands after a text of this length.
+#[inline(always)]
+fn token_alone(value: &Value, start: usize) -> Option<Token>
+    ensures token { IfSome result (λ token. placed start (tokens_of value.now) ≡ token ∷ []) }
+    ensures no_text { IfSome result (λ token. text_of value.now ≡ []) }
+{
+    let (kind, number) = match value {
+        Value::Nil => (TokenKind::Nil, 0),
+        Value::Okay => (TokenKind::Okay, 0),
+        Value::Int(n) => (TokenKind::Int, *n),
+        Value::Boolean(truth) => (TokenKind::Boolean, if *truth { 1 } else { 0 }),
+        _ => return None,
+    };
+    Some(Token {
+        kind,
+        size: 0,
+        number,
+        start,
+    })
 }
 
 /// Whether the first of these tokens names the kind of a push, which is then a bulk string.

@@ -1,6 +1,6 @@
 //! The ends of lines and bodies.
 
-ghost use Rattle.std.specs.Prelude.{◌≡◌, IfSome, take};
+ghost use Rattle.std.specs.Prelude.{◌≡◌, suc, get_or, IfSome, Ok, take};
 ghost use Rattle.resp_parse.specs.Lines.{Scanned};
 ghost use Rattle.resp_parse.specs.Number.{IsNumeral};
 ghost use Rattle.resp_parse.specs.Resume.{FindsLine, FindsNumeral, EndsBody, BeginsWithBody, BeginsWithBulk, len_of};
@@ -23,6 +23,7 @@ pub(crate) struct Line {
 }
 
 /// The first line, where the first `scanned` bytes hold no CR LF.
+#[inline(always)]
 pub(crate) fn first_line(bytes: &[u8], scanned: usize, counts: &mut Counter) -> Option<Line>
     requires scanned { Scanned bytes.now scanned }
     ensures line { FindsLine bytes.now (len_of result) }
@@ -30,6 +31,9 @@ pub(crate) fn first_line(bytes: &[u8], scanned: usize, counts: &mut Counter) -> 
         IfSome line.number (IsNumeral (take line.len bytes.now))) }
     ensures looks { LooksAt scanned bytes.now counts.old counts.new (len_of result) }
 {
+    if let Some(line) = short_line(bytes) {
+        return Some(line);
+    }
     if scanned > 0 {
         let len = line_end(bytes, scanned, counts)?;
         return Some(Line { len, number: None });
@@ -41,6 +45,35 @@ pub(crate) fn first_line(bytes: &[u8], scanned: usize, counts: &mut Counter) -> 
             Some(Line { len, number: None })
         }
     }
+}
+
+/// The first line, where it is one digit or two.
+#[inline(always)]
+pub(crate) fn short_line(bytes: &[u8]) -> Option<Line>
+    ensures line { IfSome result (λ line. FindsNumeral bytes.now (Ok line)) }
+    ensures cr { IfSome result (λ line. get_or bytes.now line.len 0 ≡ 13) }
+    ensures lf { IfSome result (λ line. get_or bytes.now (suc line.len) 0 ≡ 10) }
+{
+    if bytes.len() < 3 || !bytes[0].is_ascii_digit() {
+        return None;
+    }
+    let digit = (bytes[0] - b'0') as u64;
+    if bytes[1] == b'\r' {
+        if bytes[2] != b'\n' {
+            return None;
+        }
+        return Some(Line {
+            len: 1,
+            number: Some(digit),
+        });
+    }
+    if bytes.len() < 4 || !bytes[1].is_ascii_digit() || bytes[2] != b'\r' || bytes[3] != b'\n' {
+        return None;
+    }
+    Some(Line {
+        len: 2,
+        number: Some(digit * 10 + (bytes[1] - b'0') as u64),
+    })
 }
 
 /// The first line, where it is few digits alone. Err: so many bytes hold no CR LF.

@@ -8,7 +8,7 @@ ghost use Rattle.resp_parse.specs.Grammar.{elements};
 ghost use Rattle.resp_parse.specs.Number.{IsNumeral};
 ghost use Rattle.resp_parse.specs.PlainReading.{then, read_announced, read};
 ghost use Rattle.resp_parse.specs.Shapes.{announced_in_line, line_value, elements_value, count_of};
-ghost use Rattle.resp_parse.specs.Resume.{place, resume, fresh_of, IsScanned, Goes, Ends, Steps};
+ghost use Rattle.resp_parse.specs.Resume.{place, resume, fresh_of, IsScanned, Goes, Ends, Steps, Completes};
 ghost use Rattle.resp_parse.specs.Resume.{TakesElements, Runs, ReadsInto, Waits, depth_below};
 ghost use Rattle.resp_parse.specs.Filling.{lacks_of, FillsOpenBody, FilledOpenBody};
 ghost use Rattle.resp_parse.specs.Built.{built};
@@ -19,13 +19,13 @@ use crate::body::Body;
 use crate::builder::Builder;
 use crate::decoder::Counter;
 use crate::history::History;
-use crate::line::{Line, ShortBulk, body_ends, bulk_at_hand, first_line, short_bulk};
+use crate::line::{Line, ShortBulk, body_ends, bulk_at_hand, first_line, short_bulk, short_line};
 use crate::open_aggregates::{Added, OpenAggregate, OpenAggregates};
 use crate::read_error::ReadError;
 use crate::seen::{SeenValue, SeenValues};
 use crate::shape::{ElementsKind, LineKind, Shape, shape_of};
 use crate::type_byte::TypeByte;
-use resp_value::{FrameFault, Value};
+use resp_value::{Bytes, FrameFault, Value};
 use std::alloc::{AllocError, Global};
 
 /// How many bytes one step took, and what came of it.
@@ -114,7 +114,9 @@ impl<B: Builder> Machine<B> {
     {
         match shape_of(kind, line, number)? {
             Shape::Nil => Ok(Some(self.builder.leaf(Value::Nil)?)),
-            Shape::Int(n) => Ok(Some(self.builder.int(n)?)),
+            Shape::Okay => Ok(Some(self.builder.leaf(Value::Okay)?)),
+            Shape::Boolean(truth) => Ok(Some(self.builder.leaf(Value::Boolean(truth))?)),
+            Shape::Int(n) => Ok(Some(self.builder.leaf(Value::Int(n))?)),
             Shape::Line(kind, text) => Ok(Some(self.begin_line(alloc, kind, text)?)),
             Shape::Simple(text) => Ok(Some(self.builder.simple(alloc, text)?)),
             Shape::Body(kind, missing) => {
@@ -149,6 +151,7 @@ impl<B: Builder> Machine<B> {
     }
 
     /// Begins an aggregate; Some is one that has no elements.
+    #[inline(always)]
     fn begin_elements(
         &mut self,
         alloc: Global,
@@ -456,10 +459,11 @@ impl<B: Builder> Machine<B> {
         Ok((at, None))
     }
 
-    /// Looks at the last byte, where it alone has come to a line that it doesn't end; else nothing is
-    /// done. So a line that comes byte by byte is looked at without a step.
+    /// Whether no value can be read before more bytes come, as the last byte shows: there is none, or
+    /// it alone has come to a line that it doesn't end, and is then looked at. Else nothing is done. So a
+    /// line that comes byte by byte is looked at without a step.
     #[inline(always)]
-    fn looks_on(&mut self, bytes: &[u8], counts: &mut Counter) -> bool
+    pub(crate) fn looks_on(&mut self, bytes: &[u8], counts: &mut Counter) -> bool
         requires depth { length self.old.open_aggregates ≤ self.old.depth }
         requires scanned { IsScanned self.old.body self.old.scanned bytes.now }
         ensures waits { result ≡ true → Waits self.old bytes.now self.new 0 }
@@ -468,7 +472,7 @@ impl<B: Builder> Machine<B> {
         ensures nothing { result ≡ false → (self.new ≡ self.old) × (counts.new ≡ counts.old) }
     {
         let Some((first, after)) = bytes.split_first() else {
-            return false;
+            return true;
         };
         if self.body.is_some() || after.len() != self.scanned || bytes[after.len()] == b'\n' {
             return false;
@@ -483,6 +487,39 @@ impl<B: Builder> Machine<B> {
         counts.examine(1);
         self.scanned = bytes.len();
         true
+    }
+
+    /// A whole value of few bytes at the start, where nothing is in progress, with how many bytes spell
+    /// it. None too where there is no memory for it.
+    #[inline(always)]
+    pub(crate) fn scalar(&self, alloc: Global, bytes: &[u8]) -> Option<(usize, Value)>
+        requires level { 0 < self.now.depth }
+        requires fresh { fresh_of self.now.body self.now.open_aggregates ≡ true }
+        requires unlooked { self.now.scanned ≡ 0 }
+        ensures completes { IfSome result (λ p.
+            Completes self.now bytes.now self.now p.0 p.1) }
+        ensures some { IfSome result (λ p. 3 ≤ p.0) }
+    {
+        let (first, after) = bytes.split_first()?;
+        match TypeByte::from_byte(*first)? {
+            TypeByte::SimpleString if after.starts_with(b"OK\r\n") => Some((5, Value::Okay)),
+            TypeByte::Integer => {
+                let line = short_line(after)?;
+                let n = line.number?;
+                Some((line.len + 3, Value::Int(n as i64)))
+            }
+            TypeByte::BulkString => {
+                let bulk = short_bulk(*first, after)?;
+                let Ok(body) = Bytes::from_slice(alloc, bulk.body) else {
+                    return None;
+                };
+                Some((
+                    bulk.len + 3 + (bulk.body.len() + 2),
+                    Value::BulkString(body),
+                ))
+            }
+            _ => None,
+        }
     }
 
     /// The same, with a whole value handed out.
@@ -506,12 +543,6 @@ impl<B: Builder> Machine<B> {
         ensures built_within { ReadBuiltWithin self.old self.new result }
         ensures cost { RunCost self.old self.new bytes.now counts.old counts.new result }
     {
-        if bytes.is_empty() {
-            return Ok((0, false));
-        }
-        if self.looks_on(bytes, counts) {
-            return Ok((0, false));
-        }
         let (taken, whole) = self.run(alloc, bytes, counts)?;
         if whole.is_none() {
             return Ok((taken, false));

@@ -168,6 +168,7 @@ impl Parser {
     /// Bytes that can't begin a value are refused as [`RedisError::Parse`] with their
     /// [`FrameFault`]; values before them are still handed out. Values are read within
     /// [`Parser::limits`].
+    #[inline(always)]
     pub fn take_value(&mut self) -> RedisResult<Option<Value>>
         ensures failed { self.old.failed ≡ true → (result ≡ Err has_failed)
             × (self.new ≡ self.old) }
@@ -180,6 +181,24 @@ impl Parser {
         if self.decoder.is_failed() {
             return Err(failed_before());
         }
+        if self.decoder.waits() {
+            return Ok(None);
+        }
+        if let Some(value) = self.decoder.scalar() {
+            return Ok(Some(value));
+        }
+        self.take_read()
+    }
+
+    /// The next value, where the parser works.
+    fn take_read(&mut self) -> RedisResult<Option<Value>>
+        requires works { self.old.failed ≡ false }
+        ensures takes { (b : List ℕ) → StandsAfter self.old b → Takes b self.new result }
+        ensures limits { self.new.limits ≡ self.old.limits }
+        ensures bounds { Bounded self.new }
+        ensures offset { KeepsFaultOffset self.new result }
+        ensures counts { OneCall self.old.counts self.new.counts }
+    {
         let mut value = Value::Nil;
         match self.read(&mut value) {
             Ok(true) => Ok(Some(value)),

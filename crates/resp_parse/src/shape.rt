@@ -2,7 +2,7 @@
 
 ghost use Rattle.std.specs.Prelude.{◌≡◌, ◌<◌, ◌^◌, ◌∷◌, ◌++◌, ℕ, List, [], IfSome, IfOk, Ok};
 ghost use Rattle.resp_value.specs.declared.value.Value.{Value};
-ghost use Rattle.resp_parse.specs.Grammar.{announced, boolean_in, with_valid};
+ghost use Rattle.resp_parse.specs.Grammar.{announced, complete, boolean_in, with_valid};
 ghost use Rattle.resp_parse.specs.Grammar.{or_nil, or_empty_push, body as a_body};
 ghost use Rattle.resp_parse.specs.Grammar.{elements as some_elements, push};
 ghost use Rattle.resp_parse.specs.KeptElements.{kept_as};
@@ -111,7 +111,6 @@ impl ElementsKind {
 #[derive(Clone, Copy, Debug)]
 pub(crate) enum LineKind {
     Error,
-    Boolean,
     Double,
     BigNumber,
     EmptyPush,
@@ -124,7 +123,6 @@ impl LineKind {
     {
         match self {
             LineKind::Error => Ok(error_of(alloc, text)?),
-            LineKind::Boolean => boolean_of(text),
             LineKind::Double => double_of(alloc, text),
             LineKind::BigNumber => {
                 Ok(Value::BigNumber(Bytes::from_slice(alloc, text.as_bytes())?))
@@ -139,6 +137,10 @@ impl LineKind {
 pub(crate) enum Shape<'a> {
     /// Nil is whole.
     Nil,
+    /// `OK` is whole.
+    Okay,
+    /// A boolean is whole.
+    Boolean(bool),
     /// An integer is whole.
     Int(i64),
     /// The simple string of this text is whole.
@@ -168,7 +170,13 @@ pub(crate) fn shape_of(
             return Ok(shape);
         }
     }
-    shape_of_line(kind, line)
+    match kind {
+        TypeByte::SimpleString if line == b"OK".as_slice() => Ok(Shape::Okay),
+        TypeByte::Null if line.is_empty() => Ok(Shape::Nil),
+        TypeByte::Boolean if line == b"t".as_slice() => Ok(Shape::Boolean(true)),
+        TypeByte::Boolean if line == b"f".as_slice() => Ok(Shape::Boolean(false)),
+        _ => shape_of_line(kind, line),
+    }
 }
 
 /// What a line announces, for a value of this type.
@@ -183,8 +191,8 @@ fn shape_of_line(kind: TypeByte, line: &[u8]) -> Result<Shape<'_>, ReadError>
     shape_of_text(kind, text)
 }
 
-/// What a line of digits alone announces, for an integer, a bulk string, an array or a map. None for
-/// other types.
+/// What a line of digits alone announces, for an integer, a bulk string, an array, a map or a set.
+/// None for other types.
 #[inline(always)]
 fn shape_of_number(kind: TypeByte, n: u64) -> Option<Shape<'static>>
     requires small { n < 2 ^ 63 }
@@ -197,6 +205,7 @@ fn shape_of_number(kind: TypeByte, n: u64) -> Option<Shape<'static>>
         TypeByte::BulkString => Some(Shape::Body(BodyKind::Bulk, n as usize)),
         TypeByte::Array => Some(Shape::Elements(ElementsKind::Array, n as usize)),
         TypeByte::Map => Some(Shape::Elements(ElementsKind::Map, n as usize)),
+        TypeByte::Set => Some(Shape::Elements(ElementsKind::Set, n as usize)),
         _ => None,
     }
 }
@@ -213,7 +222,7 @@ fn shape_of_text(kind: TypeByte, text: &str) -> Result<Shape<'_>, ReadError>
         TypeByte::BulkString => body_or_nil(text, BodyKind::Bulk),
         TypeByte::Array => elements_or_nil(text, ElementsKind::Array),
         TypeByte::Null => Ok(Shape::Nil),
-        TypeByte::Boolean => Ok(Shape::Line(LineKind::Boolean, text)),
+        TypeByte::Boolean => boolean_shape(text),
         TypeByte::Double => Ok(Shape::Line(LineKind::Double, text)),
         TypeByte::BigNumber => Ok(Shape::Line(LineKind::BigNumber, text)),
         TypeByte::BulkError => Ok(Shape::Body(BodyKind::Error, length_of(text)?)),
@@ -225,13 +234,14 @@ fn shape_of_text(kind: TypeByte, text: &str) -> Result<Shape<'_>, ReadError>
     }
 }
 
-/// The value of a boolean line (RESP3, "Booleans").
-fn boolean_of(text: &str) -> Result<Value, ReadError>
-    ensures value { Computes result (boolean_in text.now) }
+/// A boolean line (RESP3, "Booleans").
+fn boolean_shape(text: &str) -> Result<Shape<'static>, ReadError>
+    ensures announced { Announces result (with_valid (boolean_in text.now) complete) }
+    ensures small { IfOk result is_small }
 {
     match text {
-        "t" => Ok(Value::Boolean(true)),
-        "f" => Ok(Value::Boolean(false)),
+        "t" => Ok(Shape::Boolean(true)),
+        "f" => Ok(Shape::Boolean(false)),
         _ => Err(ReadError::Fault(FrameFault::NotBoolean)),
     }
 }

@@ -29,7 +29,11 @@ fn room_for(
 ) -> Result<Elements, AllocError>
     ensures { IfOk result (λ room. room ≡ kept_as kind []) }
 {
-    let room = count.min((at_hand / 3).max(4)).min(128);
+    let room = if count <= 4 {
+        count
+    } else {
+        count.min((at_hand / 3).max(4)).min(128)
+    };
     match kind {
         ElementsKind::Map | ElementsKind::Attribute => Ok(Elements::Pairs(
             Items::from(Vec::with_capacity(alloc, (room + 1) / 2)?),
@@ -107,11 +111,6 @@ impl Builder for TreeBuilder {
     #[inline(always)]
     fn leaf(&mut self, value: Value) -> Result<SeenValue, AllocError> {
         self.append(value)
-    }
-
-    #[inline(always)]
-    fn int(&mut self, n: i64) -> Result<SeenValue, AllocError> {
-        self.append(Value::Int(n))
     }
 
     fn simple(&mut self, alloc: Global, text: &str) -> Result<SeenValue, AllocError> {

@@ -1,13 +1,10 @@
-use Rattle.std.proofs.Common.{◌≡◌, ◌≤◌, ◌+◌, ◌-◌, ℕ, List, length, take, drop, false, true, refl, ap, sym, ◌∙◌, subst, arith}
+use Rattle.std.proofs.Common.{◌≡◌, ◌≤◌, ◌+◌, ◌-◌, ℕ, length, take, drop, false, ap, sym, ◌∙◌, subst, arith}
 use Rattle.std.proofs.lemmas.Grind.{common_steps}
 use Rattle.resp_parse.specs.State.{State}
-use Rattle.resp_parse.specs.Counts.{Counts}
-use Rattle.resp_parse.specs.Resume.{fresh_of}
 use Rattle.resp_parse.specs.Invariant.{limits_of}
 use Rattle.resp_parse.proofs.BodiesInPieces.{drop-drop}
 use Rattle.resp_parse.proofs.Counting.{Bounded-from_kept}
 use Rattle.resp_parse.proofs.FaultOffsets.{Placed-working}
-use Rattle.resp_parse.proofs.Holding.{fed-fits}
 use Rattle.resp_parse.proofs.ParserStates.{StandsAfter-works, IsBetweenValues-same, IsBetweenValues-from_same}
 use Rattle.resp_parse.proofs.Skipping.{fresh-between, holds-skipped, counted-skipped, taken-skipped}
 use Rattle.resp_parse.proofs.decoder.Decoder.skip.Goals as goal

@@ -1,4 +1,4 @@
-use Rattle.std.proofs.Common.{◌≡◌, ◌+◌, arith, ap, refl}
+use Rattle.std.proofs.Common.{◌≡◌, ◌+◌, arith, ap}
 use Rattle.resp_parse.specs.Counts.{Counts}
 use Rattle.resp_parse.specs.OpenAggregates.{KeptIn, ClosedBy}
 use Rattle.resp_parse.proofs.Attaching.{added-closed, added-refused, closed-least_bytes, closed-potential}

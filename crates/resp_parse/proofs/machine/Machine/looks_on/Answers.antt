@@ -1,6 +1,7 @@
-use Rattle.std.proofs.Common.{◌≡◌, ◌<◌, ◌∷◌, None, length, rules, refl, sym, subst, ◌∙◌, ap, arith}
+use Rattle.std.proofs.Common.{◌≡◌, ◌<◌, ◌∷◌, [], None, length, rules, refl, sym, subst, arith}
+use Rattle.std.proofs.lemmas.Grind.{common_steps}
 use Rattle.resp_parse.specs.Resume.{IsLooked}
-use Rattle.resp_parse.proofs.HeadersInPieces.{line-waits, looked-on}
+use Rattle.resp_parse.proofs.HeadersInPieces.{empty-waits, line-waits, looked-on}
 use Rattle.resp_parse.proofs.machine.Machine.looks_on.Goals as goal
 
 pub returns-clause-waits : goal.returns-clause-waits
@@ -17,3 +18,8 @@ returns-clause-waits g c = λ _.
     rw whole
     (line-waits c.args.self.now first after none l c.in-Some-from_byte.field-0 (sym c.in-Some-from_byte.ensures.kind)
     (looked-on first after looked (rw whole at c.if-bytes-after-eq10.false)) _ refl)
+
+pub returns-in_default-clause-waits : goal.returns-in_default-clause-waits
+returns-in_default-clause-waits g c = λ _.
+    let none : c.args.bytes.now ≡ [] = grind (arith, common_steps, c.in_default.ensures.cases) in
+    empty-waits c.args.self.now c.args.bytes.now none c.requires.scanned

@@ -4,6 +4,3 @@ use Rattle.resp_parse.proofs.parser.Parser.take_value.Goals as goal
 
 pub returns-then-is_failed-clause-takes : goal.returns-then-is_failed-clause-takes
 returns-then-is_failed-clause-takes c = λ b h. absurd (StandsAfter-not_failed c.args.self.now b h (search rules))
-
-pub returns-in-Err-clause-takes : goal.returns-in-Err-clause-takes
-returns-in-Err-clause-takes c = λ b h. rw c.refusal.ensures.refusal (c.in-Err.ensures.takes b h).0
