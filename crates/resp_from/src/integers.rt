@@ -104,6 +104,14 @@ fn integer_of<T: IntegerFromRedisValue>(value: &Value) -> Result<T, ParsingError
     }
 }
 
+/// As [`integer_of`]; not inlined, so that a reply that is a number has no value to drop.
+#[inline(never)]
+fn written_integer<T: IntegerFromRedisValue>(value: Value) -> Result<T, ParsingError>
+    ensures decides { Decides (OfInteger T.of_number T.of_text value) result }
+{
+    integer_of(&value)
+}
+
 /// An integer is the reply's number, or the number that its text writes in decimal: `+`, or for
 /// signed types `-`, or no sign, and digits, without white space. At most one attribute is removed.
 /// Takes no memory.
@@ -122,7 +130,10 @@ impl<T: IntegerFromRedisValue> FromRedisValue for T {
 
     #[tactic(auto, using(crate::proofs::Conversions::decided))]
     fn from_redis_value(_alloc: Global, value: Value) -> Result<T, ParsingError> {
-        integer_of(&value)
+        match value {
+            Value::Int(number) => T::from_number(i64::from(number)),
+            other => written_integer(other),
+        }
     }
 
     #[tactic(auto, using(crate::proofs::Conversions::decided))]

@@ -30,7 +30,6 @@ fn utf8_text(bytes: Bytes) -> Result<Text, ParsingError>
 }
 
 /// The text of a reply, of which no attribute is removed.
-#[inline(never)]
 fn plain_text(alloc: Global, value: Value) -> Result<Text, ParsingError>
     ensures converts { Converts (IsText (out-Value value)) result }
 {
@@ -50,8 +49,16 @@ pub(crate) fn text_of(alloc: Global, value: Value) -> Result<Text, ParsingError>
 {
     match value {
         Value::BulkString(bytes) => utf8_text(bytes),
-        other => plain_text(alloc, strip_attribute(other)),
+        other => other_text(alloc, other),
     }
+}
+
+/// As [`text_of`]; not inlined, so that a bulk string has no other value to drop.
+#[inline(never)]
+fn other_text(alloc: Global, value: Value) -> Result<Text, ParsingError>
+    ensures converts { Converts (OfText value) result }
+{
+    plain_text(alloc, strip_attribute(value))
 }
 
 /// The text of a simple string, or of a bulk string of UTF-8; of any other value, none.
