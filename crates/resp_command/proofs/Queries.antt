@@ -2,9 +2,16 @@
 use Rattle.std.proofs.Common.{◌≡◌, ℕ, List, [], ◌∷◌, ◌++◌, length, refl, Option, None, Some, Result, Ok, Err, ap, sym}
 use Rattle.std.proofs.Common.{◌∙◌, subst, append-nil, arith}
 use Rattle.std.specs.Io.KnownBytes.{Appends, Consumes}
+use Rattle.std.specs.Prelude.{MatchOption}
 use Rattle.resp_value.specs.declared.value.Value.{Value, Nil}
+use Rattle.resp_value.specs.FirstError.{first_error}
+use Rattle.resp_errors.specs.Errors.{error_of_parsing}
+use Rattle.resp_errors.specs.declared.server_error.ServerError.{ServerError}
+use Rattle.resp_errors.specs.declared.parsing_error.ParsingError.{ParsingError}
+use Rattle.resp_errors.specs.declared.parsing_error.ParsingError.TheVariants as parsing
+use Rattle.resp_from.specs.Conversion.{RefusesIf, CallRefusesIf, ConvertsCall}
 use Rattle.resp_errors.specs.declared.redis_error.RedisError.{RedisError}
-use Rattle.resp_errors.specs.declared.redis_error.RedisError.TheVariants.{Io, Parse, OutOfMemory}
+use Rattle.resp_errors.specs.declared.redis_error.RedisError.TheVariants.{Io, Parse, Server, OutOfMemory}
 use Rattle.resp_errors.specs.declared.kinds.IoKind.TheVariants.{UnexpectedEof}
 use Rattle.resp_errors.specs.declared.parsing_error.ParsingError.TheVariants.{Fault}
 use Rattle.resp_command.specs.Call.{Asks, Call, CommandCall, Reconnects, Refuses, Routes, AnswersReply, Answers}
@@ -257,6 +264,19 @@ nothing_done {old = old} {new = new} same h = record {
   };
   of = h;
 }
+
+-- a refusal of a conversion, as the call's
+pub refused_call : (P : Type 0) (e : ParsingError) → RefusesIf e P → CallRefusesIf (error_of_parsing e) P
+refused_call P (parsing.Described text) h = (tt, h)
+refused_call P (parsing.Fault fault) h = absurd h
+refused_call P parsing.OutOfMemory h = tt
+
+-- what a reply makes that holds no server error
+pub harmless_answered : {X : Type 0} (Of : Value → X → Type 0) (v : Value) (r : Result X RedisError)
+    → first_error v ≡ None → ConvertsCall (Of v) r → Answers Of r v
+harmless_answered Of v r none h =
+    subst (λ (e : Option ServerError). MatchOption e (ConvertsCall (Of v) r) (λ error. r ≡ Err (Server error)))
+    (sym none) h
 
 -- the one reply is the result
 abbrev ReplyIs : Result Value RedisError → List Value → Type 0

@@ -2,9 +2,10 @@
 
 ghost use Rattle.std.specs.Prelude.{◌≡◌, ◌∷◌, [], ◌++◌, ◌↔◌, is_ok, if◌then◌else◌, IfOk, IfErr};
 ghost use Rattle.std.specs.Prelude.{OnOk, OnErr, IsTrue, true, false, length, take, ◌<◌, is_some};
-ghost use Rattle.std.specs.Prelude.{Err, MatchResult};
+ghost use Rattle.std.specs.Prelude.{Err, None, MatchResult};
 ghost use Rattle.std.specs.Iterator.{IsFiniteIterable};
 ghost use Rattle.resp_errors.specs.Memory.{OnlyMemory};
+ghost use Rattle.resp_value.specs.FirstError.{first_error};
 ghost use Rattle.resp_args.specs.Args.{Appends, IsFailure, IsRefusal, extended};
 ghost use Rattle.resp_command.specs.Command.{new_command};
 ghost use Rattle.resp_command.specs.Cursors.{HoldsCursor, with_cursor, with_cursor_arg};
@@ -27,7 +28,7 @@ use crate::subscriptions::is_subscription_name;
 use itoa::Buffer;
 use resp_args::{RedisWrite, ToRedisArgs};
 use resp_from::FromRedisValue;
-use resp_value::{RedisResult, Value};
+use resp_value::{RedisError, RedisResult, Value};
 use std::alloc::{AllocError, Global};
 use std::marker::Model;
 use std::mem;
@@ -343,12 +344,25 @@ impl Cmd {
     ///
     /// Fails with the first server error in the reply, with kind `Parse` where the reply doesn't
     /// convert, and where the connection's `req_command` fails.
+    // Not inlined, so that what is answered is written once, to the caller's place.
+    #[inline(never)]
     pub fn query<T: FromRedisValue>(&self, con: &mut dyn ConnectionLike) -> RedisResult<T>
         ensures { CommandQuery (connection con.old) (connection con.new) self.now T.of_value
             result }
     {
-        let reply = con.req_command(self)?;
-        answer(self.alloc, reply)
+        // By `match`, since `?` moves the reply and the value once more.
+        let reply = match con.req_command(self) {
+            Ok(reply) => reply,
+            Err(error) => return Err(error),
+        };
+        if may_hold_error(&reply) {
+            return answer(self.alloc, reply);
+        }
+        let value = match T::from_redis_value(self.alloc, reply) {
+            Ok(value) => value,
+            Err(error) => return Err(RedisError::from(error)),
+        };
+        Ok(value)
     }
 
     /// Sends the command, and asks of its reply only that it holds no server error.
@@ -416,11 +430,24 @@ impl Cmd {
     }
 }
 
+/// What any reply is answered with; not inlined, so that others aren't moved for it.
+#[inline(never)]
 fn answer<T: FromRedisValue>(alloc: Global, reply: Value) -> RedisResult<T>
     ensures { Answers T.of_value result reply }
 {
     let value = reply.extract_error()?;
     Ok(T::from_redis_value(alloc, value)?)
+}
+
+/// Whether a reply may hold a server error; false of those that are one line or one string, as most
+/// are.
+fn may_hold_error(reply: &Value) -> bool
+    ensures { result ≡ false → first_error reply.now ≡ None }
+{
+    !matches!(
+        reply,
+        Value::Nil | Value::Okay | Value::Int(_) | Value::SimpleString(_) | Value::BulkString(_)
+    )
 }
 
 impl RedisWrite for Cmd {
