@@ -68,7 +68,11 @@ impl<S: ReplySource> Inbox<S> {
     {
         let mut replies = Vec::new(alloc);
         for _ in 0..count {
-            replies.push(self.next_reply()?)?;
+            // By `match`, since `?` moves the reply once more.
+            match self.next_reply() {
+                Ok(reply) => replies.push(reply)?,
+                Err(error) => return Err(error),
+            }
         }
         Ok(replies)
     }

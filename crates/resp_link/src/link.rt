@@ -1,7 +1,6 @@
 //! A connection over bytes.
 
 ghost use Rattle.std.specs.Prelude.{◌≡◌, ◌↔◌, ◌+◌, [], true, false, Ok, IsOk, IfOk, IfErr, length};
-ghost use Rattle.std.specs.Prelude.{if◌then◌else◌};
 ghost use Rattle.resp_parse.specs.State.{IsBetweenValues, IsBetweenValues-prop};
 ghost use Rattle.resp_parse.specs.Limits.{AreLimits, RefusesLimits, IsDepthLimit, of_depth, usual};
 ghost use Rattle.resp_parse.specs.Limits.{depth_refused};
@@ -25,7 +24,6 @@ use resp_value::{ErrorKind, PushInfo, RedisError, RedisResult, Value};
 use std::alloc::Global;
 use std::collections::VecDeque;
 use std::io::{Read, Write};
-use std::mem;
 
 mod streaming;
 
@@ -276,47 +274,6 @@ impl<S: ReplySource, K: CommandSink> ByteLink<S, K> {
     // there: so one that returns early at a `?` leaves it broken, where what was sent may still be
     // answered, and a later call would take that answer for its own.
 
-    /// Sends the request of a command, and takes its reply where one is waited for.
-    fn exchange(&mut self, bytes: Vec<u8>, no_response: bool) -> RedisResult<Value>
-        requires { self.old.broken ≡ false }
-        ensures exchanged { Exchange
-            (connection_at S.source K.sink self.old)
-            (connection_at S.source K.sink self.new)
-            bytes.items (if no_response then 0 else 1) result (AnswersReply (λ reply. result ≡ Ok reply)) }
-    {
-        if no_response {
-            let answer = self.exchange_none(bytes.as_slice());
-            self.keep_room(bytes);
-            return answer;
-        }
-        let answer = self.exchange_one(bytes.as_slice());
-        self.keep_room(bytes);
-        answer
-    }
-
-    /// Keeps the room of a request for the next one, if it is no larger than is kept.
-    fn keep_room(&mut self, bytes: Vec<u8>)
-        ensures { connection_at S.source K.sink self.new ≡ connection_at S.source K.sink self.old }
-    {
-        if bytes.capacity() <= KEPT {
-            self.room = bytes;
-        }
-    }
-
-    /// Sends a request that needs no reply.
-    fn exchange_none(&mut self, bytes: &[u8]) -> RedisResult<Value>
-        requires { self.old.broken ≡ false }
-        ensures exchanged { Exchange
-            (connection_at S.source K.sink self.old)
-            (connection_at S.source K.sink self.new)
-            bytes.now 0 result (AnswersReply (λ reply. result ≡ Ok reply)) }
-    {
-        self.broken = true;
-        send_all(&mut self.sink, bytes)?;
-        self.broken = false;
-        Ok(Value::Nil)
-    }
-
     /// Sends a request and takes its reply.
     fn exchange_one(&mut self, bytes: &[u8]) -> RedisResult<Value>
         requires { self.old.broken ≡ false }
@@ -327,7 +284,10 @@ impl<S: ReplySource, K: CommandSink> ByteLink<S, K> {
     {
         self.broken = true;
         send_all(&mut self.sink, bytes)?;
-        let reply = self.inbox.next_reply()?;
+        let reply = match self.inbox.next_reply() {
+            Ok(reply) => reply,
+            Err(error) => return Err(error),
+        };
         self.broken = false;
         Ok(reply)
     }
@@ -370,10 +330,22 @@ impl<S: ReplySource, K: CommandSink> ConnectionLike for ByteLink<S, K> {
         if cmd.is_unanswered() {
             return Err(subscription());
         }
-        let mut bytes = mem::replace(&mut self.room, Vec::new(self.alloc));
-        bytes.clear();
-        cmd.write_packed_command(&mut bytes)?;
-        self.exchange(bytes, cmd.is_no_response())
+        self.room.clear();
+        cmd.write_packed_command(&mut self.room)?;
+        self.broken = true;
+        send_all(&mut self.sink, self.room.as_slice())?;
+        give_back(self.alloc, &mut self.room);
+        if cmd.is_no_response() {
+            self.broken = false;
+            return Ok(Value::Nil);
+        }
+        // By `match`, since `?` moves the reply once more.
+        let reply = match self.inbox.next_reply() {
+            Ok(reply) => reply,
+            Err(error) => return Err(error),
+        };
+        self.broken = false;
+        Ok(reply)
     }
 
     fn req_packed_command(&mut self, bytes: &[u8]) -> RedisResult<Value> {
@@ -416,6 +388,13 @@ impl<S: ReplySource, K: CommandSink> Unrouted for ByteLink<S, K> {
 impl<S: ReplySource, K: CommandSink> PushSource for ByteLink<S, K> {
     fn next_push(&mut self) -> RedisResult<PushInfo> {
         ByteLink::next_push(self)
+    }
+}
+
+/// Gives room back that is larger than is kept.
+fn give_back(alloc: Global, room: &mut Vec<u8>) {
+    if room.capacity() > KEPT {
+        *room = Vec::new(alloc);
     }
 }
 

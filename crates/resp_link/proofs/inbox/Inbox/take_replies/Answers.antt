@@ -8,25 +8,21 @@ loop-init g c =
     let none : c.new-replies.result.items ≡ [] = search rules in
     record { within = omega arith; rest = c.requires; so_far = rw none (receives_none _) }
 
-pub returns-in_err-next_reply-clause-replies : goal.returns-in_err-next_reply-clause-replies
-returns-in_err-next_reply-clause-replies g c =
-    let p = err_from_is_err_and c.from_residual.result c.from_residual.ensures.1 in
-    rw (p.1, p.2) (cannot_receive_after c.loop.counter 1 _ _ _ _ _ _ (omega arith) c.loop.invariant.so_far
-    (rw c.in_err-next_reply.was at c.next_reply.ensures.reply))
+pub returns-in-Err-clause-replies : goal.returns-in-Err-clause-replies
+returns-in-Err-clause-replies g c =
+    cannot_receive_after c.loop.counter 1 _ _ _ _ _ _ (omega arith) c.loop.invariant.so_far c.in-Err.ensures.reply
 
-pub returns-in_err-push-clause-replies : goal.returns-in_err-push-clause-replies
-returns-in_err-push-clause-replies g c =
-    let p = err_from_is_err_and c.from_residual-in_err-push.result c.from_residual-in_err-push.ensures.1 in
-    let reply = rw c.in_ok-next_reply.was at c.next_reply.ensures.reply in
+pub returns-in_err-push-in-Ok-clause-replies : goal.returns-in_err-push-in-Ok-clause-replies
+returns-in_err-push-in-Ok-clause-replies g c =
+    let p = err_from_is_err_and c.from_residual.result c.from_residual.ensures.1 in
     rw (p.1, p.2) (no_room_after (c.loop.counter + 1) _ _ _ _ (omega arith)
-    (receives_both c.loop.counter 1 _ _ _ _ _ c.loop.invariant.so_far reply))
+    (receives_both c.loop.counter 1 _ _ _ _ _ c.loop.invariant.so_far c.in-Ok.ensures.reply))
 
 pub loop-preserved : goal.loop-preserved
 loop-preserved g c =
-    let reply = rw c.in_ok-next_reply.was at c.next_reply.ensures.reply in
-    let kept : c.push.new.self.items ≡ c.loop.replies.items ++ c.in_ok-next_reply.field-0 ∷ [] = search rules in
+    let kept : c.push.new.self.items ≡ c.loop.replies.items ++ c.in-Ok.reply ∷ [] = search rules in
     record {
       within = omega arith;
-      rest = (rw c.in_ok-next_reply.was at c.next_reply.ensures.rest);
-      so_far = rw kept (receives_both c.loop.counter 1 _ _ _ _ _ c.loop.invariant.so_far reply);
+      rest = c.in-Ok.ensures.rest;
+      so_far = rw kept (receives_both c.loop.counter 1 _ _ _ _ _ c.loop.invariant.so_far c.in-Ok.ensures.reply);
     }

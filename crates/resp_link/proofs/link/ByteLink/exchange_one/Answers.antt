@@ -8,16 +8,12 @@ returns-in_err-send_all g c =
     let p = err_from_is_err_and c.from_residual.result c.from_residual.ensures.1 in
     record { exchanged = rw (p.1, p.2) (unsent _ _ _ _ _ 1 _ _ (rw c.in_err-send_all.was at c.send_all.ensures)) }
 
-pub returns-in_err-reply : goal.returns-in_err-reply
-returns-in_err-reply g c =
-    let p = err_from_is_err_and c.from_residual-in_err-reply.result c.from_residual-in_err-reply.ensures.1 in
-    record {
-      exchanged = rw (p.1, p.2) (unanswered _ _ _ _ _ _ 1 _ _ (rw c.in_ok-send_all.was at c.send_all.ensures)
-          (rw c.in_err-reply.was at c.next_reply.ensures.reply));
-    }
+pub returns-in-Err : goal.returns-in-Err
+returns-in-Err g c = record {
+  exchanged = unanswered _ _ _ _ _ _ 1 _ _ (rw c.in_ok-send_all.was at c.send_all.ensures) c.in-Err.ensures.reply;
+}
 
 pub returns : goal.returns
 returns g c = record {
-  exchanged = replied _ _ _ _ _ _ 1 _ _ _ (rw c.in_ok-send_all.was at c.send_all.ensures)
-      (rw c.in_ok-reply.was at c.next_reply.ensures.reply) refl;
+  exchanged = replied _ _ _ _ _ _ 1 _ _ _ (rw c.in_ok-send_all.was at c.send_all.ensures) c.in-Ok.ensures.reply refl;
 }
