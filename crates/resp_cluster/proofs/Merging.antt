@@ -1,6 +1,8 @@
 -- What replies make together, and when they make nothing.
 use Rattle.std.proofs.Common.{◌≡◌, ℕ, ◌+◌, ◌<◌, List, [], ◌∷◌, ◌++◌, map, All, length, take, drop, get_or, refl, sym, ap, ◌∙◌, subst, arith}
-use Rattle.std.proofs.Common.{Option, None, Some, Result, Ok, Err, MatchOption, ℤ, ◌+ℤ◌, pos, FitsSigned, w64, rules, inl, inr, take-append-drop, length-append}
+use Rattle.std.proofs.Common.{Bool, true, false, cond, Option, None, Some, Result, Ok, Err, MatchOption, ℤ, ◌+ℤ◌, pos, FitsSigned, w64, rules, inl, inr, take-append-drop, length-append, to_z, of_z, to_z-of_z}
+use Rattle.std.specs.Int.{int_min}
+use Rattle.std.specs.Prelude.{fold, int_lt}
 use Rattle.std.proofs.lemmas.Bool.{cases_lt}
 use Rattle.std.proofs.lemmas.List.{take-append-le, take-map, drop_more, take_more, take_all, map_push}
 use Rattle.std.proofs.lemmas.List.Sums.{fold_push}
@@ -12,7 +14,7 @@ use Rattle.resp_errors.specs.declared.redis_error.RedisError.TheVariants.{Server
 use Rattle.resp_errors.specs.declared.server_error.ServerError.{ServerError}
 use Rattle.resp_from.proofs.TopLayer.{out-Array}
 use Rattle.resp_cluster.specs.Gathering.{Enough}
-use Rattle.resp_cluster.specs.Merges.{IsFirstError, MergesSum, MergesValues, first_error_in, sum_of}
+use Rattle.resp_cluster.specs.Merges.{IsFirstError, MergesLeast, MergesSum, MergesValues, first_error_in, sum_of}
 use Rattle.resp_cluster.proofs.Gathers.{as_many}
 
 -- ---- the first server's error in replies
@@ -53,13 +55,13 @@ module _ (replies left left' : List Value) (reply : Value) (took : left ≡ repl
 
 -- ---- replies of one kind
 
-head_is : {x y : Value} {xs ys : List Value} → x ∷ xs ≡ y ∷ ys → x ≡ y
+pub head_is : {x y : Value} {xs ys : List Value} → x ∷ xs ≡ y ∷ ys → x ≡ y
 head_is {x} {y} {xs} {ys} e = cc
 
-tail_is : {x y : Value} {xs ys : List Value} → x ∷ xs ≡ y ∷ ys → xs ≡ ys
+pub tail_is : {x y : Value} {xs ys : List Value} → x ∷ xs ≡ y ∷ ys → xs ≡ ys
 tail_is {x} {y} {xs} {ys} e = cc
 
-some_none : {x : Value} {xs : List Value} → x ∷ xs ≡ [] → ⊥
+pub some_none : {x : Value} {xs : List Value} → x ∷ xs ≡ [] → ⊥
 some_none {x} {xs} e = cc
 
 module _ {A : Type 0} (make : A → Value) where
@@ -78,19 +80,19 @@ module _ {A : Type 0} (make : A → Value) where
   same_of one (x ∷ xs) (y ∷ ys) e =
       ap (λ z. z ∷ xs) (one x y (head_is e)) ∙ ap (λ zs. y ∷ zs) (same_of one xs ys (tail_is e))
 
-out-Int : (n : ℤ) → out-Value (Int n) ≡ Value-F.Int n
+pub out-Int : (n : ℤ) → out-Value (Int n) ≡ Value-F.Int n
 out-Int n = search (rules, the_lemmas)
 
 same_array : (layer : Value-F Value) (xs ys : List Value) → layer ≡ Value-F.Array xs → layer ≡ Value-F.Array ys → xs ≡ ys
 same_array layer xs ys one other = cc
 
-array_is : (xs ys : List Value) → Array xs ≡ Array ys → xs ≡ ys
+pub array_is : (xs ys : List Value) → Array xs ≡ Array ys → xs ≡ ys
 array_is xs ys e = same_array (out-Value (Array xs)) xs ys (out-Array xs) (ap out-Value e ∙ out-Array ys)
 
 same_int : (layer : Value-F Value) (n m : ℤ) → layer ≡ Value-F.Int n → layer ≡ Value-F.Int m → n ≡ m
 same_int layer n m one other = cc
 
-int_is : (n m : ℤ) → Int n ≡ Int m → n ≡ m
+pub int_is : (n m : ℤ) → Int n ≡ Int m → n ≡ m
 int_is n m e = same_int (out-Value (Int n)) n m (out-Int n) (ap out-Value e ∙ out-Int m)
 
 -- ---- the values of arrays
@@ -105,6 +107,21 @@ no_values groups places replies are unlike answer m =
     enough : Enough m.groups places
     enough node inside = ap length (sym (m.placed node inside)) ∙ as_many node places m.values places m.whole
 
+-- the replies before this one are made of these
+module _ {A : Type 0} (make : A → Value) (replies : List Value) (at : ℕ) (reply : Value) (within : at < length replies)
+    (there : reply ≡ get_or replies at reply) (made : List A) (so_far : take at replies ≡ map make made) where
+  pub differs_at : ((a : A) → reply ≡ make a → ⊥) → (every : List A) → replies ≡ map make every → ⊥
+  differs_at differs every all = others make made reply (drop (at + 1) replies) differs every (split ∙ all)
+    where
+      split : map make made ++ reply ∷ drop (at + 1) replies ≡ replies
+      split = ap (λ l. l ++ reply ∷ drop (at + 1) replies) (sym so_far)
+          ∙ ap (λ r. take at replies ++ r ∷ drop (at + 1) replies) there
+          ∙ ap (λ l. take at replies ++ l) (sym (drop_more replies at reply within)) ∙ take-append-drop at replies
+
+  pub one_more : (a : A) → reply ≡ make a → take (at + 1) replies ≡ map make (made ++ a ∷ [])
+  one_more a is = take_more replies at reply within ∙ ap (λ l. l ++ get_or replies at reply ∷ []) so_far
+      ∙ ap (λ r. map make made ++ r ∷ []) (sym there ∙ is) ∙ sym (map_push make made a)
+
 -- ---- the sum of numbers
 
 pub record Summed (replies : List Value) (sum : ℤ) : Type 0 where
@@ -116,17 +133,11 @@ pub record Summed (replies : List Value) (sum : ℤ) : Type 0 where
 module _ (replies : List Value) (at : ℕ) (reply : Value) (sum : ℤ) (within : at < length replies) (there : reply ≡ get_or replies at reply)
     (so_far : Summed (take at replies) sum) where
   pub not_number : ((n : ℤ) → reply ≡ Int n → ⊥) → (answer : Value) → MergesSum replies answer → ⊥
-  not_number differs answer m = others Int so_far.numbers reply (drop (at + 1) replies) differs m.numbers (split ∙ m.all)
-    where
-      split : map Int so_far.numbers ++ reply ∷ drop (at + 1) replies ≡ replies
-      split = ap (λ l. l ++ reply ∷ drop (at + 1) replies) (sym so_far.all)
-          ∙ ap (λ r. take at replies ++ r ∷ drop (at + 1) replies) there
-          ∙ ap (λ l. take at replies ++ l) (sym (drop_more replies at reply within)) ∙ take-append-drop at replies
+  not_number differs answer m = differs_at Int replies at reply within there so_far.numbers so_far.all differs m.numbers m.all
 
   module _ (number : ℤ) (is : reply ≡ Int number) where
     all' : take (at + 1) replies ≡ map Int (so_far.numbers ++ number ∷ [])
-    all' = take_more replies at reply within ∙ ap (λ l. l ++ get_or replies at reply ∷ []) so_far.all
-        ∙ ap (λ r. map Int so_far.numbers ++ r ∷ []) (sym there ∙ is) ∙ sym (map_push Int so_far.numbers number)
+    all' = one_more Int replies at reply within there so_far.numbers so_far.all number is
 
     sum_is' : sum +ℤ number ≡ sum_of (so_far.numbers ++ number ∷ [])
     sum_is' = ap (λ n. n +ℤ number) so_far.sum_is ∙ sym (fold_push (λ total n. total +ℤ n) (pos 0) so_far.numbers number)
@@ -151,3 +162,42 @@ module _ (replies : List Value) (at : ℕ) (reply : Value) (sum : ℤ) (within :
         first : take (at + 1) m.numbers ≡ so_far.numbers ++ number ∷ []
         first = same_of Int int_is (take (at + 1) m.numbers) (so_far.numbers ++ number ∷ [])
             (sym (take-map Int (at + 1) m.numbers) ∙ ap (take (at + 1)) (sym m.all) ∙ all')
+
+-- ---- the least of numbers
+
+-- so many of the others were looked at
+pub record LeastSoFar (replies others : List Value) (seen : ℕ) (least : ℤ) : Type 0 where
+  pub first : ℤ
+  pub numbers : List ℤ
+  pub begins : replies ≡ Int first ∷ others
+  pub all : take seen others ≡ map Int numbers
+  pub least_is : least ≡ fold int_min first numbers
+  pub fits : FitsSigned w64 least
+
+fits_least : (a b : ℤ) → FitsSigned w64 a → FitsSigned w64 b → FitsSigned w64 (int_min a b)
+fits_least a b a_fits b_fits = by (int_lt b a)
+  where
+    by : (less : Bool) → FitsSigned w64 (cond less b a)
+    by true = b_fits
+    by false = a_fits
+
+module _ (replies left : List Value) (at : ℕ) (reply : Value) (least : ℤ) (within : at < length left)
+    (there : reply ≡ get_or left at reply) (so_far : LeastSoFar replies left at least) where
+  pub other_differs : ((n : ℤ) → reply ≡ Int n → ⊥) → (answer : Value) → MergesLeast replies answer → ⊥
+  other_differs differs answer m =
+      differs_at Int left at reply within there so_far.numbers so_far.all differs m.others (tail_is (sym so_far.begins ∙ m.all))
+
+  module _ (number : ℤ) (is : reply ≡ Int number) (fits_one : FitsSigned w64 number) where
+    fits_now : FitsSigned w64 (int_min least number)
+    fits_now = fits_least least number so_far.fits fits_one
+
+    pub next_least : (result : ℤ) → result ≡ int_min least number → LeastSoFar replies left (at + 1) (to_z w64 (of_z w64 result))
+    next_least result result_is = subst (LeastSoFar replies left (at + 1))
+        (sym (to_z-of_z {w = w64} (subst (FitsSigned w64) (sym result_is) fits_now) ∙ result_is)) (record {
+          first = so_far.first;
+          numbers = so_far.numbers ++ number ∷ [];
+          begins = so_far.begins;
+          all = one_more Int left at reply within there so_far.numbers so_far.all number is;
+          least_is = ap (λ n. int_min n number) so_far.least_is ∙ sym (fold_push int_min so_far.first so_far.numbers number);
+          fits = fits_now;
+        })

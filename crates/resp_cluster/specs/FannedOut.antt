@@ -1,6 +1,7 @@
 -- A command that goes to several nodes of a cluster.
-use Rattle.std.specs.Prelude.{◌≡◌, ◌≢◌, Bool, true, false, ◌&&◌, List, [], ◌∷◌, length, replicate, option_map, Option, None, Some, codes}
-use Rattle.std.specs.List.{flat_map, range_with_len}
+use Rattle.std.specs.Prelude.{◌≡◌, ◌≢◌, Bool, true, false, ◌&&◌, List, [], ◌∷◌, length, replicate, option_map, Option, None, Some, is_none, codes}
+use Rattle.std.specs.List.{find, flat_map, range_with_len}
+use Rattle.resp_value.specs.FirstError.{first_error}
 use Rattle.resp_value.specs.declared.value.Value.{Value, Array, out-Value}
 use Rattle.resp_value.specs.declared.value.Value.TheOpen.{Value-F}
 use Rattle.resp_errors.specs.declared.kinds.ErrorKind.TheVariants as kind
@@ -20,7 +21,7 @@ use Rattle.resp_routing.specs.declared.routes.Route.{Route}
 use Rattle.resp_routing.specs.declared.routes.Route.TheVariants.{Slot, Keyless}
 use Rattle.resp_cluster.specs.Cluster.{Cluster, Readies, no_node, routed_args}
 use Rattle.resp_cluster.specs.Gathered.{Gathered, RefusedGroup}
-use Rattle.resp_cluster.specs.Merges.{MakesError, MergesSum, first_error_in}
+use Rattle.resp_cluster.specs.Merges.{MergesLeast, MergesSum, first_error_in, why_none}
 use Rattle.resp_cluster.specs.Primaries.{AreNodes, ArePrimaries}
 use Rattle.resp_cluster.specs.Spread.{SendsGroup}
 use Rattle.resp_cluster.specs.declared.node.NodeAddr.{NodeAddr}
@@ -35,9 +36,16 @@ names_several to = false
 -- replies are combined by a response policy
 abbrev pub is_combined : Option ResponsePolicy → Bool
 is_combined None = true
+is_combined (Some response.OneSucceeded) = true
 is_combined (Some response.AllSucceeded) = true
+is_combined (Some response.AggMin) = true
 is_combined (Some response.AggSum) = true
 is_combined makes = false
+
+-- one reply that is no error is enough
+abbrev pub one_is_enough : Option ResponsePolicy → Bool
+one_is_enough (Some response.OneSucceeded) = true
+one_is_enough makes = false
 
 -- the request policy of a route, where it has one
 abbrev pub policy_of : Route → Option RequestPolicy
@@ -73,12 +81,27 @@ pub record IsFirst (replies : List Value) (answer : Value) : Type 0 where
   pub rest : List Value
   pub all : replies ≡ answer ∷ rest
 
--- what replies make by a response policy, where that is of no other kind
+-- a reply is no error, and holds none
+abbrev pub succeeds : Value → Bool
+succeeds reply = is_none (first_error reply)
+
+-- what replies make by a response policy, where that is of no other kind and none of them is an error
+abbrev pub Makes : Option ResponsePolicy → List Value → Value → Type 0
+Makes None replies answer = answer ≡ Array (flat_map items_of replies)
+Makes (Some response.AllSucceeded) replies answer = IsFirst replies answer
+Makes (Some response.AggMin) replies answer = MergesLeast replies answer
+Makes (Some response.AggSum) replies answer = MergesSum replies answer
+Makes makes replies answer = ⊥
+
+-- the first that succeeds, where one is enough, or what they make, where none of them is an error
 abbrev pub Combines : Option ResponsePolicy → List Value → Value → Type 0
-Combines None replies answer = answer ≡ Array (flat_map items_of replies)
-Combines (Some response.AllSucceeded) replies answer = IsFirst replies answer
-Combines (Some response.AggSum) replies answer = MergesSum replies answer
-Combines makes replies answer = ⊥
+Combines (Some response.OneSucceeded) replies answer = find succeeds replies ≡ Some answer
+Combines makes replies answer = (first_error_in replies ≡ None) × Makes makes replies answer
+
+-- they make nothing, and the error is the first server's error in them, or says so where they hold none
+pub record CannotCombine (makes : Option ResponsePolicy) (replies : List Value) (e : RedisError) : Type 0 where
+  pub none : (answer : Value) → Combines makes replies answer → ⊥
+  pub says : e ≡ why_none (first_error_in replies)
 
 module _ {L : Type 0} (of_link : L → Connection) where
   -- the nodes that a command is sent to, by a fresh map
@@ -102,7 +125,6 @@ module _ {L : Type 0} (of_link : L → Connection) where
     pub some : nodes ≢ []
     pub goes : FansTo c makes old ready nodes
     pub sent : SentToEach c nodes ready replies new
-    pub no_error : first_error_in replies ≡ None
     pub combined : Combines makes replies answer
 
   -- a command to several nodes is refused with this error
@@ -121,4 +143,4 @@ module _ {L : Type 0} (of_link : L → Connection) where
     -- each node replied, and the replies make no answer
     uncombined : (makes : Option ResponsePolicy) (ready : Cluster L) (nodes : List NodeAddr) (replies : List Value)
         → FansTo c makes old ready nodes → SentToEach c nodes ready replies new
-        → (e ≢ OutOfMemory → MakesError (Combines makes replies) replies e) → FanOutRefused c old new e
+        → (e ≢ OutOfMemory → CannotCombine makes replies e) → FanOutRefused c old new e

@@ -40,6 +40,12 @@ abbrev pub is_link_command : Args → Bool
 is_link_command [] = false
 is_link_command (name ∷ args) = is_link_name name
 
+-- a command of this name, in letters of either case, without arguments
+abbrev pub is_alone : List ℕ → Args → Bool
+is_alone name [] = false
+is_alone name (word ∷ []) = str_eq_ignore_ascii_case word name
+is_alone name (word ∷ arg ∷ args) = false
+
 -- the bytes of arguments, where a cursor counts as 0
 abbrev pub as_bytes : List (Arg (List ℕ)) → Args
 as_bytes shown = map (bytes_of (codes "0")) shown

@@ -1,6 +1,6 @@
 -- What the replies to the parts of a command make together.
-use Rattle.std.specs.Prelude.{◌≡◌, ℕ, ℤ, pos, ◌+ℤ◌, ◌<◌, List, fold, map, length, take, All, FitsSigned, codes, Option, None, Some}
-use Rattle.std.specs.Int.{w64}
+use Rattle.std.specs.Prelude.{◌≡◌, ℕ, ℤ, pos, ◌+ℤ◌, ◌<◌, List, ◌∷◌, fold, map, length, take, All, FitsSigned, codes, Option, None, Some}
+use Rattle.std.specs.Int.{int_min, w64}
 use Rattle.resp_value.specs.FirstError.{first_error, first_some}
 use Rattle.resp_value.specs.declared.value.Value.{Value, Array, Int, Okay}
 use Rattle.resp_errors.specs.declared.kinds.ErrorKind.TheVariants as kind
@@ -32,6 +32,13 @@ pub record MergesSum (replies : List Value) (answer : Value) : Type 0 where
   pub fits : (n : ℕ) → FitsSigned w64 (sum_of (take n numbers))
   pub answered : answer ≡ Int (sum_of numbers)
 
+-- the least of numbers, where there are any
+pub record MergesLeast (replies : List Value) (answer : Value) : Type 0 where
+  pub first : ℤ
+  pub others : List ℤ
+  pub all : replies ≡ map Int (first ∷ others)
+  pub answered : answer ≡ Int (fold int_min first others)
+
 -- OK, where all are
 pub record MergesOkay (replies : List Value) (answer : Value) : Type 0 where
   pub all : All (λ reply. reply ≡ Okay) replies
@@ -55,6 +62,11 @@ other_replies = General kind.UnexpectedReturnType (codes "the parts of a command
 pub record MakesNone (Makes : Value → Type 0) (e : RedisError) : Type 0 where
   pub none : (answer : Value) → Makes answer → ⊥
   pub says : e ≡ other_replies
+
+-- why replies make no answer: the first server's error in them, if there is one
+abbrev pub why_none : Option ServerError → RedisError
+why_none (Some error) = Server error
+why_none None = other_replies
 
 -- the first server's error in replies is this
 pub record IsFirstError (replies : List Value) (e : RedisError) : Type 0 where

@@ -1,8 +1,11 @@
 //! A cluster's links as one connection.
 
-ghost use Rattle.std.specs.Prelude.{◌≡◌, ◌∷◌, [], All, IfOk, false, length};
+ghost use Rattle.std.specs.Prelude.{◌≡◌, ◌+◌, ◌∷◌, ◌++◌, [], ℕ, All, IfOk, List, false, length};
+ghost use Rattle.resp_command.specs.Call.{AnswersFrom, Call};
+ghost use Rattle.resp_command.specs.Parted.{multi_bytes};
 ghost use Rattle.resp_cluster.specs.Gathered.{request_of};
-ghost use Rattle.resp_cluster.specs.Routing.{RepliedTo, WasSentWhole, cluster_connection};
+ghost use Rattle.resp_cluster.specs.Routing.{RepliedTo, cluster_connection};
+ghost use Rattle.resp_cluster.specs.Transactions.{PackedTransaction, RequestTogether};
 
 use crate::cluster_link::ClusterLink;
 use crate::gather::SendGroups;
@@ -26,6 +29,8 @@ impl<N: Nodes> ClusterLink<N> {
         ensures answered { IfOk result (λ replies. RepliedTo N.Link.connection bytes.now
             (length commands.now) replies.items self.new) }
         ensures counted { IfOk result (λ replies. length replies.items ≡ length commands.now) }
+        ensures transaction { (rest : List ℕ) → bytes.now ≡ multi_bytes ++ rest → RequestTogether
+            N.Link.connection commands.now bytes.now self.old self.new result }
     {
         if bytes.starts_with(MULTI) {
             return self.req_transaction(commands, bytes);
@@ -53,7 +58,7 @@ impl<N: Nodes> ClusterLink<N> {
 /// A connection that routes: a command goes by [`ClusterLink::req_routed`], and so does a packed
 /// one. Several packed commands go as [`ClusterLink::req_commands`] sends them, and a transaction to
 /// one node. Bytes that aren't packed commands, so many as replies are wanted, are refused with kind
-/// `Client`.
+/// `Client`, and so is a transaction that doesn't end with `EXEC`.
 impl<N: Nodes> ConnectionLike for ClusterLink<N> {
     ghost connection = { cluster_connection N.Link.connection };
 
@@ -71,7 +76,14 @@ impl<N: Nodes> ConnectionLike for ClusterLink<N> {
         bytes: &[u8],
         offset: usize,
         count: usize,
-    ) -> RedisResult<Vec<Value>> {
+    ) -> RedisResult<Vec<Value>>
+        ensures call { Call (cluster_connection N.Link.connection self.old)
+            (cluster_connection N.Link.connection self.new) ⊥ ⊥ bytes.now (offset + count) result
+            (AnswersFrom (λ vs. vs.items) offset result) }
+        ensures counted { IfOk result (λ vs. length vs.items ≡ count) }
+        ensures transaction { (rest : List ℕ) → bytes.now ≡ multi_bytes ++ rest → PackedTransaction
+            N.Link.connection bytes.now (offset + count) offset self.old self.new result }
+    {
         let Some(wanted) = offset.checked_add(count) else {
             return Err(too_many());
         };

@@ -4,7 +4,7 @@ ghost use Rattle.std.specs.Prelude.{◌≡◌, ◌∷◌, [], IfNone, IfSome};
 ghost use Rattle.resp_command.specs.ShownArgs.{args_left};
 ghost use Rattle.resp_cluster.specs.Cluster.{routed_args};
 ghost use Rattle.resp_cluster.specs.LinkCommands.{is_link_command, is_of_modes, is_of_sessions};
-ghost use Rattle.resp_cluster.specs.LinkCommands.{as_bytes, is_of_transactions};
+ghost use Rattle.resp_cluster.specs.LinkCommands.{as_bytes, is_alone, is_of_transactions};
 
 use resp_command::{Arg, ArgsIter, Cmd};
 
@@ -19,12 +19,17 @@ pub(crate) fn is_link_command(command: &Cmd) -> bool
     }
 }
 
-/// Whether this is `EXEC`.
-pub(crate) fn is_exec(command: &Cmd) -> bool {
+/// Whether this is a command of this name, in letters of either case, without arguments.
+pub(crate) fn is_alone(command: &Cmd, name: &[u8]) -> bool
+    ensures { result ≡ is_alone name.now (routed_args command.now) }
+{
     let mut shown = command.args_iter();
+    let Some(word) = next_arg(&mut shown) else {
+        return false;
+    };
     match next_arg(&mut shown) {
-        Some(name) => name.eq_ignore_ascii_case(b"EXEC") && shown.len() == 0,
-        None => false,
+        Some(_) => false,
+        None => word.eq_ignore_ascii_case(name),
     }
 }
 

@@ -9,9 +9,9 @@ ghost use Rattle.resp_errors.specs.declared.redis_error.RedisError.TheVariants a
 ghost use Rattle.resp_cluster.specs.FannedOut.{items_of};
 ghost use Rattle.resp_cluster.specs.Gathered.{of_node};
 ghost use Rattle.resp_cluster.specs.Gathering.{Enough, from_last};
-ghost use Rattle.resp_cluster.specs.Merges.{MakesError, MakesNone, Merges, MergesOkay, MergesSum};
-ghost use Rattle.resp_cluster.specs.Merges.{MergesValues, first_error_in, other_replies, sum_of};
-ghost use Rattle.resp_cluster.specs.Merges.{IsFirstError};
+ghost use Rattle.resp_cluster.specs.Merges.{IsFirstError, MakesError, MakesNone, Merges};
+ghost use Rattle.resp_cluster.specs.Merges.{MergesLeast, MergesOkay, MergesSum, MergesValues};
+ghost use Rattle.resp_cluster.specs.Merges.{first_error_in, other_replies, sum_of};
 ghost use Rattle.resp_value.specs.declared.value.Value.{Array, Int, Value};
 
 use crate::gather::in_places;
@@ -141,6 +141,21 @@ pub(crate) fn sum_of(replies: &[Value]) -> RedisResult<Value>
         };
     }
     Ok(Value::Int(sum))
+}
+
+/// The least of numbers.
+pub(crate) fn least_of(replies: &[Value]) -> RedisResult<Value>
+    ensures merged { IfOk result (MergesLeast replies.now) }
+    ensures refused { IfErr result (MakesNone (MergesLeast replies.now)) }
+{
+    let Some((first, others)) = replies.split_first() else {
+        return Err(unexpected());
+    };
+    let mut least = number_of(first)?;
+    for reply in others {
+        least = least.min(number_of(reply)?);
+    }
+    Ok(Value::Int(least))
 }
 
 /// The number that a reply is.

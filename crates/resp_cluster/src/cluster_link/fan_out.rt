@@ -1,19 +1,20 @@
 //! A command that goes to several nodes of a cluster.
 
-ghost use Rattle.std.specs.Prelude.{◌≡◌, ◌≢◌, ◌⊎◌, ◌&&◌, None, true, IfErr, IfOk, length, replicate};
-ghost use Rattle.std.specs.List.{range_with_len};
+ghost use Rattle.std.specs.Prelude.{◌≡◌, ◌≢◌, ◌⊎◌, ◌&&◌, None, Some, true, IfErr, IfOk, length, replicate};
+ghost use Rattle.std.specs.List.{find, range_with_len};
 ghost use Rattle.resp_errors.specs.declared.redis_error.RedisError.TheVariants as form;
-ghost use Rattle.resp_cluster.specs.FannedOut.{AreNamed, CannotFanOut, Combines, FanOutCall};
-ghost use Rattle.resp_cluster.specs.FannedOut.{FanOutRefused, FansOut, SentToEach, is_combined};
-ghost use Rattle.resp_cluster.specs.FannedOut.{names_several, not_several, policy_of};
+ghost use Rattle.resp_cluster.specs.FannedOut.{AreNamed, CannotCombine, CannotFanOut, Combines};
+ghost use Rattle.resp_cluster.specs.FannedOut.{FanOutCall, FanOutRefused, FansOut, Makes, SentToEach};
+ghost use Rattle.resp_cluster.specs.FannedOut.{is_combined, names_several, not_several};
+ghost use Rattle.resp_cluster.specs.FannedOut.{one_is_enough, policy_of, succeeds};
 ghost use Rattle.resp_cluster.specs.Gathered.{RefusedGroup};
-ghost use Rattle.resp_cluster.specs.Merges.{MakesError, first_error_in};
+ghost use Rattle.resp_cluster.specs.Merges.{MakesNone, first_error_in, why_none};
 ghost use Rattle.resp_cluster.specs.Spread.{SendsGroup};
 
 use super::{ClusterLink, no_node};
 use crate::gather::gather;
 use crate::links::Nodes;
-use crate::merge::{joined, sum_of, unexpected, without_errors};
+use crate::merge::{joined, least_of, sum_of, unexpected, without_errors};
 use crate::node::NodeAddr;
 use crate::slot_map::SlotMap;
 use resp_command::Cmd;
@@ -35,18 +36,21 @@ impl<N: Nodes> ClusterLink<N> {
     /// [`ResponsePolicy`]:
     ///
     /// - `AllSucceeded`, as of `FLUSHALL`, `SCRIPT LOAD` and `CONFIG SET`: the first reply;
+    /// - `OneSucceeded`, as of `SCRIPT KILL`: the first reply that is no error;
+    /// - `AggMin`, as of `WAIT`: the least number;
     /// - `AggSum`, as of `DBSIZE`: the sum;
     /// - none, as of `KEYS`: one array of the items of all, where a reply that is no array is an item.
     ///
     /// Refused, with nothing sent and nothing changed: with kind `Client` a command that goes to one
-    /// node, or whose replies are combined otherwise (`INFO`, `WAIT`, `SCRIPT EXISTS`), which
+    /// node, or whose replies are combined otherwise (`INFO`, `SCRIPT EXISTS`), which
     /// [`ClusterLink::link_to`] sends to a node; and one without a route, as
     /// [`ClusterLink::req_routed`] refuses it. Refused unsent where the map has no such node, with kind
     /// `ClusterConnectionNotFound`.
     ///
     /// Where a node isn't reached or a call over its link fails, the error is answered: the nodes before
     /// it have run the command. Where all have replied, the first server's error in the replies is
-    /// answered, or kind `UnexpectedReturnType` where they make no such answer.
+    /// answered, but where one success is enough; or kind `UnexpectedReturnType` where they make no
+    /// such answer.
     pub fn req_fan_out(&mut self, command: &Cmd) -> RedisResult<Value>
         ensures answered { IfOk result (λ answer. FanOutCall N.Link.connection command.now self.old
             answer self.new) }
@@ -150,7 +154,13 @@ fn is_combined(makes: &Option<ResponsePolicy>) -> bool
     ensures { result ≡ is_combined makes.now }
 {
     match makes {
-        None | Some(ResponsePolicy::AllSucceeded | ResponsePolicy::AggSum) => true,
+        None
+        | Some(
+            ResponsePolicy::OneSucceeded
+            | ResponsePolicy::AllSucceeded
+            | ResponsePolicy::AggMin
+            | ResponsePolicy::AggSum,
+        ) => true,
         Some(_) => false,
     }
 }
@@ -171,17 +181,59 @@ fn combined(
     replies: Vec<Value>,
 ) -> RedisResult<Value>
     ensures combined { IfOk result (Combines makes.now replies.items) }
-    ensures passed { IfOk result (λ answer. first_error_in replies.items ≡ None) }
     ensures refused { IfErr result (λ e. e ≢ form.OutOfMemory
-        → MakesError (Combines makes.now replies.items) replies.items e) }
+        → CannotCombine makes.now replies.items e) }
 {
+    if one_is_enough(makes) {
+        return first_success(replies);
+    }
     let replies = without_errors(alloc, replies)?;
+    made(alloc, makes, replies)
+}
+
+/// Whether one reply that is no error is enough.
+fn one_is_enough(makes: &Option<ResponsePolicy>) -> bool
+    ensures { result ≡ one_is_enough makes.now }
+{
+    matches!(makes, Some(ResponsePolicy::OneSucceeded))
+}
+
+/// The first reply that is no error, or else the first error.
+fn first_success(replies: Vec<Value>) -> RedisResult<Value>
+    ensures first { IfOk result (λ answer. find succeeds replies.items ≡ Some answer) }
+    ensures none { IfErr result (λ e. find succeeds replies.items ≡ None) }
+    ensures says { IfErr result (λ e. e ≡ why_none (first_error_in replies.items)) }
+{
+    let mut failure = None;
+    for reply in replies {
+        match reply.extract_error() {
+            Ok(success) => return Ok(success),
+            Err(error) => {
+                if failure.is_none() {
+                    failure = Some(error);
+                }
+            }
+        }
+    }
+    match failure {
+        Some(error) => Err(error),
+        None => Err(unexpected()),
+    }
+}
+
+/// What replies without errors make by a response policy.
+fn made(alloc: Global, makes: &Option<ResponsePolicy>, replies: Vec<Value>) -> RedisResult<Value>
+    ensures made { IfOk result (Makes makes.now replies.items) }
+    ensures refused { IfErr result (λ e. e ≢ form.OutOfMemory
+        → MakesNone (Makes makes.now replies.items) e) }
+{
     match makes {
         None => joined(alloc, replies),
         Some(ResponsePolicy::AllSucceeded) => match replies.into_iter().next() {
             Some(first) => Ok(first),
             None => Err(unexpected()),
         },
+        Some(ResponsePolicy::AggMin) => least_of(replies.as_slice()),
         Some(ResponsePolicy::AggSum) => sum_of(replies.as_slice()),
         Some(_) => Err(unexpected()),
     }

@@ -1,16 +1,18 @@
 //! A transaction over the nodes of a cluster.
 
-ghost use Rattle.std.specs.Prelude.{◌≡◌, ◌≢◌, IfErr, IfOk, length};
+ghost use Rattle.std.specs.Prelude.{◌≡◌, ◌≢◌, IfErr, IfNone, IfOk, IfSome, length};
+ghost use Rattle.std.specs.List.{list_any};
 ghost use Rattle.resp_errors.specs.declared.redis_error.RedisError.TheVariants as form;
 ghost use Rattle.resp_pipeline.specs.Pipeline.{request};
 ghost use Rattle.resp_routing.specs.Refusals.{redis_error_of};
 ghost use Rattle.resp_cluster.specs.Together.{AreApart, CannotGoTogether, GoTogether, Joins};
-ghost use Rattle.resp_cluster.specs.Routing.{WasSentWhole};
-ghost use Rattle.resp_cluster.specs.Transactions.{FindsNode, SendsWhole, TransactionQuery};
+ghost use Rattle.resp_cluster.specs.Transactions.{AreTransaction, FindsNode, IsNoTransaction};
+ghost use Rattle.resp_cluster.specs.Transactions.{RequestTogether, SendsWhole, TransactionQuery};
+ghost use Rattle.resp_cluster.specs.Transactions.{is_server_error, no_exec};
 
 use super::{ClusterLink, no_node, route_for};
 use crate::gather::SendGroups;
-use crate::link_commands::is_exec;
+use crate::link_commands::is_alone;
 use crate::links::Nodes;
 use crate::node::NodeAddr;
 use resp_command::Cmd;
@@ -49,17 +51,20 @@ impl<N: Nodes> ClusterLink<N> {
 
     /// Sends the commands of a transaction, packed, `MULTI` and `EXEC` among them, to the node that
     /// the others go to together, and answers their replies. Where one is an error, the map is asked
-    /// for before the next command.
+    /// for before the next command. Refused unsent where they aren't `MULTI`, others and `EXEC`.
     pub(crate) fn req_transaction(
         &mut self,
         commands: &[Cmd],
         request: &[u8],
     ) -> RedisResult<Vec<Value>>
-        ensures whole { IfOk result (λ replies. WasSentWhole N.Link.connection request.now
-            (length commands.now) replies self.new) }
+        ensures whole { RequestTogether N.Link.connection commands.now request.now self.old self.new
+            result }
         ensures counted { IfOk result (λ replies. length replies.items ≡ length commands.now) }
     {
-        let node = self.common_node(between_ends(commands)?)?;
+        let Some(inside) = inside_of(commands) else {
+            return Err(no_exec());
+        };
+        let node = self.common_node(inside)?;
         let replies = self.send_group(&node, request, commands.len())?;
         if has_server_error(replies.as_slice()) {
             self.stale = true;
@@ -115,20 +120,44 @@ fn join(alloc: Global, one: Route, other: Route) -> RedisResult<Route>
     }
 }
 
-/// The commands of a transaction between its first and its last, which is `EXEC`.
-fn between_ends(commands: &[Cmd]) -> RedisResult<&[Cmd]> {
-    match commands {
-        [_, inner @ .., last] if is_exec(last) => Ok(inner),
-        _ => Err(RedisError::from((ErrorKind::Client, "a packed transaction ends with EXEC"))),
+/// The commands of a packed transaction between its first, which is `MULTI`, and its last, `EXEC`.
+fn inside_of(commands: &[Cmd]) -> Option<&[Cmd]>
+    ensures some { IfSome result (λ inside. AreTransaction commands.now inside.now) }
+    ensures none { IfNone result (IsNoTransaction commands.now) }
+{
+    let Some((first, others)) = commands.split_first() else {
+        return None;
+    };
+    let Some((last, inside)) = others.split_last() else {
+        return None;
+    };
+    if is_alone(first, b"MULTI") && is_alone(last, b"EXEC") {
+        Some(inside)
+    } else {
+        None
     }
 }
 
-/// Whether a reply is a server's error.
-fn has_server_error(replies: &[Value]) -> bool {
+fn no_exec() -> RedisError
+    ensures { result ≡ no_exec }
+{
+    RedisError::from((ErrorKind::Client, "a packed transaction ends with EXEC"))
+}
+
+/// Whether one of the replies is a server's error.
+fn has_server_error(replies: &[Value]) -> bool
+    ensures { result ≡ list_any is_server_error replies.now }
+{
     for reply in replies {
-        if matches!(reply, Value::ServerError(_)) {
+        if is_server_error(reply) {
             return true;
         }
     }
     false
+}
+
+fn is_server_error(reply: &Value) -> bool
+    ensures { result ≡ is_server_error reply.now }
+{
+    matches!(reply, Value::ServerError(_))
 }

@@ -46,6 +46,5 @@ returns-clause-answered g c = record {
   some = λ none. let e : true ≡ false = sym (c.is_empty.ensures.1 none) ∙ c.if-is_empty.false in cc;
   goes = fans_to _ _ _ _ _ _ _ _ c.self-2.view_is c.in_ok-policies.ensures.found c.make_ready.ensures c.in_ok-nodes.ensures;
   sent = rw (← c.as_slice.ensures) c.in_ok-replies.ensures.sent;
-  no_error = c.in_ok-answer.ensures.passed;
   combined = c.in_ok-answer.ensures.combined;
 }
