@@ -9,6 +9,7 @@ pub mod FlatForms
 pub mod Groups
 pub mod InTurn
 pub mod IntegerLines
+pub mod KeysAndValues
 pub mod Levels
 pub mod OneByOne
 pub mod OneEach

@@ -1,8 +1,9 @@
 //! Replies as maps and as sets.
 
-ghost use Rattle.std.specs.Prelude.{◌≡◌, List};
+ghost use Rattle.std.specs.Prelude.{◌≡◌, ◌%◌, List, length};
 ghost use Rattle.std.specs.Result.{IsErrAnd};
 ghost use Rattle.resp_value.specs.declared.value.Value.{Value};
+ghost use Rattle.resp_value.specs.Views.{pairs};
 ghost use Rattle.resp_flat.specs.declared.token.TokenKind.TheVariants as kind;
 ghost use Rattle.resp_from.specs.Conversion.{Converts};
 ghost use Rattle.resp_from.specs.Maps.{OfMap, OfPair, OfSet, HoldsMap, HoldsSet};
@@ -18,6 +19,9 @@ use std::alloc::Global;
 use std::collections::{BTreeMap, BTreeSet, HashMap, HashSet};
 use std::hash::Hash;
 
+/// Why a reply that is no map is refused.
+const NO_MAP: &str = "Response type not hashmap compatible";
+
 fn map_of<K: FromRedisValue, V: FromRedisValue, M: FillMap<K, V>>(
     alloc: Global,
     reply: Value,
@@ -27,9 +31,16 @@ fn map_of<K: FromRedisValue, V: FromRedisValue, M: FillMap<K, V>>(
 {
     match strip_attribute(reply) {
         Value::Nil => Ok(M::none(alloc)),
+        Value::Array(elements) => {
+            if elements.len() % 2 == 0 {
+                map_of_elements(alloc, elements.into_vec())
+            } else {
+                refuse(Value::Array(elements), NO_MAP)
+            }
+        }
         value => match value.into_map_iter() {
             Ok(pairs) => map_of_pairs::<K, V, M, Value>(alloc, pairs),
-            Err(other) => refuse(other, "Response type not hashmap compatible"),
+            Err(other) => refuse(other, NO_MAP),
         },
     }
 }
@@ -68,6 +79,36 @@ fn map_of_pairs<K: FromRedisValue, V: FromRedisValue, M: FillMap<K, V>, R: Reply
     let mut map = M::none(alloc);
     while let Some(pair) = R::next_pair_of(&mut pairs) {
         let (key, value) = pair_of_replies(alloc, pair.0, pair.1)?;
+        map.put(key, value)?;
+    }
+    Ok(map)
+}
+
+/// The map that these keys and values fill in turn. It moves each once, where a pair of them would be
+/// moved thrice.
+fn map_of_elements<K: FromRedisValue, V: FromRedisValue, M: FillMap<K, V>>(
+    alloc: Global,
+    elements: Vec<Value>,
+) -> Result<M, ParsingError>
+    requires { length elements.items % 2 ≡ 0 }
+    ensures converts { Converts (λ map. HoldsMap M.keying K.of_value V.of_value
+        (pairs elements.items) (M.entries map)) result }
+{
+    let mut map = M::none(alloc);
+    let mut rest = elements.into_iter();
+    while let Some(key) = rest.next() {
+        // By `match`, since `?` moves what is converted once more.
+        let key = match K::from_redis_value(alloc, key) {
+            Ok(key) => key,
+            Err(error) => return Err(error),
+        };
+        let Some(value) = rest.next() else {
+            return Ok(map);
+        };
+        let value = match V::from_redis_value(alloc, value) {
+            Ok(value) => value,
+            Err(error) => return Err(error),
+        };
         map.put(key, value)?;
     }
     Ok(map)
