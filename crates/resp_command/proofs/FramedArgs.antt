@@ -280,7 +280,7 @@ module _ (bytes : List ℕ) (spans : List Span) (h : IsFramed bytes spans) (some
   whole_length = ap length bytes_split ∙ length-append (flat_map bulk others) (bulk last_arg) ∙ ap (λ n. last_start + n)
       (length-bulk last_arg)
 
-  -- after `extend_frame`, from what `start_of` and the last place say
+  -- after `extend_last`, from what `start_of` and the last place say
   pub extended_holds : (bytes' more : List ℕ) (spans' : List Span) (start from digits : ℕ) → start ≡ last_start + 1
       → from ≡ last_start + (length (decimal (length last_arg)) + 3)
       → bytes' ≡ longer bytes start from more → digits ≡ length (decimal ((length bytes - 2) - from + length more))

@@ -3,6 +3,7 @@ pub mod CursorArgs
 pub mod DecimalReadsBack
 pub mod FirstArgument
 pub mod FramedArgs
+pub mod FramesInPlace
 pub mod LastPieces
 pub mod LongerFrame
 pub mod Nexts

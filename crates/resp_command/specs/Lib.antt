@@ -5,6 +5,7 @@ pub mod CommandQuery
 pub mod Connection
 pub mod Cursors
 pub mod EncodedArgs
+pub mod Frames
 pub mod lemmas
 pub mod NextPush
 pub mod Packed

@@ -33,7 +33,8 @@ use std::alloc::{AllocError, Global};
 use std::marker::Model;
 use std::mem;
 
-/// A command: its name and arguments, in order.
+/// A command: its name and arguments, in order. It takes no memory while these have at most 64 bytes,
+/// as they are sent, and are at most four.
 ///
 /// ```text
 /// let visits: i64 = cmd(rt.alloc(), "INCR")?.arg("visits")?.query(&mut link)?;

@@ -9,7 +9,8 @@ ghost use Rattle.resp_args.specs.Args.{extended};
 ghost use Rattle.resp_command.specs.Packed.{bulk};
 ghost use Rattle.resp_command.specs.EncodedArgs.{IsFramed, args_at};
 
-use crate::framing::{FRAME, append_frame, extend_frame};
+use crate::frames::Frames;
+use crate::framing::FRAME;
 use resp_args::RedisWrite;
 use resp_value::{RedisError, RedisResult};
 use smallvec::SmallVec;
@@ -30,7 +31,7 @@ pub struct Span {
 /// buffer. Contracts see a list of byte lists.
 #[derive(Drop)]
 pub struct EncodedArgs {
-    bytes: Vec<u8>,
+    bytes: Frames,
     spans: SmallVec<Span, FEW>,
 }
 
@@ -40,9 +41,9 @@ impl Model for EncodedArgs {
 
     ghost Value = { Args };
 
-    ghost view = { λ f. args_at f.bytes.items f.spans.items };
+    ghost view = { λ f. args_at f.bytes f.spans.items };
 
-    ghost invariant = { λ f. IsFramed f.bytes.items f.spans.items };
+    ghost invariant = { λ f. IsFramed f.bytes f.spans.items };
 }
 
 impl EncodedArgs {
@@ -51,7 +52,7 @@ impl EncodedArgs {
         ensures { result ≡ [] }
     {
         EncodedArgs {
-            bytes: Vec::new(alloc),
+            bytes: Frames::new(alloc),
             spans: SmallVec::new(alloc),
         }
     }
@@ -106,7 +107,8 @@ impl EncodedArgs {
     /// Where the frame of the argument at this index starts, or where all frames end.
     fn start_of(&self, index: usize) -> usize
         requires { index ≤ length self.now }
-        ensures { result ≡ length (flat_map bulk (take index self.now)) }
+        ensures place { result ≡ length (flat_map bulk (take index self.now)) }
+        ensures bounded { result < 2 ^ 63 }
     {
         // Not used: reading it tells the prover that the buffer has fewer than 2^63 bytes, so that no
         // sum below wraps.
@@ -126,7 +128,7 @@ impl EncodedArgs {
         if self.spans.len() == self.spans.capacity() {
             self.spans.reserve(1)?;
         }
-        let to = append_frame(&mut self.bytes, arg)?;
+        let to = self.bytes.push(arg)?;
         self.spans.push_reserved(Span {
             from: to - arg.len(),
             to,
@@ -139,12 +141,10 @@ impl EncodedArgs {
         requires { 0 < length self.old }
         ensures { self.new ≡ (if is_ok result then extended self.old more.now else self.old) }
     {
-        // As in `start_of`.
-        let _size = self.bytes.len();
         let last = self.spans.len() - 1;
         let start = self.start_of(last) + 1;
         let from = self.spans[last].from;
-        let digits = extend_frame(&mut self.bytes, start, from, more)?;
+        let digits = self.bytes.extend_last(start, from, more)?;
         self.spans[last] = Span {
             from: start + digits + 2,
             to: self.bytes.len() - 2,
@@ -190,7 +190,7 @@ impl EncodedArgs {
         ensures { IfOk result (λ encoded_args. encoded_args ≡ self.now) }
     {
         Ok(EncodedArgs {
-            bytes: Vec::from_slice(alloc, self.bytes.as_slice())?,
+            bytes: self.bytes.try_clone(alloc)?,
             spans: SmallVec::from_slice(alloc, self.spans.as_slice())?,
         })
     }

@@ -13,7 +13,7 @@ use std::alloc::AllocError;
 pub const FRAME: usize = 25;
 
 /// The room that is made for the first argument's frame and for later arguments.
-const SPARE: usize = 96;
+pub const SPARE: usize = 96;
 
 /// Appends an argument's frame, and answers where the argument ends; refused, the bytes are as they
 /// were.
@@ -69,7 +69,7 @@ fn write_any_length_line(bytes: &mut Vec<u8>, mark: u8, len: usize) -> Result<()
 }
 
 /// The digit of a number below ten.
-fn digit(number: usize) -> u8
+pub fn digit(number: usize) -> u8
     requires { number < 10 }
     ensures { result ≡ 48 + number }
 {
@@ -91,6 +91,7 @@ pub fn extend_frame(
         ≡ (if is_ok result then longer bytes.old.items start from more.now else bytes.old.items) }
     ensures digits { IfOk result (λ n. n
         ≡ length (decimal ((vec_len bytes.old - 2) - from + length more.now))) }
+    ensures short { IfOk result (λ n. n ≤ 40) }
 {
     let to = bytes.len() - 2;
     let old = from - 2 - start;

@@ -9,6 +9,7 @@ mod connection;
 mod copies;
 mod encoded_args;
 mod fetching;
+mod frames;
 mod framing;
 pub mod laws;
 mod packing;

@@ -4,6 +4,6 @@ use Rattle.resp_command.proofs.encoded_args.EncodedArgs.get.Goals as goal
 
 pub part-requires : goal.part-requires
 part-requires c =
-    let h = span-within c.self.inside.bytes.items c.self.inside.spans.items c.args.index (record { from = 0; to = 0 })
+    let h = span-within c.self.inside.bytes c.self.inside.spans.items c.args.index (record { from = 0; to = 0 })
     c.self.invariant (search rules) in
-    rw (c.as_slice.ensures.value, c.deref.ensures) h
+    rw (c.as_slice.ensures, c.deref.ensures) h

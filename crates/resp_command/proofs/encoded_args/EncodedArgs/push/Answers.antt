@@ -4,17 +4,17 @@ use Rattle.resp_command.specs.EncodedArgs.{args_at}
 use Rattle.resp_command.proofs.FramedArgs.{pushed, length-bulk, Holds}
 use Rattle.resp_command.proofs.encoded_args.EncodedArgs.push.Goals as goal
 
-held : (c : goal.After-push_reserved) → Holds c.append_frame.new.bytes.items c.push_reserved.new.self.items
-    (args_at c.self.inside.bytes.items c.self.inside.spans.items ++ c.args.arg.now ∷ [])
+held : (c : goal.After-push_reserved) → Holds c.push.new.self c.push_reserved.new.self.items
+    (args_at c.self.inside.bytes c.self.inside.spans.items ++ c.args.arg.now ∷ [])
 held c =
     let a = c.args.arg.now in
-    let e : c.append_frame.new.bytes.items ≡ c.self.inside.bytes.items ++ bulk a = search rules in
+    let e : c.push.new.self ≡ c.self.inside.bytes ++ bulk a = search rules in
     let p : c.push_reserved.new.self.items ≡ c.self.inside.spans.items
     ++ (record { from = c.in_ok-to.to - length a; to = c.in_ok-to.to }) ∷ [] = search rules in
-    let n : c.in_ok-to.to + 2 ≡ length c.append_frame.new.bytes.items = search rules in
-    pushed c.self.inside.bytes.items _ a c.self.inside.spans.items _ (c.in_ok-to.to - length a) c.in_ok-to.to
+    let n : c.in_ok-to.to + 2 ≡ length c.push.new.self = search rules in
+    pushed c.self.inside.bytes _ a c.self.inside.spans.items _ (c.in_ok-to.to - length a) c.in_ok-to.to
     c.self.invariant e p n
-    (omega (arith, n, ap length e, length-append c.self.inside.bytes.items (bulk a), length-bulk a))
+    (omega (arith, n, ap length e, length-append c.self.inside.bytes (bulk a), length-bulk a))
 
 pub invariant_of-self-2 : goal.invariant_of-self-2
 invariant_of-self-2 c = (held c).framed

@@ -7,7 +7,7 @@ use Rattle.resp_command.proofs.FramedArgs.{starts, start-fits, counted}
 use Rattle.resp_command.proofs.encoded_args.EncodedArgs.start_of.Goals as goal
 
 ends : (c : goal.After-deref) → (slice_index_or c.deref.result.now (c.args.index - 1) (record { from = 0; to = 0 })).to
-    + 2 ≡ length (flat_map bulk (take c.args.index (args_at c.self.inside.bytes.items c.self.inside.spans.items)))
+    + 2 ≡ length (flat_map bulk (take c.args.index (args_at c.self.inside.bytes c.self.inside.spans.items)))
 ends c =
     let many = counted _ _ c.self.invariant in
     ap (λ (spans : List Span). (slice_index_or spans (c.args.index - 1) (record { from = 0; to = 0 })).to + 2)
@@ -20,5 +20,10 @@ overflow_add-result c =
     let room = start-fits _ _ c.self.invariant c.args.index in
     record { fits = omega (arith, ends c, room) }
 
-pub returns-else-index-eq0 : goal.returns-else-index-eq0
-returns-else-index-eq0 c = rw (← c.self.view_is) (ends c)
+pub returns-else-index-eq0-clause-place : goal.returns-else-index-eq0-clause-place
+returns-else-index-eq0-clause-place c = rw (← c.self.view_is) (ends c)
+
+pub returns-else-index-eq0-clause-bounded : goal.returns-else-index-eq0-clause-bounded
+returns-else-index-eq0-clause-bounded c =
+    let room = start-fits _ _ c.self.invariant c.args.index in
+    omega (arith, ends c, room, c.len-size.ensures.len, c.len-size.ensures.bounded)

@@ -6,13 +6,13 @@ use Rattle.resp_command.specs.EncodedArgs.{args_at}
 use Rattle.resp_command.proofs.FramedArgs.{truncated, Holds}
 use Rattle.resp_command.proofs.encoded_args.EncodedArgs.truncate.Goals as goal
 
-held : (c : goal.After-truncate-then-len) → Holds c.truncate.new.self.items c.truncate-then-len.new.self.items
-    (take c.args.len (args_at c.self.inside.bytes.items c.self.inside.spans.items))
+held : (c : goal.After-truncate-then-len) → Holds c.truncate.new.self c.truncate-then-len.new.self.items
+    (take c.args.len (args_at c.self.inside.bytes c.self.inside.spans.items))
 held c =
-    let end = c.start_of-end.ensures ∙ ap (λ (args : Args). length (flat_map bulk (take c.args.len args)))
+    let end = c.start_of-end.ensures.place ∙ ap (λ (args : Args). length (flat_map bulk (take c.args.len args)))
     (sym c.self.view_is) in
-    let cut = c.truncate.ensures.items ∙ ap (λ n. take n c.self.inside.bytes.items) end in
-    truncated c.self.inside.bytes.items _ c.self.inside.spans.items _ c.args.len c.self.invariant cut
+    let cut = c.truncate.ensures ∙ ap (λ n. take n c.self.inside.bytes) end in
+    truncated c.self.inside.bytes _ c.self.inside.spans.items _ c.args.len c.self.invariant cut
     c.truncate-then-len.ensures.items
 
 pub invariant_of-self : goal.invariant_of-self
