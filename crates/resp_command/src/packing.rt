@@ -30,13 +30,15 @@ pub fn append_frames(out: &mut Vec<u8>, encoded_args: &EncodedArgs) -> Result<()
     ensures prefix { take (length out.old.items) out.new.items ≡ out.old.items }
 {
     let bytes = encoded_args.as_bytes();
-    out.reserve(bytes.len().saturating_add(FRAME))?;
+    out.reserve(bytes.len() + FRAME)?;
     write_length_line(out, b'*', encoded_args.len())?;
     out.extend_from_slice(bytes)
 }
 
 /// Appends a packed command of these arguments with cursors of this text at the places; refused, it
-/// leaves more behind the old bytes.
+/// leaves more behind the old bytes. Not inlined, so that commands without cursors save no registers
+/// for it.
+#[inline(never)]
 pub fn append_pieces(
     out: &mut Vec<u8>,
     encoded_args: &EncodedArgs,
