@@ -1,7 +1,7 @@
 //! Pipelines.
 
 ghost use Rattle.std.specs.Prelude.{◌≡◌, ◌↔◌, ◌<◌, [], ◌∷◌, ◌++◌, List, length, drop, IsTrue};
-ghost use Rattle.std.specs.Prelude.{IfOk, IfErr, OnOk, OnErr, true};
+ghost use Rattle.std.specs.Prelude.{IfOk, IfErr, OnOk, OnErr, true, vec_len, vec_capacity};
 ghost use Rattle.std.specs.List.{flat_map};
 ghost use Rattle.std.specs.Slice.Iter.{iter_rest};
 ghost use Rattle.resp_errors.specs.Memory.{OnlyMemory};
@@ -128,7 +128,9 @@ impl Pipeline {
         ensures added { IfOk result (λ p. p.now ≡ with_command self.old command) }
         ensures memory { OnlyMemory result }
     {
-        self.push_command(command)?;
+        make_room(&mut self.commands, &mut self.ignored)?;
+        self.commands.push_reserved(command);
+        self.ignored.push_reserved(false);
         Ok(self)
     }
 
@@ -138,9 +140,9 @@ impl Pipeline {
         ensures memory { OnlyMemory result }
         ensures unchanged { OnErr result (self.new ≡ self.old) }
     {
-        self.ignored.reserve(1)?;
-        self.commands.push(command)?;
-        self.ignored.push(false)?;
+        make_room(&mut self.commands, &mut self.ignored)?;
+        self.commands.push_reserved(command);
+        self.ignored.push_reserved(false);
         Ok(())
     }
 
@@ -419,6 +421,17 @@ impl Pipeline {
         }
         Ok(T::from_redis_value(self.alloc, reply)?)
     }
+}
+
+/// Makes room for a command and its mark.
+fn make_room(commands: &mut Vec<Cmd>, ignored: &mut Vec<bool>) -> Result<(), AllocError>
+    ensures commands { commands.new.items ≡ commands.old.items }
+    ensures ignored { ignored.new.items ≡ ignored.old.items }
+    ensures room { OnOk result (vec_len commands.new < vec_capacity commands.new
+        × vec_len ignored.new < vec_capacity ignored.new) }
+{
+    ignored.reserve(1)?;
+    commands.reserve(1)
 }
 
 /// What is answered where the reply to `EXEC` is another than a server gives.
