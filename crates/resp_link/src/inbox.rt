@@ -23,6 +23,9 @@ pub(crate) struct Inbox<S> {
     pub(crate) pushes: Pushes,
 }
 
+/// The most replies for which room is made before they come.
+const AT_ONCE: usize = 1024;
+
 impl<S: ReplySource> Inbox<S> {
     /// The next reply; each push that comes before it is set aside, while the limit leaves room.
     pub(crate) fn next_reply(&mut self) -> RedisResult<Value>
@@ -33,7 +36,12 @@ impl<S: ReplySource> Inbox<S> {
         ensures rest { OnOk result (IsBetweenValues self.new.parser) }
     {
         loop {
-            match self.parser.parse_from(&mut self.source)? {
+            // By `match`, since `?` moves the value once more.
+            let value = match self.parser.parse_from(&mut self.source) {
+                Ok(value) => value,
+                Err(error) => return Err(error),
+            };
+            match value {
                 Value::Push { kind, payload } => {
                     let (size, limit) = (self.parser.value_len(), self.parser.limits().pushes);
                     self.pushes
@@ -67,6 +75,7 @@ impl<S: ReplySource> Inbox<S> {
         ensures rest { OnOk result (IsBetweenValues self.new.parser) }
     {
         let mut replies = Vec::new(alloc);
+        replies.reserve(count.min(AT_ONCE))?;
         for _ in 0..count {
             // By `match`, since `?` moves the reply once more.
             match self.next_reply() {

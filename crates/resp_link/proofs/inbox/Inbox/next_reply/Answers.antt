@@ -5,44 +5,40 @@ use Rattle.resp_link.proofs.Receiving.{only_pushes_none, only_pushes_more, recei
 use Rattle.resp_link.proofs.Receiving.{stands_since}
 use Rattle.resp_link.proofs.inbox.Inbox.next_reply.Goals as goal
 
-pub loop-kind-init : goal.loop-kind-init
-loop-kind-init g c = record { rest = c.requires; only = only_pushes_none _ }
+pub loop-value-init : goal.loop-value-init
+loop-value-init g c = record { rest = c.requires; only = only_pushes_none _ }
 
-pub returns-in_err-reply-clause-reply : goal.returns-in_err-reply-clause-reply
-returns-in_err-reply-clause-reply g c =
+pub returns-in-Err-clause-reply : goal.returns-in-Err-clause-reply
+returns-in-Err-clause-reply g c =
     let source = g.S.ReplySource.source in
-    let at = c.loop-kind.self in
-    let p = err_from_is_err_and c.from_residual.result c.from_residual.ensures.1 in
-    rw (p.1, p.2) (received_none _ (source at.source) _ at.parser c.parse_from.new.self _ _ _ c.loop-kind.invariant.only
-    c.parse_from.ensures.limits (rw c.in_err-reply.was at c.parse_from.ensures.parses at.parser.since
-    (stands_since at.parser c.loop-kind.invariant.rest)))
+    let at = c.loop-value.self in
+    received_none _ (source at.source) _ at.parser c.parse_from.new.self _ _ _ c.loop-value.invariant.only
+    c.in-Err.ensures.limits (c.in-Err.ensures.parses at.parser.since
+    (stands_since at.parser c.loop-value.invariant.rest))
 
 pub returns-in_err-set_aside-in-Push-clause-reply : goal.returns-in_err-set_aside-in-Push-clause-reply
 returns-in_err-set_aside-in-Push-clause-reply g c =
     let source = g.S.ReplySource.source in
-    let at = c.loop-kind.self in
-    let p = err_from_is_err_and c.from_residual-in_err-set_aside-in-Push.result
-    c.from_residual-in_err-set_aside-in-Push.ensures.1 in
-    let parsed = rw c.in_ok-reply.was at c.parse_from.ensures.parses at.parser.since
-    (stands_since at.parser c.loop-kind.invariant.rest) in
+    let at = c.loop-value.self in
+    let p = err_from_is_err_and c.from_residual.result c.from_residual.ensures.1 in
+    let parsed = c.in-Ok.ensures.parses at.parser.since (stands_since at.parser c.loop-value.invariant.rest) in
     rw (p.1, p.2, c.in_err-set_aside-in-Push.ensures.listed, c.in_err-set_aside-in-Push.ensures.counted)
     (not_aside _ (source at.source) _
-    at.parser c.parse_from.new.self _ _ c.in_ok-reply.reply
+    at.parser c.parse_from.new.self _ _ c.in-Ok.value
     (record { kind = c.in-Push.kind; payload = c.in-Push.payload })
-    c.loop-kind.invariant.only c.parse_from.ensures.limits parsed (rw c.in-Push.is (as_push-Push _ _)) _
+    c.loop-value.invariant.only c.parse_from.ensures.limits parsed (rw c.in-Push.is (as_push-Push _ _)) _
     (rw (c.in_err-set_aside-in-Push.was, c.value_len-size.ensures.size, c.limits.ensures.limits) at
     c.set_aside.ensures.aside))
 
-pub loop-kind-preserved : goal.loop-kind-preserved
-loop-kind-preserved g c =
+pub loop-value-preserved : goal.loop-value-preserved
+loop-value-preserved g c =
     let source = g.S.ReplySource.source in
-    let at = c.loop-kind.self in
-    let parsed = rw c.in_ok-reply.was at c.parse_from.ensures.parses at.parser.since
-    (stands_since at.parser c.loop-kind.invariant.rest) in
+    let at = c.loop-value.self in
+    let parsed = c.in-Ok.ensures.parses at.parser.since (stands_since at.parser c.loop-value.invariant.rest) in
     record {
       rest = parsed.rest;
-      only = only_pushes_more _ (source at.source) _ at.parser c.parse_from.new.self _ _ _ _ c.in_ok-reply.reply
-          c.loop-kind.invariant.only c.parse_from.ensures.limits parsed
+      only = only_pushes_more _ (source at.source) _ at.parser c.parse_from.new.self _ _ _ _ c.in-Ok.value
+          c.loop-value.invariant.only c.parse_from.ensures.limits parsed
           (record { kind = c.in-Push.kind; payload = c.in-Push.payload }) (rw c.in-Push.is (as_push-Push _ _))
           (rw (c.in_ok-set_aside-in-Push.was, c.value_len-size.ensures.size, c.limits.ensures.limits) at
           c.set_aside.ensures.aside);
@@ -51,11 +47,10 @@ loop-kind-preserved g c =
 pub returns-in_default : goal.returns-in_default
 returns-in_default g c =
     let source = g.S.ReplySource.source in
-    let at = c.loop-kind.self in
-    let parsed = rw c.in_ok-reply.was at c.parse_from.ensures.parses at.parser.since
-    (stands_since at.parser c.loop-kind.invariant.rest) in
+    let at = c.loop-value.self in
+    let parsed = c.in-Ok.ensures.parses at.parser.since (stands_since at.parser c.loop-value.invariant.rest) in
     record {
-      reply = received_one _ (source at.source) _ at.parser c.parse_from.new.self _ _ _ _ c.in_ok-reply.reply
-          c.loop-kind.invariant.only c.parse_from.ensures.limits parsed (search rules) refl refl;
+      reply = received_one _ (source at.source) _ at.parser c.parse_from.new.self _ _ _ _ c.in-Ok.value
+          c.loop-value.invariant.only c.parse_from.ensures.limits parsed (search rules) refl refl;
       rest = parsed.rest;
     }

@@ -4,8 +4,8 @@ use Rattle.resp_link.specs.Receiving.{inflow_of}
 use Rattle.resp_link.proofs.Receiving.{OnlyPushes}
 use Rattle.resp_link.proofs.inbox.Inbox.next_reply.Given as goal
 
-abbrev pub invariant-loop-kind : goal.invariant-loop-kind
-invariant-loop-kind g l =
+abbrev pub invariant-loop-value : goal.invariant-loop-value
+invariant-loop-value g l =
     let source = g.S.ReplySource.source in
     record {
       rest : IsBetweenValues l.self.parser;
@@ -15,5 +15,5 @@ invariant-loop-kind g l =
           (inflow_of l.self.parser (source l.self.source) l.self.pushes.list.items l.self.pushes.bytes);
     }
 
-abbrev pub decreases-loop-kind : goal.decreases-loop-kind
-decreases-loop-kind g l = 2 ^ 64 - length l.self.pushes.list.items
+abbrev pub decreases-loop-value : goal.decreases-loop-value
+decreases-loop-value g l = 2 ^ 64 - length l.self.pushes.list.items

@@ -5,8 +5,13 @@ use Rattle.resp_link.proofs.inbox.Inbox.take_replies.Goals as goal
 
 pub loop-init : goal.loop-init
 loop-init g c =
-    let none : c.new-replies.result.items ≡ [] = search rules in
+    let none : c.reserve.new.self.items ≡ [] = search rules in
     record { within = omega arith; rest = c.requires; so_far = rw none (receives_none _) }
+
+pub returns-in_err-reserve-clause-replies : goal.returns-in_err-reserve-clause-replies
+returns-in_err-reserve-clause-replies g c =
+    let p = err_from_is_err_and c.from_residual.result c.from_residual.ensures.1 in
+    rw (p.1, p.2) (no_room_after 0 _ _ _ [] (omega arith) (receives_none _))
 
 pub returns-in-Err-clause-replies : goal.returns-in-Err-clause-replies
 returns-in-Err-clause-replies g c =
@@ -14,7 +19,7 @@ returns-in-Err-clause-replies g c =
 
 pub returns-in_err-push-in-Ok-clause-replies : goal.returns-in_err-push-in-Ok-clause-replies
 returns-in_err-push-in-Ok-clause-replies g c =
-    let p = err_from_is_err_and c.from_residual.result c.from_residual.ensures.1 in
+    let p = err_from_is_err_and c.from_residual-in_err-push-in-Ok.result c.from_residual-in_err-push-in-Ok.ensures.1 in
     rw (p.1, p.2) (no_room_after (c.loop.counter + 1) _ _ _ _ (omega arith)
     (receives_both c.loop.counter 1 _ _ _ _ _ c.loop.invariant.so_far c.in-Ok.ensures.reply))
 
