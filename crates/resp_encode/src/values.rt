@@ -21,6 +21,7 @@ use resp_args::ProtocolVersion;
 use resp_errors::{ErrorKind, RedisError, RedisResult};
 use resp_parse::Limits;
 use resp_value::{PushKind, Value};
+use std::alloc::AllocError;
 
 /// Appends the bytes that a server sends for a value, up to 100 levels of values inside values.
 ///
@@ -41,6 +42,9 @@ pub fn encode(value: &Value, protocol: ProtocolVersion, out: &mut Vec<u8>) -> Re
     encode_within(value, protocol, Limits::default().depth, out)
 }
 
+/// The room that is made in a buffer without bytes, so that a short value's doesn't grow in steps.
+const AT_FIRST: usize = 96;
+
 /// As [`encode`], up to so many levels of values inside values, the outermost being the first.
 ///
 /// Of a value deeper than that no byte is written. In RESP2 an attribute and its data are two
@@ -58,13 +62,37 @@ pub fn encode_within(
     ensures unchanged { OnErr result (out.new.items ≡ out.old.items) }
 {
     let before = out.len();
-    match write_value(out, value, protocol, depth) {
+    match write_outermost(out, value, protocol, depth) {
         Ok(()) => Ok(()),
         Err(error) => {
             out.truncate(before);
             Err(refusal(error))
         }
     }
+}
+
+/// As [`write_value`], with room for a short value where the buffer has none.
+fn write_outermost(
+    out: &mut Vec<u8>,
+    value: &Value,
+    protocol: ProtocolVersion,
+    depth: usize,
+) -> Result<(), WriteError>
+    ensures { AppendsText result (encoding_in protocol depth value.now)
+        out.old.items out.new.items }
+{
+    if out.capacity() == 0 {
+        make_room(out)?;
+    }
+    write_value(out, value, protocol, depth)
+}
+
+/// Makes room for a short value; not inlined, so that buffers with room save no registers for it.
+#[inline(never)]
+fn make_room(out: &mut Vec<u8>) -> Result<(), AllocError>
+    ensures { out.new.items ≡ out.old.items }
+{
+    out.reserve(AT_FIRST)
 }
 
 /// What a call answers that doesn't write a value.
