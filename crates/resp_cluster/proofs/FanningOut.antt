@@ -1,5 +1,5 @@
 -- Which commands go to several nodes; as many equal commands as there are nodes, and the places of nodes.
-use Rattle.std.proofs.Common.{◌≡◌, ◌≢◌, ◌&&◌, ℕ, zero, suc, ◌+◌, ◌<◌, Bool, true, false, Option, List, [], ◌∷◌, ◌++◌, All, replicate, refl, ap, ◌∙◌, subst, arith}
+use Rattle.std.proofs.Common.{◌≡◌, ◌≢◌, ℕ, zero, suc, ◌+◌, ◌<◌, Option, List, [], ◌∷◌, ◌++◌, All, replicate, refl, ap, ◌∙◌, subst, arith}
 use Rattle.std.specs.List.{range_with_len}
 use Rattle.std.proofs.lemmas.List.FromFn.{length-range_with_len, get_or-range_with_len}
 use Rattle.resp_args.specs.Args.{Args}
@@ -16,10 +16,6 @@ use Rattle.resp_routing.specs.declared.errors.RoutingError.TheVariants as refuse
 use Rattle.resp_cluster.specs.Cluster.{Cluster, Readies, routed_args}
 use Rattle.resp_cluster.specs.FannedOut.{AreNamed, CannotFanOut, FansOut, FansTo, unrouted}
 use Rattle.resp_cluster.specs.declared.node.NodeAddr.{NodeAddr}
-
-pub first_is : (one other : Bool) → (one && other) ≡ true → one ≡ true
-first_is true other h = refl
-first_is false other h = h
 
 module _ (c : Command) (args : Args) (shown : args ≡ routed_args c) (e : RedisError) where
   pub unrouted_then : (why : RoutingError) → (why ≢ refused.OutOfMemory → HasNoRoute args why) → e ≡ redis_error_of why

@@ -2,6 +2,7 @@ pub mod Answering
 pub mod GoingOn
 pub mod Asking
 pub mod Combining
+pub mod Conjunctions
 pub mod Destinations
 pub mod Entries
 pub mod FanningOut

@@ -73,7 +73,7 @@ module _ {A : Type 0} (make : A → Value) where
   others (f ∷ front) x back differs [] e = some_none e
   others (f ∷ front) x back differs (a ∷ all) e = others front x back differs all (tail_is e)
 
-  same_of : ((a b : A) → make a ≡ make b → a ≡ b) → (xs ys : List A) → map make xs ≡ map make ys → xs ≡ ys
+  pub same_of : ((a b : A) → make a ≡ make b → a ≡ b) → (xs ys : List A) → map make xs ≡ map make ys → xs ≡ ys
   same_of one [] [] e = refl
   same_of one [] (y ∷ ys) e = absurd (some_none (sym e))
   same_of one (x ∷ xs) [] e = absurd (some_none e)

@@ -1,8 +1,8 @@
 -- A command that goes to several nodes of a cluster.
-use Rattle.std.specs.Prelude.{◌≡◌, ◌≢◌, Bool, true, false, ◌&&◌, List, [], ◌∷◌, length, replicate, option_map, Option, None, Some, is_none, codes}
-use Rattle.std.specs.List.{find, flat_map, range_with_len}
+use Rattle.std.specs.Prelude.{◌≡◌, ◌≢◌, ℕ, Bool, true, false, List, [], ◌∷◌, ◌++◌, decimal, map, length, replicate, option_map, Option, None, Some, is_none, codes}
+use Rattle.std.specs.List.{find, flat_map, range_with_len, zip}
 use Rattle.resp_value.specs.FirstError.{first_error}
-use Rattle.resp_value.specs.declared.value.Value.{Value, Array, out-Value}
+use Rattle.resp_value.specs.declared.value.Value.{Value, Array, BulkString, Map, out-Value}
 use Rattle.resp_value.specs.declared.value.Value.TheOpen.{Value-F}
 use Rattle.resp_errors.specs.declared.kinds.ErrorKind.TheVariants as kind
 use Rattle.resp_errors.specs.declared.redis_error.RedisError.{RedisError}
@@ -21,8 +21,9 @@ use Rattle.resp_routing.specs.declared.routes.Route.{Route}
 use Rattle.resp_routing.specs.declared.routes.Route.TheVariants.{Slot, Keyless}
 use Rattle.resp_cluster.specs.Cluster.{Cluster, Readies, no_node, routed_args}
 use Rattle.resp_cluster.specs.Gathered.{Gathered, RefusedGroup}
-use Rattle.resp_cluster.specs.Merges.{MergesLeast, MergesSum, first_error_in, why_none}
+use Rattle.resp_cluster.specs.Merges.{MergesAnd, MergesLeast, MergesSum, first_error_in, why_none}
 use Rattle.resp_cluster.specs.Primaries.{AreNodes, ArePrimaries}
+use Rattle.resp_cluster.specs.Redirects.{colon}
 use Rattle.resp_cluster.specs.Spread.{SendsGroup}
 use Rattle.resp_cluster.specs.declared.node.NodeAddr.{NodeAddr}
 use Rattle.resp_cluster.specs.declared.node.SlotRange.{SlotRange}
@@ -32,15 +33,6 @@ abbrev pub names_several : RequestPolicy → Bool
 names_several request.AllShards = true
 names_several request.AllNodes = true
 names_several to = false
-
--- replies are combined by a response policy
-abbrev pub is_combined : Option ResponsePolicy → Bool
-is_combined None = true
-is_combined (Some response.OneSucceeded) = true
-is_combined (Some response.AllSucceeded) = true
-is_combined (Some response.AggMin) = true
-is_combined (Some response.AggSum) = true
-is_combined makes = false
 
 -- one reply that is no error is enough
 abbrev pub one_is_enough : Option ResponsePolicy → Bool
@@ -52,11 +44,11 @@ abbrev pub policy_of : Route → Option RequestPolicy
 policy_of (Slot slot) = None
 policy_of (Keyless policy) = policy
 
--- a command without keys, and its policies: it goes to several nodes, and their replies are combined
+-- a command without keys, and its policies: it goes to several nodes
 pub record FansOut (c : Command) (to : RequestPolicy) (makes : Option ResponsePolicy) : Type 0 where
   pub is_route : IsRoute (routed_args c) (Keyless (Some to))
   pub is_policy : option_map (λ row. row.response_policy) (command_of (routed_args c)) ≡ Some makes
-  pub several : (names_several to && is_combined makes) ≡ true
+  pub several : names_several to ≡ true
 
 abbrev pub not_several : RedisError
 not_several = General kind.Client (codes "the command isn't sent to several nodes: use link_to") None
@@ -85,22 +77,32 @@ pub record IsFirst (replies : List Value) (answer : Value) : Type 0 where
 abbrev pub succeeds : Value → Bool
 succeeds reply = is_none (first_error reply)
 
--- what replies make by a response policy, where that is of no other kind and none of them is an error
-abbrev pub Makes : Option ResponsePolicy → List Value → Value → Type 0
-Makes None replies answer = answer ≡ Array (flat_map items_of replies)
-Makes (Some response.AllSucceeded) replies answer = IsFirst replies answer
-Makes (Some response.AggMin) replies answer = MergesLeast replies answer
-Makes (Some response.AggSum) replies answer = MergesSum replies answer
-Makes makes replies answer = ⊥
+-- HOST:PORT
+abbrev pub address_of : NodeAddr → List ℕ
+address_of node = node.host ++ colon ∷ decimal node.port
+
+-- replies, each after the address of its node
+abbrev pub addressed : List NodeAddr → List Value → List (Value × Value)
+addressed nodes replies = zip (map (λ node. BulkString (address_of node)) nodes) replies
+
+-- what nodes' replies make by a response policy, where one success isn't enough and none of them is an error
+abbrev pub Makes : Option ResponsePolicy → List NodeAddr → List Value → Value → Type 0
+Makes None nodes replies answer = answer ≡ Array (flat_map items_of replies)
+Makes (Some response.OneSucceeded) nodes replies answer = ⊥
+Makes (Some response.AllSucceeded) nodes replies answer = IsFirst replies answer
+Makes (Some response.AggLogicalAnd) nodes replies answer = MergesAnd replies answer
+Makes (Some response.AggMin) nodes replies answer = MergesLeast replies answer
+Makes (Some response.AggSum) nodes replies answer = MergesSum replies answer
+Makes (Some response.Special) nodes replies answer = answer ≡ Map (addressed nodes replies)
 
 -- the first that succeeds, where one is enough, or what they make, where none of them is an error
-abbrev pub Combines : Option ResponsePolicy → List Value → Value → Type 0
-Combines (Some response.OneSucceeded) replies answer = find succeeds replies ≡ Some answer
-Combines makes replies answer = (first_error_in replies ≡ None) × Makes makes replies answer
+abbrev pub Combines : Option ResponsePolicy → List NodeAddr → List Value → Value → Type 0
+Combines (Some response.OneSucceeded) nodes replies answer = find succeeds replies ≡ Some answer
+Combines makes nodes replies answer = (first_error_in replies ≡ None) × Makes makes nodes replies answer
 
 -- they make nothing, and the error is the first server's error in them, or says so where they hold none
-pub record CannotCombine (makes : Option ResponsePolicy) (replies : List Value) (e : RedisError) : Type 0 where
-  pub none : (answer : Value) → Combines makes replies answer → ⊥
+pub record CannotCombine (makes : Option ResponsePolicy) (nodes : List NodeAddr) (replies : List Value) (e : RedisError) : Type 0 where
+  pub none : (answer : Value) → Combines makes nodes replies answer → ⊥
   pub says : e ≡ why_none (first_error_in replies)
 
 module _ {L : Type 0} (of_link : L → Connection) where
@@ -125,7 +127,7 @@ module _ {L : Type 0} (of_link : L → Connection) where
     pub some : nodes ≢ []
     pub goes : FansTo c makes old ready nodes
     pub sent : SentToEach c nodes ready replies new
-    pub combined : Combines makes replies answer
+    pub combined : Combines makes nodes replies answer
 
   -- a command to several nodes is refused with this error
   pub data FanOutRefused (c : Command) (old new : Cluster L) (e : RedisError) : Type 0 where
@@ -143,4 +145,4 @@ module _ {L : Type 0} (of_link : L → Connection) where
     -- each node replied, and the replies make no answer
     uncombined : (makes : Option ResponsePolicy) (ready : Cluster L) (nodes : List NodeAddr) (replies : List Value)
         → FansTo c makes old ready nodes → SentToEach c nodes ready replies new
-        → (e ≢ OutOfMemory → CannotCombine makes replies e) → FanOutRefused c old new e
+        → (e ≢ OutOfMemory → CannotCombine makes nodes replies e) → FanOutRefused c old new e

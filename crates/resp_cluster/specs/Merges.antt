@@ -1,6 +1,8 @@
 -- What the replies to the parts of a command make together.
-use Rattle.std.specs.Prelude.{◌≡◌, ℕ, ℤ, pos, ◌+ℤ◌, ◌<◌, List, ◌∷◌, fold, map, length, take, All, FitsSigned, codes, Option, None, Some}
+use Rattle.std.specs.Prelude.{◌≡◌, ℕ, ℤ, pos, ◌+ℤ◌, ◌<◌, ◌&&◌, Bool, true, false, List, ◌∷◌, fold, map, length, take, All}
+use Rattle.std.specs.Prelude.{FitsSigned, codes, Option, None, Some}
 use Rattle.std.specs.Int.{int_min, w64}
+use Rattle.std.specs.List.{zip}
 use Rattle.resp_value.specs.FirstError.{first_error, first_some}
 use Rattle.resp_value.specs.declared.value.Value.{Value, Array, Int, Okay}
 use Rattle.resp_errors.specs.declared.kinds.ErrorKind.TheVariants as kind
@@ -38,6 +40,26 @@ pub record MergesLeast (replies : List Value) (answer : Value) : Type 0 where
   pub others : List ℤ
   pub all : replies ≡ map Int (first ∷ others)
   pub answered : answer ≡ Int (fold int_min first others)
+
+-- truths as a server replies them: an array of 1 and 0
+abbrev pub bit : Bool → Value
+bit true = Int (pos 1)
+bit false = Int (pos 0)
+
+abbrev pub bits : List Bool → Value
+bits truths = Array (map bit truths)
+
+-- in each place, whether both are true there
+abbrev pub both : List Bool → List Bool → List Bool
+both one other = map (λ pair. pair.0 && pair.1) (zip one other)
+
+-- in each place, whether all are true there, where there are any and all are equally long
+pub record MergesAnd (replies : List Value) (answer : Value) : Type 0 where
+  pub first : List Bool
+  pub others : List (List Bool)
+  pub all : replies ≡ map bits (first ∷ others)
+  pub even : All (λ truths. length truths ≡ length first) others
+  pub answered : answer ≡ bits (fold both first others)
 
 -- OK, where all are
 pub record MergesOkay (replies : List Value) (answer : Value) : Type 0 where

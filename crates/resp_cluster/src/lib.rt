@@ -18,6 +18,7 @@ mod shards_reply;
 mod slot_map;
 mod slots_reply;
 mod split;
+mod truths;
 
 pub use cluster_link::ClusterLink;
 pub use links::{NodeLink, Nodes, Sent, read_only};

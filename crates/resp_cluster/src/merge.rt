@@ -6,19 +6,20 @@ ghost use Rattle.std.specs.Int.{w64};
 ghost use Rattle.std.specs.List.{flat_map};
 ghost use Rattle.resp_errors.specs.Memory.{OnlyMemory};
 ghost use Rattle.resp_errors.specs.declared.redis_error.RedisError.TheVariants as form;
-ghost use Rattle.resp_cluster.specs.FannedOut.{items_of};
+ghost use Rattle.resp_cluster.specs.FannedOut.{addressed, items_of};
 ghost use Rattle.resp_cluster.specs.Gathered.{of_node};
 ghost use Rattle.resp_cluster.specs.Gathering.{Enough, from_last};
 ghost use Rattle.resp_cluster.specs.Merges.{IsFirstError, MakesError, MakesNone, Merges};
 ghost use Rattle.resp_cluster.specs.Merges.{MergesLeast, MergesOkay, MergesSum, MergesValues};
 ghost use Rattle.resp_cluster.specs.Merges.{first_error_in, other_replies, sum_of};
-ghost use Rattle.resp_value.specs.declared.value.Value.{Array, Int, Value};
+ghost use Rattle.resp_value.specs.declared.value.Value.{Array, Int, Map, Value};
 
 use crate::gather::in_places;
+use crate::node::NodeAddr;
 use crate::split::Merge;
 use resp_errors::{ErrorKind, RedisError, RedisResult};
-use resp_value::{Items, Value};
-use std::alloc::Global;
+use resp_value::{Bytes, Items, Value};
+use std::alloc::{AllocError, Global};
 
 /// What the replies to the parts of a command make together: a server error, if one is or holds
 /// one, the first of them; else what `merge` says. Refused with kind `UnexpectedReturnType` where
@@ -159,7 +160,7 @@ pub(crate) fn least_of(replies: &[Value]) -> RedisResult<Value>
 }
 
 /// The number that a reply is.
-fn number_of(reply: &Value) -> RedisResult<i64>
+pub(crate) fn number_of(reply: &Value) -> RedisResult<i64>
     ensures is { IfOk result (λ number. reply.now ≡ Int number) }
     ensures fits { IfOk result (FitsSigned w64) }
     ensures refused { IfErr result (λ e. (e ≡ other_replies) × ((n : ℤ) → reply.now ≡ Int n → ⊥)) }
@@ -183,6 +184,23 @@ pub(crate) fn joined(alloc: Global, replies: Vec<Value>) -> RedisResult<Value>
         }
     }
     Ok(Value::Array(Items::from(items)))
+}
+
+/// A map of the replies by the addresses of their nodes.
+pub(crate) fn by_address(
+    alloc: Global,
+    nodes: &[NodeAddr],
+    replies: Vec<Value>,
+) -> Result<Value, AllocError>
+    requires { length replies.items ≡ length nodes.now }
+    ensures { IfOk result (λ answer. answer ≡ Map (addressed nodes.now replies.items)) }
+{
+    let mut pairs = Vec::with_capacity(alloc, nodes.len())?;
+    for reply in replies {
+        let address = Bytes::from(nodes[pairs.len()].address(alloc)?);
+        pairs.push((Value::BulkString(address), reply))?;
+    }
+    Ok(Value::Map(Items::from(pairs)))
 }
 
 /// `OK`, where all are.

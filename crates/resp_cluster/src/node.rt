@@ -1,7 +1,9 @@
 //! Nodes, and the slots that they serve.
 
 ghost use Rattle.std.specs.Prelude.{◌≡◌, ◌↔◌, IfOk, IsTrue};
+ghost use Rattle.resp_cluster.specs.FannedOut.{address_of};
 
+use itoa::Buffer;
 use resp_containers::{Items, Text};
 use std::alloc::{AllocError, Global};
 
@@ -70,6 +72,17 @@ impl NodeAddr {
             port: self.port,
         })
     }
+
+    /// `HOST:PORT`.
+    pub(crate) fn address(&self, alloc: Global) -> Result<Vec<u8>, AllocError>
+        ensures { IfOk result (λ text. text.items ≡ address_of self.now) }
+    {
+        let mut text = Vec::from_slice(alloc, self.host.as_str().as_bytes())?;
+        text.push(b':')?;
+        text.extend_from_slice(Buffer::new().format(self.port).as_bytes())?;
+        Ok(text)
+    }
+
     /// Whether it is this address.
     pub(crate) fn is(&self, other: &NodeAddr) -> bool
         ensures { IsTrue result ↔ (self.now ≡ other.now) }

@@ -1,11 +1,11 @@
 //! A command that goes to several nodes of a cluster.
 
-ghost use Rattle.std.specs.Prelude.{◌≡◌, ◌≢◌, ◌⊎◌, ◌&&◌, None, Some, true, IfErr, IfOk, length, replicate};
+ghost use Rattle.std.specs.Prelude.{◌≡◌, ◌≢◌, ◌⊎◌, None, Some, true, IfErr, IfOk, length, replicate};
 ghost use Rattle.std.specs.List.{find, range_with_len};
 ghost use Rattle.resp_errors.specs.declared.redis_error.RedisError.TheVariants as form;
 ghost use Rattle.resp_cluster.specs.FannedOut.{AreNamed, CannotCombine, CannotFanOut, Combines};
 ghost use Rattle.resp_cluster.specs.FannedOut.{FanOutCall, FanOutRefused, FansOut, Makes, SentToEach};
-ghost use Rattle.resp_cluster.specs.FannedOut.{is_combined, names_several, not_several};
+ghost use Rattle.resp_cluster.specs.FannedOut.{names_several, not_several};
 ghost use Rattle.resp_cluster.specs.FannedOut.{one_is_enough, policy_of, succeeds};
 ghost use Rattle.resp_cluster.specs.Gathered.{RefusedGroup};
 ghost use Rattle.resp_cluster.specs.Merges.{MakesNone, first_error_in, why_none};
@@ -14,9 +14,10 @@ ghost use Rattle.resp_cluster.specs.Spread.{SendsGroup};
 use super::{ClusterLink, no_node};
 use crate::gather::gather;
 use crate::links::Nodes;
-use crate::merge::{joined, least_of, sum_of, unexpected, without_errors};
+use crate::merge::{by_address, joined, least_of, sum_of, unexpected, without_errors};
 use crate::node::NodeAddr;
 use crate::slot_map::SlotMap;
+use crate::truths::logical_and;
 use resp_command::Cmd;
 use resp_containers::Items;
 use resp_routing::{RequestPolicy, ResponsePolicy, Route, args_of, command_info, route_of};
@@ -37,15 +38,15 @@ impl<N: Nodes> ClusterLink<N> {
     ///
     /// - `AllSucceeded`, as of `FLUSHALL`, `SCRIPT LOAD` and `CONFIG SET`: the first reply;
     /// - `OneSucceeded`, as of `SCRIPT KILL`: the first reply that is no error;
+    /// - `AggLogicalAnd`, as of `SCRIPT EXISTS`: an array of 1 where all have a 1, else 0;
     /// - `AggMin`, as of `WAIT`: the least number;
     /// - `AggSum`, as of `DBSIZE`: the sum;
+    /// - `Special`, as of `INFO`: a map of the replies by the nodes' addresses, `HOST:PORT`;
     /// - none, as of `KEYS`: one array of the items of all, where a reply that is no array is an item.
     ///
     /// Refused, with nothing sent and nothing changed: with kind `Client` a command that goes to one
-    /// node, or whose replies are combined otherwise (`INFO`, `SCRIPT EXISTS`), which
-    /// [`ClusterLink::link_to`] sends to a node; and one without a route, as
-    /// [`ClusterLink::req_routed`] refuses it. Refused unsent where the map has no such node, with kind
-    /// `ClusterConnectionNotFound`.
+    /// node; and one without a route, as [`ClusterLink::req_routed`] refuses it. Refused unsent where
+    /// the map has no such node, with kind `ClusterConnectionNotFound`.
     ///
     /// Where a node isn't reached or a call over its link fails, the error is answered: the nodes before
     /// it have run the command. Where all have replied, the first server's error in the replies is
@@ -64,7 +65,7 @@ impl<N: Nodes> ClusterLink<N> {
             return Err(no_node());
         }
         let replies = self.send_to_each(nodes.as_slice(), command)?;
-        let answer = combined(self.alloc, &policies.makes, replies)?;
+        let answer = combined(self.alloc, &policies.makes, nodes.as_slice(), replies)?;
         Ok(answer)
     }
 
@@ -98,7 +99,7 @@ impl SlotMap {
     }
 }
 
-/// The policies of a command that goes to several nodes, and whose replies are combined here.
+/// The policies of a command that goes to several nodes.
 fn policies_of(alloc: Global, command: &Cmd) -> RedisResult<Policies>
     ensures found { IfOk result (λ policies. FansOut command.now policies.to policies.makes) }
     ensures refused { IfErr result (λ e. e ≢ form.OutOfMemory → CannotFanOut command.now e) }
@@ -115,9 +116,11 @@ fn policies_of(alloc: Global, command: &Cmd) -> RedisResult<Policies>
     let Some(to) = policy_of(route) else {
         return Err(not_several());
     };
-    let makes = info.response_policy;
-    if is_fanned_out(&to, &makes) {
-        return Ok(Policies { to, makes });
+    if names_several(&to) {
+        return Ok(Policies {
+            to,
+            makes: info.response_policy,
+        });
     }
     Err(not_several())
 }
@@ -132,13 +135,6 @@ fn policy_of(route: Route) -> Option<RequestPolicy>
     }
 }
 
-/// Whether a command of these policies goes to several nodes, and their replies are combined.
-fn is_fanned_out(to: &RequestPolicy, makes: &Option<ResponsePolicy>) -> bool
-    ensures { result ≡ (names_several to.now && is_combined makes.now) }
-{
-    names_several(to) && is_combined(makes)
-}
-
 /// Whether a request policy names several nodes.
 fn names_several(to: &RequestPolicy) -> bool
     ensures { result ≡ names_several to.now }
@@ -146,22 +142,6 @@ fn names_several(to: &RequestPolicy) -> bool
     match to {
         RequestPolicy::AllShards | RequestPolicy::AllNodes => true,
         RequestPolicy::MultiShard | RequestPolicy::Special => false,
-    }
-}
-
-/// Whether replies are combined by a response policy.
-fn is_combined(makes: &Option<ResponsePolicy>) -> bool
-    ensures { result ≡ is_combined makes.now }
-{
-    match makes {
-        None
-        | Some(
-            ResponsePolicy::OneSucceeded
-            | ResponsePolicy::AllSucceeded
-            | ResponsePolicy::AggMin
-            | ResponsePolicy::AggSum,
-        ) => true,
-        Some(_) => false,
     }
 }
 
@@ -174,21 +154,23 @@ fn not_several() -> RedisError
     ))
 }
 
-/// What replies make by a response policy.
+/// What nodes' replies make by a response policy.
 fn combined(
     alloc: Global,
     makes: &Option<ResponsePolicy>,
+    nodes: &[NodeAddr],
     replies: Vec<Value>,
 ) -> RedisResult<Value>
-    ensures combined { IfOk result (Combines makes.now replies.items) }
+    requires { length replies.items ≡ length nodes.now }
+    ensures combined { IfOk result (Combines makes.now nodes.now replies.items) }
     ensures refused { IfErr result (λ e. e ≢ form.OutOfMemory
-        → CannotCombine makes.now replies.items e) }
+        → CannotCombine makes.now nodes.now replies.items e) }
 {
     if one_is_enough(makes) {
         return first_success(replies);
     }
     let replies = without_errors(alloc, replies)?;
-    made(alloc, makes, replies)
+    made(alloc, makes, nodes, replies)
 }
 
 /// Whether one reply that is no error is enough.
@@ -221,21 +203,29 @@ fn first_success(replies: Vec<Value>) -> RedisResult<Value>
     }
 }
 
-/// What replies without errors make by a response policy.
-fn made(alloc: Global, makes: &Option<ResponsePolicy>, replies: Vec<Value>) -> RedisResult<Value>
-    ensures made { IfOk result (Makes makes.now replies.items) }
+/// What nodes' replies without errors make by a response policy.
+fn made(
+    alloc: Global,
+    makes: &Option<ResponsePolicy>,
+    nodes: &[NodeAddr],
+    replies: Vec<Value>,
+) -> RedisResult<Value>
+    requires { length replies.items ≡ length nodes.now }
+    ensures made { IfOk result (Makes makes.now nodes.now replies.items) }
     ensures refused { IfErr result (λ e. e ≢ form.OutOfMemory
-        → MakesNone (Makes makes.now replies.items) e) }
+        → MakesNone (Makes makes.now nodes.now replies.items) e) }
 {
     match makes {
         None => joined(alloc, replies),
+        Some(ResponsePolicy::OneSucceeded) => Err(unexpected()),
         Some(ResponsePolicy::AllSucceeded) => match replies.into_iter().next() {
             Some(first) => Ok(first),
             None => Err(unexpected()),
         },
+        Some(ResponsePolicy::AggLogicalAnd) => logical_and(alloc, replies.as_slice()),
         Some(ResponsePolicy::AggMin) => least_of(replies.as_slice()),
         Some(ResponsePolicy::AggSum) => sum_of(replies.as_slice()),
-        Some(_) => Err(unexpected()),
+        Some(ResponsePolicy::Special) => Ok(by_address(alloc, nodes, replies)?),
     }
 }
 
