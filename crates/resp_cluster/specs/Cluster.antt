@@ -245,7 +245,7 @@ module _ {L : Type 0} (of_link : L → Connection) where
 
   -- the map is asked for: primaries that it knows are asked in turn, and where none gives one the map stays
   pub data Refreshes (old new : Cluster L) : Type 0 where
-    no_memory : new ≡ record old { stale = false } → Refreshes old new
+    no_memory : new ≡ record old { stale = true } → Refreshes old new
     learnt : (nodes : List NodeAddr) (links : Links L) (map : List SlotRange) → ArePrimaries old.map nodes
         → AsksInTurn nodes old.links links (Ok map)
         → new ≡ record { links = links; map = map; budget = old.budget; reads = old.reads; stale = false } → Refreshes old new

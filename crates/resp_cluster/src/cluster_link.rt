@@ -363,14 +363,15 @@ impl<N: Nodes> ClusterLink<N> {
     }
 
     /// Asks for the map, as `Refreshes` says: the primaries that it knows are asked in turn, and
-    /// where none gives one the map stays.
+    /// where none gives one the map stays. It is still to be asked for where memory runs out first.
     fn refresh(&mut self)
         ensures { Refreshes N.Link.connection self.old self.new }
     {
-        self.stale = false;
         let Ok(nodes) = self.map.primaries(self.alloc) else {
+            self.stale = true;
             return;
         };
+        self.stale = false;
         let Ok(map) = self.links.ask_in_turn(nodes.as_slice()) else {
             return;
         };

@@ -49,9 +49,9 @@ impl<N: Nodes> ClusterLink<N> {
     /// the map has no such node, with kind `ClusterConnectionNotFound`.
     ///
     /// Where a node isn't reached or a call over its link fails, the error is answered: the nodes before
-    /// it have run the command. Where all have replied, the first server's error in the replies is
-    /// answered, but where one success is enough; or kind `UnexpectedReturnType` where they make no
-    /// such answer.
+    /// it have run the command. After `OutOfMemory` all may have. Where all have replied, the first
+    /// server's error in the replies is answered, but where one success is enough; or kind
+    /// `UnexpectedReturnType` where they make no such answer.
     pub fn req_fan_out(&mut self, command: &Cmd) -> RedisResult<Value>
         ensures answered { IfOk result (λ answer. FanOutCall N.Link.connection command.now self.old
             answer self.new) }

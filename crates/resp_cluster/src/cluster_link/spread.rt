@@ -31,7 +31,7 @@ impl<N: Nodes> ClusterLink<N> {
     ///
     /// Refused unsent where [`ClusterLink::req_routed`] refuses one of them. Where a node isn't reached,
     /// or a call over its link fails, the error is answered: the commands of the nodes before it have
-    /// run.
+    /// run. After `OutOfMemory` all may have.
     pub fn req_commands(&mut self, commands: &[Cmd]) -> RedisResult<Vec<Value>>
         ensures spread { IfOk result (λ answers. SpreadCall N.Link.connection commands.now self.old
             answers.items self.new) }
