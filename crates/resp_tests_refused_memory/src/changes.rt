@@ -13,7 +13,7 @@ use std::collections::{BTreeMap, BTreeSet, HashMap, HashSet};
 use std::rc::Rc;
 
 /// A call that changes an object.
-trait Change: Clone + Copy {
+pub trait Change: Clone + Copy {
     type Object: Subject;
 
     fn apply(self, alloc: Global, to: &mut Self::Object) -> RedisResult<()>;
@@ -63,7 +63,7 @@ fn changes_each_size<C: Change>(rt: &impl Test, change: C) {
 }
 
 /// The same of each call.
-fn changes<C: Change>(rt: &impl Test, calls: &[C]) {
+pub fn changes<C: Change>(rt: &impl Test, calls: &[C]) {
     for change in calls {
         changes_each_size(rt, *change);
     }

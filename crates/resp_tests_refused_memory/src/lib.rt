@@ -18,6 +18,8 @@ macro_rules! makes {
 #[cfg(test)]
 mod changes;
 #[cfg(test)]
+mod clusters;
+#[cfg(test)]
 mod connecting;
 #[cfg(test)]
 mod conversions;
@@ -35,6 +37,8 @@ mod links;
 mod made;
 #[cfg(test)]
 mod no_memory;
+#[cfg(test)]
+mod no_memory_clusters;
 #[cfg(test)]
 mod no_memory_connecting;
 #[cfg(test)]

@@ -318,7 +318,7 @@ fn sinks(rt: HostRuntime) {
     let room = Vec::with_capacity(rt.alloc(), 9).expect(&rt, "no refusal");
     refuse_all(rt.alloc());
     let mut sink = Writing::new(room);
-    equal(&rt, sink.send(b"abc"), Ok(3));
+    equal(&rt, CommandSink::send(&mut sink, b"abc"), Ok(3));
     equal(&rt, sink.flush(), Ok(()));
     equal(&rt, sink.into_inner().len(), 3);
     took_none(&rt);

@@ -156,6 +156,6 @@ fn is_waiting(parser: &mut Parser) -> bool {
 }
 
 /// The Debug text of the reply that is taken, if it is there.
-fn taken_text(rt: &impl Test, parser: &mut Parser) -> String {
+pub fn taken_text(rt: &impl Test, parser: &mut Parser) -> String {
     debug_text(rt, &parser.take_value().expect(rt, "no refusal"))
 }
