@@ -1,6 +1,6 @@
 -- The header of a bulk string, and what reading gives after it.
 use Rattle.std.proofs.Common.{◌≡◌, ℕ, zero, suc, ◌+◌, ◌-◌, ◌<◌, ◌≤◌, false, List, [], ◌∷◌, ◌++◌, refl, ap, sym}
-use Rattle.std.proofs.Common.{◌∙◌, subst, arith, length, take, drop, ℤ, pos, negsuc, Option, None, Some}
+use Rattle.std.proofs.Common.{◌∙◌, subst, arith, length, length-append, take, drop, ℤ, pos, negsuc, Option, None, Some}
 use Rattle.std.proofs.Common.{Result, Ok, Err}
 use Rattle.std.proofs.lemmas.Grind.{common_steps}
 use Rattle.std.specs.Str.{IsUtf8, is_utf8}
@@ -9,12 +9,12 @@ use Rattle.resp_value.specs.declared.value.Value.{Value, BulkString}
 use Rattle.resp_errors.specs.declared.kinds.FrameFault.{FrameFault}
 use Rattle.resp_parse.specs.declared.type_byte.TypeByte.TheVariants as type_byte
 use Rattle.resp_parse.specs.declared.decoder.bulk_header.BulkHeader.{BulkHeader}
-use Rattle.resp_parse.specs.Lines.{NoneBefore, Scanned}
+use Rattle.resp_parse.specs.Lines.{NoneBefore}
 use Rattle.resp_parse.specs.Number.{integer_in, length_in, as_length}
 use Rattle.resp_parse.specs.Grammar.{Header}
 use Rattle.resp_parse.specs.Prefixes.{IsIncomplete}
 use Rattle.resp_parse.specs.PlainReading.{ReadOutcome, got, incomplete, then, line, read_body, read_line, read}
-use Rattle.resp_parse.specs.Resume.{FindsLine}
+use Rattle.resp_parse.specs.Resume.{FindsLine, IsLooked}
 use Rattle.resp_parse.specs.BulkBodies.{OpensBody, OpensBulk, BeginsOther, InHeader, NoBulk, Finds}
 use Rattle.resp_parse.specs.declared.limits.Limits.{Limits}
 use Rattle.resp_parse.specs.Limits.{AreLimits}
@@ -124,9 +124,10 @@ in_header-line c after dollar none =
     }
 
 -- more bytes came
-pub in_header-longer : (u more : List ℕ) → InHeader u → Scanned (drop 1 (u ++ more)) (length u - 1)
-in_header-longer [] more h = Scanned-none (drop 1 more)
-in_header-longer (c ∷ u) more h = Scanned-longer u more (length (c ∷ u) - 1) h.looked
+pub in_header-longer : (u more : List ℕ) → InHeader u → IsLooked (u ++ more) (length u)
+in_header-longer [] more h = record { within = omega arith; rest = Scanned-none (drop 1 more) }
+in_header-longer (c ∷ u) more h =
+    record { within = omega (arith, length-append u more); rest = Scanned-longer u more (length (c ∷ u) - 1) h.looked }
 
 pub in_header-awaits : (l : Limits) (u : List ℕ) → AreLimits l → InHeader u → length u ≤ l.bytes → Awaits l u
 in_header-awaits l u a h few =

@@ -1,6 +1,6 @@
 //! The ends of lines and bodies.
 
-ghost use Rattle.std.specs.Prelude.{◌≡◌, suc, get_or, IfSome, Ok, take};
+ghost use Rattle.std.specs.Prelude.{◌≡◌, ◌-◌, suc, get_or, IfSome, Ok, take};
 ghost use Rattle.resp_parse.specs.Lines.{Scanned};
 ghost use Rattle.resp_parse.specs.Number.{IsNumeral};
 ghost use Rattle.resp_parse.specs.Resume.{FindsLine, FindsNumeral, EndsBody, BeginsWithBody, BeginsWithBulk, len_of};
@@ -22,20 +22,21 @@ pub(crate) struct Line {
     pub(crate) number: Option<u64>,
 }
 
-/// The first line, where the first `scanned` bytes hold no CR LF.
+/// The first line after a type byte, where the first `looked` bytes, this one among them, hold no
+/// CR LF.
 #[inline(always)]
-pub(crate) fn first_line(bytes: &[u8], scanned: usize, counts: &mut Counter) -> Option<Line>
-    requires scanned { Scanned bytes.now scanned }
+pub(crate) fn first_line(bytes: &[u8], looked: usize, counts: &mut Counter) -> Option<Line>
+    requires looked { Scanned bytes.now (looked - 1) }
     ensures line { FindsLine bytes.now (len_of result) }
     ensures number { IfSome result (λ line.
         IfSome line.number (IsNumeral (take line.len bytes.now))) }
-    ensures looks { LooksAt scanned bytes.now counts.old counts.new (len_of result) }
+    ensures looks { LooksAt (looked - 1) bytes.now counts.old counts.new (len_of result) }
 {
     if let Some(line) = short_line(bytes) {
         return Some(line);
     }
-    if scanned > 0 {
-        let len = line_end(bytes, scanned, counts)?;
+    if looked > 1 {
+        let len = line_end(bytes, looked - 1, counts)?;
         return Some(Line { len, number: None });
     }
     match numeral(bytes, counts) {

@@ -227,7 +227,7 @@ impl<B: Builder> Machine<B> {
                 return Ok(Step::Whole(taken, short));
             }
         }
-        let Some(line) = first_line(after, self.scanned.saturating_sub(1), counts) else {
+        let Some(line) = first_line(after, self.scanned, counts) else {
             counts.examine(bytes.len() - self.scanned);
             self.scanned = bytes.len();
             return Ok(Step::Waits(0));
@@ -522,7 +522,7 @@ impl<B: Builder> Machine<B> {
         }
     }
 
-    /// The same, with a whole value handed out.
+    /// Goes on as [`Machine::run`] does, and hands out a value that is whole.
     #[inline(always)]
     pub(crate) fn read(
         &mut self,

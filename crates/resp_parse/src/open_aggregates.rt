@@ -103,12 +103,13 @@ impl OpenAggregates {
         } = aggregate;
         let outer_seen = mem::replace(&mut self.seen, seen);
         if self.len > 0 {
-            self.outer.push(OpenAggregate {
+            self.outer.reserve(1)?;
+            self.outer.push_reserved(OpenAggregate {
                 kind: self.kind,
                 size: self.size,
                 after: self.after,
                 seen: outer_seen,
-            })?;
+            });
         }
         self.len += 1;
         self.kind = kind;

@@ -389,7 +389,7 @@ impl Parser {
             if bytes.len() > most {
                 return Ok(None);
             }
-            looked = bytes.len().saturating_sub(1);
+            looked = bytes.len();
             self.ask(source)?;
         }
         self.fail();

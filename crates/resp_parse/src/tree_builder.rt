@@ -149,8 +149,10 @@ impl Builder for TreeBuilder {
         after: usize,
         at_hand: usize,
     ) -> Result<(), AllocError> {
+        self.outer.reserve(1)?;
         let room = room_for(alloc, kind, after.saturating_add(1), at_hand)?;
-        self.outer.push(mem::replace(&mut self.elements, room))?;
+        self.outer
+            .push_reserved(mem::replace(&mut self.elements, room));
         Ok(())
     }
 

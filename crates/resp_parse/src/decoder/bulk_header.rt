@@ -1,7 +1,6 @@
 //! The header of a bulk string.
 
-ghost use Rattle.std.specs.Prelude.{drop};
-ghost use Rattle.resp_parse.specs.Lines.{Scanned};
+ghost use Rattle.resp_parse.specs.Resume.{IsLooked};
 ghost use Rattle.resp_parse.specs.BulkBodies.{Starts};
 
 use crate::decoder::Counter;
@@ -28,9 +27,9 @@ pub(crate) enum Start {
     Unknown,
 }
 
-/// What the bytes begin with. The first `looked` bytes after the first hold no CR LF.
+/// What the bytes begin with. The first `looked` bytes hold no CR LF.
 pub(crate) fn start_of(bytes: &[u8], looked: usize) -> Start
-    requires looked { Scanned (drop 1 bytes.now) looked }
+    requires looked { IsLooked bytes.now looked }
     ensures starts { Starts bytes.now result }
 {
     let Some((first, after)) = bytes.split_first() else {

@@ -46,18 +46,18 @@ returns-in-Ok-None-clause-steps g c =
     c.begin.new.self c.in-Ok-None.ensures.scanned (rw c.in-Ok-None.field-0-is at c.in-Ok-None.ensures.goes))
 
 pub overflow_sub-len : goal.overflow_sub-len
-overflow_sub-len g c = omega (arith, c.in-Some-first_line.ensures.looks.2, c.saturating_sub.ensures)
+overflow_sub-len g c = omega (arith, c.in-Some-first_line.ensures.looks.2)
 
 pub returns-in-Ok-Some-clause-cost : goal.returns-in-Ok-Some-clause-cost
 returns-in-Ok-Some-clause-cost g c =
     let p = rw c.in-Ok-Some.field-0-is at c.in-Ok-Some.ensures.begins in
     let q = header-cost c.args.self.now c.begin.new.self c.args.counts.now c.first_line.new.counts c.examine-2.new.self
-    c.examine-2.new.self c.in-Some-first_line.line.len c.saturating_sub.result c.in-Some.after.now
-    c.saturating_sub.ensures c.in-Some-first_line.ensures.looks c.examine-2.ensures refl 1 (omega (arith, p))
+    c.examine-2.new.self c.in-Some-first_line.line.len (c.args.self.now.scanned - 1) c.in-Some.after.now
+    refl c.in-Some-first_line.ensures.looks c.examine-2.ensures refl 1 (omega (arith, p))
     c.in-Ok-Some.ensures.scanned in (
       header-looks c.args.self.now c.begin.new.self c.args.counts.now c.first_line.new.counts c.examine-2.new.self
-          c.examine-2.new.self c.in-Some-first_line.line.len c.saturating_sub.result c.in-Some.after.now
-          c.saturating_sub.ensures c.in-Some-first_line.ensures.looks c.examine-2.ensures refl
+          c.examine-2.new.self c.in-Some-first_line.line.len (c.args.self.now.scanned - 1) c.in-Some.after.now
+          refl c.in-Some-first_line.ensures.looks c.examine-2.ensures refl
           c.in-Ok-Some.ensures.scanned,
       omega (arith, q),
     )
@@ -66,12 +66,12 @@ pub returns-in-Ok-None-clause-cost : goal.returns-in-Ok-None-clause-cost
 returns-in-Ok-None-clause-cost g c =
     let p = rw c.in-Ok-None.field-0-is at c.in-Ok-None.ensures.begins in
     let q = header-cost c.args.self.now c.begin.new.self c.args.counts.now c.first_line.new.counts c.examine-2.new.self
-    c.examine-2.new.self c.in-Some-first_line.line.len c.saturating_sub.result c.in-Some.after.now
-    c.saturating_sub.ensures c.in-Some-first_line.ensures.looks c.examine-2.ensures refl 0 (omega (arith, p))
+    c.examine-2.new.self c.in-Some-first_line.line.len (c.args.self.now.scanned - 1) c.in-Some.after.now
+    refl c.in-Some-first_line.ensures.looks c.examine-2.ensures refl 0 (omega (arith, p))
     c.in-Ok-None.ensures.scanned in (
       header-looks c.args.self.now c.begin.new.self c.args.counts.now c.first_line.new.counts c.examine-2.new.self
-          c.examine-2.new.self c.in-Some-first_line.line.len c.saturating_sub.result c.in-Some.after.now
-          c.saturating_sub.ensures c.in-Some-first_line.ensures.looks c.examine-2.ensures refl
+          c.examine-2.new.self c.in-Some-first_line.line.len (c.args.self.now.scanned - 1) c.in-Some.after.now
+          refl c.in-Some-first_line.ensures.looks c.examine-2.ensures refl
           c.in-Ok-None.ensures.scanned,
       omega (arith, q),
     )

@@ -3,7 +3,7 @@ use Rattle.std.proofs.lemmas.Result.{err_from_is_err_and}
 use Rattle.resp_parse.specs.Counts.{Counts}
 use Rattle.resp_parse.specs.declared.limits.Limits.{Limits}
 use Rattle.resp_parse.specs.Limits.{AreLimits}
-use Rattle.resp_parse.specs.Lines.{Scanned}
+use Rattle.resp_parse.specs.Resume.{IsLooked}
 use Rattle.resp_parse.specs.Limited.{Awaits}
 use Rattle.resp_parse.specs.Calls.{Takes}
 use Rattle.resp_parse.specs.BulkBodies.{BeginsOther, InHeader, OpensBulk}
@@ -16,7 +16,7 @@ pub loop-init : goal.loop-init
 loop-init g c = record {
   limits = refl;
   rest = c.requires.rest;
-  looked = Scanned-none _;
+  looked = record { within = omega arith; rest = Scanned-none _ };
   filled = λ b h. FilledAsNeeded-none b c.args.self.now (g.S.ReplySource.source c.args.source.now) h;
 }
 
@@ -74,10 +74,8 @@ loop-preserved g c =
     record {
       limits = c.ask.ensures.limits ∙ c.loop.invariant.limits;
       rest = rest;
-      looked = (let size : length at.unparsed - 1 ≡ c.saturating_sub-looked.result = omega
-          (arith, c.saturating_sub-looked.ensures, ap length c.unparsed-bytes.ensures.unparsed) in
-          subst (λ n. Scanned (drop 1 c.ask.new.self.unparsed) n) size
-          (subst (λ u. Scanned (drop 1 u) (length at.unparsed - 1)) now (in_header-longer _ _ header)));
+      looked = subst (IsLooked c.ask.new.self.unparsed) (ap length (sym c.unparsed-bytes.ensures.unparsed))
+          (subst (λ u. IsLooked u (length at.unparsed)) now (in_header-longer _ _ header));
       filled = λ b h.
           let k = c.loop.invariant.filled b h in
           let held : b ++ k.more.filled ≡ at.unparsed = c.loop.invariant.rest.only (b ++ k.more.filled) k.more.stands in

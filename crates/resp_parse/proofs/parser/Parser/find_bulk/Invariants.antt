@@ -1,5 +1,5 @@
-use Rattle.std.proofs.Common.{◌≡◌, List, ℕ, drop}
-use Rattle.resp_parse.specs.Lines.{Scanned}
+use Rattle.std.proofs.Common.{◌≡◌, List, ℕ}
+use Rattle.resp_parse.specs.Resume.{IsLooked}
 use Rattle.resp_parse.specs.State.{StandsAfter, IsBetweenValues}
 use Rattle.resp_parse.proofs.Parsing.{FilledAsNeeded}
 use Rattle.resp_parse.proofs.parser.Parser.find_bulk.Given as goal
@@ -11,7 +11,7 @@ invariant-loop g l =
     record {
       limits : l.self.limits ≡ l.fn.self.limits;
       rest : IsBetweenValues l.self;
-      looked : Scanned (drop 1 l.self.unparsed) l.looked;
+      looked : IsLooked l.self.unparsed l.looked;
       filled : (b : List ℕ) → StandsAfter l.fn.self b
           → FilledAsNeeded b l.fn.self l.self (source l.fn.source) (source l.source);
     }

@@ -8,7 +8,7 @@ returns c = record {
   stands = λ fs f b h.
       let outer = c.args.self.now.outer.items in
       let elements = c.args.self.now.elements in
-      let pushed : c.push.new.self.items ≡ outer ++ (elements ∷ []) = search rules in (
+      let pushed : c.push_reserved.new.self.items ≡ outer ++ (elements ∷ []) = search rules in (
         pushed ∙ opened-lists outer elements fs h,
         c.replace.ensures.after ∙ c.in_ok-room.ensures
             ∙ ap (kept_as c.args.kind) (sym b.none) ∙ ap (λ k. kept_as k f.seen) (sym b.kind_is),
