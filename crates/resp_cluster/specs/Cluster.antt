@@ -200,6 +200,14 @@ IsMapOf node reply (Ok map) = map_in node.host reply ≡ Ok map
 IsMapOf node reply (Err (wrong.NoMap e)) = e ≢ topology.OutOfMemory → map_in node.host reply ≡ Err e
 IsMapOf node reply (Err _) = ⊥
 
+-- why no map was had, as an error of a connection
+abbrev pub without_map : MapError → RedisError
+without_map wrong.NoNode = General kind.ClusterConnectionNotFound (codes "no node to ask for the map of slots") None
+without_map (wrong.Unreached e) = e
+without_map (wrong.Failed e) = e
+without_map (wrong.NoMap topology.OutOfMemory) = OutOfMemory
+without_map (wrong.NoMap why) = General kind.UnexpectedReturnType (codes "the reply gives no map of slots") None
+
 -- the map that a node's answer gives, or why it gives none
 abbrev pub IsMapAnswer : NodeAddr → Result Value RedisError → Result (List SlotRange) MapError → Type 0
 IsMapAnswer node (Ok reply) r = IsMapOf node reply r
@@ -224,12 +232,14 @@ module _ {L : Type 0} (of_link : L → Connection) where
     pub error : MapError
     pub asks : AsksMap node old new (Err error)
 
-  -- nodes are asked for the map, one after another, until one gives it
+  -- nodes are asked for the map, one after another, until one gives it; where none does, the last one says why
   pub data AsksInTurn (nodes : List NodeAddr) (old new : Links L) (r : Result (List SlotRange) MapError) : Type 0 where
     found : (front : List NodeAddr) (node : NodeAddr) (back : List NodeAddr) (before : Links L) (map : List SlotRange)
         → nodes ≡ front ++ node ∷ back → FoldsTo AsksInVain old front before → AsksMap node before new (Ok map)
         → r ≡ Ok map → AsksInTurn nodes old new r
-    in_vain : (e : MapError) → FoldsTo AsksInVain old nodes new → r ≡ Err e → AsksInTurn nodes old new r
+    nobody : nodes ≡ [] → new ≡ old → r ≡ Err wrong.NoNode → AsksInTurn nodes old new r
+    in_vain : (front : List NodeAddr) (last : NodeAddr) (before : Links L) (e : MapError) → nodes ≡ front ++ last ∷ []
+        → FoldsTo AsksInVain old front before → AsksMap last before new (Err e) → r ≡ Err e → AsksInTurn nodes old new r
 
   -- one whose map a node gave
   pub record Opens (seeds : List NodeAddr) (budget : ℕ) (cluster : Cluster L) : Type 0 where

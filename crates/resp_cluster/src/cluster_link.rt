@@ -305,6 +305,9 @@ impl<N: Nodes> ClusterLink<N> {
     }
 
     /// Sends a command to its first node, and on to where redirects point.
+    // Not inlined, as others below: a command that its node answers at once comes to none of them,
+    // and clears no locals for them.
+    #[inline(never)]
     fn round(&mut self, route: &Route, command: &Cmd) -> RedisResult<Sent>
         ensures { Round N.Link.connection command.now route.now self.old self.new result }
     {
@@ -338,6 +341,7 @@ impl<N: Nodes> ClusterLink<N> {
     }
 
     /// Has a command go on from what its node answered: that of the link that was used last.
+    #[inline(never)]
     fn round_on(&mut self, command: &Cmd, answer: RedisResult<Value>) -> Sent
         ensures { (node : NodeAddr) → IsLastNode node self.old.links
             → RoundOn N.Link.connection command.now node (Sent.Answered answer) self.old self.new
@@ -364,6 +368,7 @@ impl<N: Nodes> ClusterLink<N> {
 
     /// Asks for the map, as `Refreshes` says: the primaries that it knows are asked in turn, and
     /// where none gives one the map stays. It is still to be asked for where memory runs out first.
+    #[inline(never)]
     fn refresh(&mut self)
         ensures { Refreshes N.Link.connection self.old self.new }
     {
@@ -441,6 +446,7 @@ impl<N: Nodes> ClusterLink<N> {
     }
 
     /// Asks for the map, and sends a command by its route.
+    #[inline(never)]
     fn once_more(&mut self, route: &Route, command: &Cmd) -> RedisResult<Value>
         ensures { OnceMore N.Link.connection command.now route.now self.old self.new result }
     {

@@ -7,10 +7,11 @@ use crate::links::{NodeLinks, Nodes};
 use crate::node::{NodeAddr, TopologyError};
 use crate::slot_map::SlotMap;
 use resp_command::ConnectionLike;
-use resp_value::{RedisError, RedisResult, Value};
+use resp_value::{ErrorKind, RedisError, RedisResult, Value};
 use std::alloc::Global;
 
 /// Why no map was had.
+#[derive(Drop)]
 pub enum MapError {
     /// There was no node to ask.
     NoNode,
@@ -22,15 +23,27 @@ pub enum MapError {
     NoMap(TopologyError),
 }
 
-/// By hand, so that the proof of a function that owns one has a call where it is dropped, and not a
-/// case for each part.
-impl Drop for MapError {
-    #[inline(always)]
-    fn drop(self) {
-        match self {
-            MapError::NoNode => {}
-            MapError::Unreached(_) | MapError::Failed(_) => {}
-            MapError::NoMap(_) => {}
+/// As an error of a connection: a node's failure is itself, and so is want of memory; where there was no
+/// node to ask it is of kind `ClusterConnectionNotFound`, and where the reply gives no map
+/// `UnexpectedReturnType`.
+impl From<MapError> for RedisError {
+    ghost use Rattle.std.specs.Prelude.{◌≡◌};
+    ghost use Rattle.resp_cluster.specs.Cluster.{without_map};
+
+    ghost from_gives = { λ why e. e ≡ without_map why };
+
+    fn from(why: MapError) -> RedisError {
+        match why {
+            MapError::NoNode => RedisError::from((
+                ErrorKind::ClusterConnectionNotFound,
+                "no node to ask for the map of slots",
+            )),
+            MapError::Unreached(error) | MapError::Failed(error) => error,
+            MapError::NoMap(TopologyError::OutOfMemory) => RedisError::OutOfMemory,
+            MapError::NoMap(_) => RedisError::from((
+                ErrorKind::UnexpectedReturnType,
+                "the reply gives no map of slots",
+            )),
         }
     }
 }
@@ -67,7 +80,8 @@ impl<N: Nodes> NodeLinks<N> {
     ghost use Rattle.resp_cluster.specs.Cluster.{AsksInTurn, AsksMap, AsksReached, slots_bytes};
     ghost use Rattle.resp_cluster.specs.Links.{UsesLast, last_used};
 
-    /// Asks nodes for the map, one after another, until one gives it.
+    /// Asks nodes for the map, one after another, until one gives it; where none does, answers why the
+    /// last one didn't.
     pub(crate) fn ask_in_turn(&mut self, nodes: &[NodeAddr]) -> Result<SlotMap, MapError>
         ensures { AsksInTurn N.Link.connection nodes.now self.old self.new result }
     {
