@@ -184,10 +184,40 @@ fn ask_routed_often(
 
 #[inline(never)]
 fn ask_routed(alloc: Global, con: &mut ClusterLink<Answering>) -> RedisResult<()> {
-    let reply = con.req_command(&keyed(alloc, "GET")?)?;
-    let value: String = from_redis_value(alloc, reply.extract_error()?)?;
+    answer_routed(alloc, &keyed(alloc, "GET")?, con)
+}
+
+/// Asks over a cluster's links, and drops the answer.
+#[inline(never)]
+fn answer_routed(
+    alloc: Global,
+    command: &Cmd,
+    con: &mut ClusterLink<Answering>,
+) -> RedisResult<()> {
+    let value = query_routed(alloc, command, con)?;
     discard(value);
     Ok(())
+}
+
+/// What [`Cmd::query`] does, over a cluster's links.
+#[inline(never)]
+fn query_routed(
+    alloc: Global,
+    command: &Cmd,
+    con: &mut ClusterLink<Answering>,
+) -> RedisResult<String> {
+    let reply = match con.req_command(command) {
+        Ok(reply) => reply,
+        Err(error) => return Err(error),
+    };
+    let reply = match reply.extract_error() {
+        Ok(reply) => reply,
+        Err(error) => return Err(error),
+    };
+    match from_redis_value(alloc, reply) {
+        Ok(value) => Ok(value),
+        Err(error) => Err(error.into()),
+    }
 }
 
 /// Asks and drops the answer.
