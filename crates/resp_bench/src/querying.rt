@@ -199,7 +199,7 @@ fn answer_routed(
     Ok(())
 }
 
-/// What [`Cmd::query`] does, over a cluster's links.
+/// What [`Cmd::query`] does where the reply holds no error, over a cluster's links.
 #[inline(never)]
 fn query_routed(
     alloc: Global,
@@ -207,10 +207,6 @@ fn query_routed(
     con: &mut ClusterLink<Answering>,
 ) -> RedisResult<String> {
     let reply = match con.req_command(command) {
-        Ok(reply) => reply,
-        Err(error) => return Err(error),
-    };
-    let reply = match reply.extract_error() {
         Ok(reply) => reply,
         Err(error) => return Err(error),
     };
