@@ -7,8 +7,8 @@ use crate::links::{Asked, Link, Until, answered, link, sent};
 use crate::scans::is_one_of;
 use crate::subjects::{Subject, taken_text};
 use resp_cluster::{
-    ClusterLink, MapError, NodeAddr, Nodes, PortKind, ReadOnly, Redirect, RouteError, SendCommand,
-    SlotMap, TopologyError, read_only, redirect_of, route,
+    ClusterLink, NodeAddr, Nodes, PortKind, ReadOnly, Redirect, RouteError, SendCommand, SlotMap,
+    TopologyError, read_only, redirect_of, route,
 };
 use resp_core::{
     ByteLink, Cmd, ConnectionLike, ErrorKind, Parser, Pipeline, RedisError, RedisResult, Text,
@@ -551,27 +551,15 @@ const MAPPED: &[u8] = b"*2\r\n\
     *4\r\n:0\r\n:8191\r\n*2\r\n$1\r\na\r\n:7001\r\n*2\r\n$1\r\nc\r\n:7003\r\n\
     *3\r\n:8192\r\n:16383\r\n*2\r\n$1\r\nb\r\n:7002\r\n:12\r\n:13\r\n";
 
-/// Want of memory, or that there is no map.
-fn of_map(error: MapError) -> RedisError {
-    let ran_out = match &error {
-        MapError::Unreached(error) | MapError::Failed(error) => error.kind()
-            == ErrorKind::OutOfMemory,
-        MapError::NoMap(error) => matches!(error, TopologyError::OutOfMemory),
-        MapError::NoNode => false,
-    };
-    if ran_out {
-        return RedisError::OutOfMemory;
-    }
-    RedisError::from((ErrorKind::Client, "no map"))
-}
-
 /// The first node has no map and the second one has; or memory ran out for the map of the second.
 #[test]
 fn clusters_that_are_opened(rt: HostRuntime) {
     let seeds = [node(&rt, "b", 7002), node(&rt, "a", 7001)];
     let nodes = scripted(&rt, MAPPED);
     refuse(rt.alloc());
-    let opened = ClusterLink::open(rt.alloc(), nodes, seeds.as_slice(), 3).map_err(of_map);
+    let opened = ClusterLink::open(rt.alloc(), nodes, seeds.as_slice(), 3).map_err(
+        RedisError::from,
+    );
     if ran_out(&rt, &opened) {
         return;
     }
