@@ -48,7 +48,7 @@ AnyError reply e = Unit {0}
 abbrev pub AnyButMemory : Value → ParsingError → Type 0
 AnyButMemory reply e = e ≢ parsing.OutOfMemory
 
--- what a conversion of a borrowed reply may answer: `OutOfMemory` for its copy, or what the
+-- what a conversion of a reply that isn't moved may answer: `OutOfMemory` for a copy, or what the
 -- conversion of the copy answers
 abbrev pub OrMemory : (ParsingError → Type 0) → ParsingError → Type 0
 OrMemory Allows e = (e ≡ parsing.OutOfMemory) ⊎ Allows e

@@ -48,14 +48,14 @@ pub trait FromRedisValue: Sized + Drop {
         ensures converts { Converts (of_value value) result }
         ensures errors { IfErr result (error_of_value value) };
 
-    /// The value of a borrowed reply; unless the type says more, that of a copy.
+    /// The value of a borrowed reply; unless the type says more, as `from_reply` reads it.
     ///
     /// Refused where the reply is no value of the type, or on `OutOfMemory`.
     fn from_redis_value_ref(alloc: Global, value: &Value) -> Result<Self, ParsingError>
         ensures converts { Converts (of_value value.now) result }
         ensures errors { IfErr result (OrMemory (error_of_value value.now)) }
     {
-        Self::from_redis_value(alloc, value.try_clone(alloc)?)
+        Self::from_reply(alloc, value)
     }
 
     /// The value of a reply in any form; unless the type says more, by way of a tree.
@@ -67,6 +67,8 @@ pub trait FromRedisValue: Sized + Drop {
     /// value of the type: [`FlatValue::to_value`](resp_flat::FlatValue::to_value) tells.
     fn from_reply<R: Reply>(alloc: Global, reply: R) -> Result<Self, ParsingError>
         ensures converts { (v : Value) → R.shows reply v → Converts (of_value v) result }
+        ensures errors { (v : Value) → R.shows reply v
+            → IfErr result (OrMemory (error_of_value v)) }
         ensures refused { reads_tree (R.token_kind reply) → R.shows_nothing reply
             → IsErrAnd result RefusesTokens }
     {

@@ -16,12 +16,12 @@ ghost use Rattle.resp_from.specs.Texts.{OfText};
 use crate::texts::{text_of, text_of_cursor};
 use resp_errors::RedisError;
 use resp_flat::{FlatElements, FlatPairs, FlatValue, TokenKind};
-use resp_value::{OwnedMapIter, ParsingError, Text, Value};
+use resp_value::{MapIter, OwnedMapIter, ParsingError, Text, Value};
 use std::alloc::Global;
 use std::vec::IntoIter;
 
-/// A reply in a form that types are read of: a tree, of which the parts are moved, or a cursor in a
-/// flat reply.
+/// A reply in a form that types are read of: a tree, of which the parts are moved, a borrowed tree,
+/// or a cursor in a flat reply.
 pub trait Reply: Sized + Drop {
     /// The values of an array or a set that are left, in this form.
     type Elements: Drop;
@@ -304,5 +304,82 @@ impl Reply for Value {
 
     fn into_value(self, _alloc: Global) -> Result<Value, ParsingError> {
         Ok(self)
+    }
+}
+
+/// A borrowed tree shows the tree. Its texts are copied.
+impl<'a> Reply for &'a Value {
+    ghost use Rattle.std.specs.Prelude.{◌≡◌, length};
+    ghost use Rattle.resp_value.specs.MapIters.{pairs_left};
+    ghost use Rattle.resp_flat.specs.FlatValues.{kind_of};
+
+    type Elements = &'a [Value];
+
+    type Pairs = MapIter<'a>;
+
+    ghost shows = { λ reply v. reply.now ≡ v };
+
+    ghost shows_nothing = { λ _. ⊥ };
+
+    ghost token_kind = { λ reply. kind_of reply.now };
+
+    ghost show = { λ elements vs. elements.now ≡ vs };
+
+    ghost pairs_show = { λ pairs ps. pairs_left pairs ≡ ps };
+
+    ghost elements_left = { λ elements. length elements.now };
+
+    ghost pairs_left = { λ pairs. length (pairs_left pairs) };
+
+    fn kind(&self) -> TokenKind {
+        kind_of(*self)
+    }
+
+    fn as_int(&self) -> Option<i64> {
+        Value::as_int(*self)
+    }
+
+    fn as_bool(&self) -> Option<bool> {
+        Value::as_bool(*self)
+    }
+
+    fn as_line(&self) -> Option<&[u8]> {
+        Value::as_line(*self)
+    }
+
+    fn len(&self) -> usize {
+        Value::len(*self)
+    }
+
+    fn into_elements(self) -> Result<&'a [Value], &'a Value> {
+        match self {
+            Value::Array(elements) | Value::Set(elements) => Ok(elements.as_slice()),
+            _ => Err(self),
+        }
+    }
+
+    fn into_pairs(self) -> Result<MapIter<'a>, &'a Value> {
+        match self {
+            Value::Map(_) => self.as_map_iter().ok_or(self),
+            _ => Err(self),
+        }
+    }
+
+    fn next_of(elements: &mut &'a [Value]) -> Option<&'a Value> {
+        let (element, others) = elements.split_first()?;
+        *elements = others;
+        Some(element)
+    }
+
+    fn next_pair_of(pairs: &mut MapIter<'a>) -> Option<(&'a Value, &'a Value)> {
+        pairs.next()
+    }
+
+    fn into_text(self, alloc: Global) -> Result<Text, ParsingError> {
+        text_of(alloc, self.try_clone(alloc)?)
+    }
+
+    fn into_value(self, alloc: Global) -> Result<Value, ParsingError> {
+        Ok(self.try_clone(alloc)?)
     }
 }

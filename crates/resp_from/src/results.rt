@@ -42,16 +42,6 @@ impl<T: FromRedisValue> FromRedisValue for Result<T, RedisError> {
         result_of(alloc, value)
     }
 
-    fn from_redis_value_ref(
-        alloc: Global,
-        value: &Value,
-    ) -> Result<Result<T, RedisError>, ParsingError> {
-        match value {
-            Value::ServerError(error) => Ok(Err(RedisError::Server(error.try_clone(alloc)?))),
-            value => Ok(Ok(T::from_redis_value_ref(alloc, value)?)),
-        }
-    }
-
     fn from_reply<R: Reply>(
         alloc: Global,
         reply: R,

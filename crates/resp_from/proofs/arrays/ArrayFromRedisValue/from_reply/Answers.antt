@@ -1,5 +1,4 @@
 use Rattle.std.proofs.Common.{arith}
-use Rattle.resp_from.specs.Lists.{OfVec}
 use Rattle.resp_from.proofs.Sizes.{one_size}
 use Rattle.resp_from.proofs.arrays.ArrayFromRedisValue.from_reply.Goals as goal
 

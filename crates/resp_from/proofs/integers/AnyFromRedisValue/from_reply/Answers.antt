@@ -1,7 +1,7 @@
 use Rattle.std.proofs.Common.{rules, sym}
-use Rattle.resp_from.specs.Integers.{OfInteger, OfTextBytes}
+use Rattle.resp_from.specs.Integers.{OfInteger}
 use Rattle.resp_from.proofs.Answering.{converts_alike}
-use Rattle.resp_from.proofs.IntegerLines.{integer_of_line, integer_of_number}
+use Rattle.resp_from.proofs.IntegerLines.{integer_of_number}
 use Rattle.resp_from.proofs.integers.AnyFromRedisValue.from_reply.Goals as goal
 
 pub returns-in-Some-clause-converts : goal.returns-in-Some-clause-converts

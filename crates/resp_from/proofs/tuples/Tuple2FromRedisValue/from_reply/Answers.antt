@@ -1,10 +1,7 @@
 use Rattle.resp_from.proofs.Conversions.{Converts-shape}
 use Rattle.resp_from.proofs.tuples.Tuple2FromRedisValue.from_reply.Goals as goal
 
-pub returns-in_err-a : goal.returns-in_err-a
-returns-in_err-a g c = record {
-  converts = λ v shows.
-      Converts-shape _ _ _ _ c.from_residual.ensures (c.in_err-a.ensures.converts v shows)
-      (λ x h. ((x.0, (x.1, tt)), h));
-  refused = λ never none. absurd never;
-}
+pub returns-in_err-a-clause-converts : goal.returns-in_err-a-clause-converts
+returns-in_err-a-clause-converts g c = λ v shows.
+    Converts-shape _ _ _ _ c.from_residual.ensures (c.in_err-a.ensures.converts v shows)
+    (λ x h. ((x.0, (x.1, tt)), h))
