@@ -61,30 +61,17 @@ pub fn encode_within(
     ensures refused { IfErr result (RefusesValue (encoding_in protocol depth value.now)) }
     ensures unchanged { OnErr result (out.new.items ≡ out.old.items) }
 {
+    if out.capacity() == 0 {
+        make_room(out)?;
+    }
     let before = out.len();
-    match write_outermost(out, value, protocol, depth) {
+    match write_value(out, value, protocol, depth) {
         Ok(()) => Ok(()),
         Err(error) => {
             out.truncate(before);
             Err(refusal(error))
         }
     }
-}
-
-/// As [`write_value`], with room for a short value where the buffer has none.
-fn write_outermost(
-    out: &mut Vec<u8>,
-    value: &Value,
-    protocol: ProtocolVersion,
-    depth: usize,
-) -> Result<(), WriteError>
-    ensures { AppendsText result (encoding_in protocol depth value.now)
-        out.old.items out.new.items }
-{
-    if out.capacity() == 0 {
-        make_room(out)?;
-    }
-    write_value(out, value, protocol, depth)
 }
 
 /// Makes room for a short value; not inlined, so that buffers with room save no registers for it.
