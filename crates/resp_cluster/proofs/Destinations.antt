@@ -14,14 +14,13 @@ use Rattle.resp_cluster.specs.Cluster.{CannotGo, is_to_one, several, unrouted, s
 use Rattle.resp_cluster.specs.Cluster.{node_at}
 use Rattle.resp_cluster.specs.Maps.{primary_at}
 use Rattle.resp_cluster.specs.declared.read_from.ReadFrom.TheVariants.{Primary}
-use Rattle.resp_cluster.specs.Cluster.{Cluster, EndsWith, Round, followed, cut_short, AsksInTurn, Refreshes, learnt, kept}
+use Rattle.resp_cluster.specs.Cluster.{Cluster, EndsWith, Round, followed, cut_short, AsksPrimaries, Refreshes, learnt, kept}
 use Rattle.resp_cluster.specs.Links.{Links, SendsTo, SentRedirects}
 use Rattle.resp_cluster.specs.Routed.{Followed, Interrupted, NotFollowed}
 use Rattle.resp_cluster.specs.declared.router.RouteError.{RouteError}
 use Rattle.resp_cluster.specs.declared.router.RouteError.TheVariants.{NoNode, OutOfMemory, Unfollowed}
 use Rattle.resp_cluster.specs.declared.links.Sent.{Sent}
 use Rattle.resp_cluster.specs.declared.map_source.MapError.{MapError}
-use Rattle.resp_cluster.specs.Primaries.{ArePrimaries}
 use Rattle.resp_command.specs.Connection.{Connection}
 use Rattle.resp_routing.specs.declared.routes.Route.{Route}
 use Rattle.resp_cluster.specs.declared.node.NodeAddr.{NodeAddr}
@@ -93,17 +92,13 @@ module _ (c : Command) (args : Args) (shown : args ≡ routed_args c) (route : R
 -- the map was asked for from these parts of a cluster
 module _ {L : Type 0} (of_link : L → Connection) (links : Links L) (map : List SlotRange)
     (budget : ℕ) (reads : ReadFrom) (stale : Bool) (old : Cluster L) (view : record { links = links; map = map; budget = budget; reads = reads; stale = stale } ≡ old)
-    (nodes asked : List NodeAddr) (same : asked ≡ nodes) (are : ArePrimaries map nodes) (new_links : Links L) where
+    (new_links : Links L) where
   abbrev with_map : List SlotRange → Cluster L
   with_map new_map = record { links = new_links; map = new_map; budget = budget; reads = reads; stale = false }
 
-  asked_are : ArePrimaries map asked
-  asked_are = subst (ArePrimaries map) (sym same) are
-
-  pub learnt_then : (new_map : List SlotRange) → AsksInTurn of_link asked links new_links (Ok new_map)
+  pub learnt_then : (new_map : List SlotRange) → AsksPrimaries of_link map links new_links (Ok new_map)
       → Refreshes of_link old (with_map new_map)
-  learnt_then new_map asks = subst (λ o. Refreshes of_link o (with_map new_map)) view
-      (learnt asked new_links new_map asked_are asks refl)
+  learnt_then new_map asks = subst (λ o. Refreshes of_link o (with_map new_map)) view (learnt new_links new_map asks refl)
 
-  pub kept_then : (e : MapError) → AsksInTurn of_link asked links new_links (Err e) → Refreshes of_link old (with_map map)
-  kept_then e asks = subst (λ o. Refreshes of_link o (with_map map)) view (kept asked new_links e asked_are asks refl)
+  pub kept_then : (e : MapError) → AsksPrimaries of_link map links new_links (Err e) → Refreshes of_link old (with_map map)
+  kept_then e asks = subst (λ o. Refreshes of_link o (with_map map)) view (kept new_links e asks refl)

@@ -27,18 +27,19 @@ none_in x has = absurd (let lt = has.1 in omega (arith, lt))
 
 nobody : (IsSo : NodeAddr → Type 0) → ((node : NodeAddr) → IsSo node → ⊥) → AreAll IsSo []
 nobody IsSo none = record {
-  listed = λ node has. absurd (none_in node has);
+  some = record {
+    listed = λ node has. absurd (none_in node has);
+    distinct = λ i j a b lt within. absurd (omega (arith, within));
+  };
   complete = λ node is. absurd (none node is);
-  distinct = λ i j a b lt within. absurd (omega (arith, within));
 }
 
 -- all that are so are all that are otherwise so
 also : (IsSo IsToo : NodeAddr → Type 0) → ((node : NodeAddr) → IsSo node → IsToo node)
     → ((node : NodeAddr) → IsToo node → IsSo node) → (nodes : List NodeAddr) → AreAll IsSo nodes → AreAll IsToo nodes
 also IsSo IsToo on back nodes are = record {
-  listed = λ node has. on node (are.listed node has);
+  some = record { listed = λ node has. on node (are.some.listed node has); distinct = are.some.distinct };
   complete = λ node is. are.complete node (back node is);
-  distinct = are.distinct;
 }
 
 module _ (IsSo : NodeAddr → Type 0) (node : NodeAddr) (nodes : List NodeAddr) (are : AreAll IsSo nodes) where
@@ -47,23 +48,24 @@ module _ (IsSo : NodeAddr → Type 0) (node : NodeAddr) (nodes : List NodeAddr) 
 
   known : Contains nodes node → AreAll OrThis nodes
   known has = record {
-    listed = λ other listed. inl (are.listed other listed);
+    some = record { listed = λ other listed. inl (are.some.listed other listed); distinct = are.some.distinct };
     complete = λ other is. ⊎_elim (are.complete other) (λ same. subst (Contains nodes) same has) is;
-    distinct = are.distinct;
   }
 
   added : (Contains nodes node → ⊥) → AreAll OrThis (nodes ++ node ∷ [])
   added new = record {
-    listed = λ other has. ⊎_elim (λ before. inl (are.listed other before)) (λ last. inr (only node other last))
-        (Contains-append_cases nodes (node ∷ []) other has);
+    some = record {
+      listed = λ other has. ⊎_elim (λ before. inl (are.some.listed other before)) (λ last. inr (only node other last))
+          (Contains-append_cases nodes (node ∷ []) other has);
+      distinct = apart;
+    };
     complete = λ other is. ⊎_elim (λ before. Contains-append_left nodes (node ∷ []) other (are.complete other before))
         (λ same. subst (Contains (nodes ++ node ∷ [])) same (Contains-append_right nodes (node ∷ []) node (the_one node))) is;
-    distinct = apart;
   }
     where
       apart : AreDistinct (nodes ++ node ∷ [])
       apart i j a b lt within same = ⊎_elim
-          (λ before. are.distinct i j a b lt before (sym (get_or-append nodes (node ∷ []) a i (omega (arith, lt, before)))
+          (λ before. are.some.distinct i j a b lt before (sym (get_or-append nodes (node ∷ []) a i (omega (arith, lt, before)))
           ∙ same ∙ get_or-append nodes (node ∷ []) b j before))
           (λ last. let count = length-append nodes (node ∷ []) in
           let at_end : j ≡ length nodes = omega (arith, last, within, count) in

@@ -7,8 +7,8 @@ use Rattle.resp_errors.specs.declared.redis_error.RedisError.{RedisError}
 use Rattle.resp_command.specs.Command.{Command}
 use Rattle.resp_command.specs.Connection.{Connection}
 use Rattle.resp_routing.specs.declared.routes.Route.{Route}
-use Rattle.resp_cluster.specs.Cluster.{Cluster, EndsWith, IsFirstPlace, Round, RoundOn, Rounds, first_node, has_failed, only_reads}
-use Rattle.resp_cluster.specs.Cluster.{cut_short, followed, once, stopped, went}
+use Rattle.resp_cluster.specs.Cluster.{Cluster, EndsWith, IsFirstPlace, Round, RoundOn, Rounds, RoundsOn, first_node, has_failed, only_reads}
+use Rattle.resp_cluster.specs.Cluster.{again, cut_short, followed, once, stopped, went}
 use Rattle.resp_cluster.specs.Links.{IsLastNode, IsOpenAt, Links, SendsOver, SendsTo, SentRedirects, UsesLast, answered, kept, last_used, link_to}
 use Rattle.resp_cluster.specs.Routed.{DidNotGoOn, Followed, Interrupted, IsUnfollowed, Learns, NotFollowed, StoppedShort, WentOn}
 use Rattle.resp_cluster.specs.Routed.{at_once, nowhere, on_the_way, onwards}
@@ -204,7 +204,17 @@ module _ {L : Type 0} (of_link : L → Connection) (c : Command) (route : Route)
   went_on_then new sent (stopped new_links new_map s new_is) = as_round new (Ok sent) (λ first. cut_short node new_links new_map sent first
       (stopped_then (SendsTo of_link c) SentRedirects node (Answered answer) budget links middle map sent_over new_links new_map sent s) new_is refl)
 
-  pub as_went_on : (new : Cluster L) (sent : Sent)
-      → ((n : NodeAddr) → IsLastNode n middle → RoundOn of_link c n (Answered answer) (after middle map stale) new sent)
-      → Round of_link c route old new (Ok sent)
-  as_went_on new sent goes = went_on_then new sent (goes node last_is)
+  any_then : (new : Cluster L) (outcome : Result Sent RedisError) → (sent : Sent)
+      × ((outcome ≡ Ok sent) × RoundOn of_link c node (Answered answer) (after middle map stale) new sent)
+      → Round of_link c route old new outcome
+  any_then new outcome (sent, (is, goes)) = subst (Round of_link c route old new) (sym is) (went_on_then new sent goes)
+
+  by_rounds_on : (new : Cluster L) (r : Result Value RedisError)
+      → RoundsOn of_link c route node (Answered answer) (after middle map stale) new r → Rounds of_link c route old new r
+  by_rounds_on new r (once outcome goes is) = once outcome (any_then new outcome goes) is
+  by_rounds_on new r (again outcome unreached goes is more) = again outcome unreached (any_then unreached outcome goes) is more
+
+  pub rounds_then : (new : Cluster L) (r : Result Value RedisError)
+      → ((n : NodeAddr) → IsLastNode n middle → RoundsOn of_link c route n (Answered answer) (after middle map stale) new r)
+      → Rounds of_link c route old new r
+  rounds_then new r goes = by_rounds_on new r (goes node last_is)

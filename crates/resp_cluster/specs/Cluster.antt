@@ -21,7 +21,7 @@ use Rattle.resp_routing.specs.declared.routes.Route.TheVariants.{Slot, Keyless}
 use Rattle.resp_cluster.specs.LinkCommands.{is_link_command}
 use Rattle.resp_cluster.specs.Links.{IsOpenAt, Links, Reaches, UsesLast, SendsTo, SentRedirects, last_used, no_links}
 use Rattle.resp_cluster.specs.Maps.{primary_at, reader_at}
-use Rattle.resp_cluster.specs.Primaries.{ArePrimaries}
+use Rattle.resp_cluster.specs.Primaries.{ArePrimaries, AreSome, IsPrimaryIn}
 use Rattle.resp_cluster.specs.Replies.{map_in}
 use Rattle.resp_cluster.specs.Routed.{Followed, Interrupted, StoppedShort, WentOn}
 use Rattle.resp_cluster.specs.declared.map_source.MapError.{MapError}
@@ -253,14 +253,18 @@ module _ {L : Type 0} (of_link : L → Connection) where
     pub links : Links L
     pub asks : AsksInTurn seeds no_links links (Err e)
 
-  -- the map is asked for: primaries that it knows are asked in turn, and where none gives one the map stays
+  -- primaries of a map are asked for one in turn, each once: until one gives it, or all
+  pub data AsksPrimaries (known : List SlotRange) (old new : Links L) (r : Result (List SlotRange) MapError) : Type 0 where
+    until_one : (nodes : List NodeAddr) (map : List SlotRange) → AreSome (IsPrimaryIn known) nodes
+        → AsksInTurn nodes old new (Ok map) → r ≡ Ok map → AsksPrimaries known old new r
+    all_in_vain : (nodes : List NodeAddr) (e : MapError) → ArePrimaries known nodes
+        → AsksInTurn nodes old new (Err e) → r ≡ Err e → AsksPrimaries known old new r
+
+  -- the primaries that the map knows are asked for one; where none gives it the map stays
   pub data Refreshes (old new : Cluster L) : Type 0 where
-    no_memory : new ≡ record old { stale = true } → Refreshes old new
-    learnt : (nodes : List NodeAddr) (links : Links L) (map : List SlotRange) → ArePrimaries old.map nodes
-        → AsksInTurn nodes old.links links (Ok map)
+    learnt : (links : Links L) (map : List SlotRange) → AsksPrimaries old.map old.links links (Ok map)
         → new ≡ record { links = links; map = map; budget = old.budget; reads = old.reads; stale = false } → Refreshes old new
-    kept : (nodes : List NodeAddr) (links : Links L) (e : MapError) → ArePrimaries old.map nodes
-        → AsksInTurn nodes old.links links (Err e)
+    kept : (links : Links L) (e : MapError) → AsksPrimaries old.map old.links links (Err e)
         → new ≡ record { links = links; map = old.map; budget = old.budget; reads = old.reads; stale = false } → Refreshes old new
 
   -- where the map is stale it is asked for
@@ -276,13 +280,23 @@ module _ {L : Type 0} (of_link : L → Connection) where
     pub sends : Round of_link c route ready new outcome
     pub answers : r ≡ answer_of outcome
 
-  -- a command is sent by its route; where the last node was not reached the map is asked for, and the command is sent
-  -- once more by its route
-  pub data Rounds (c : Command) (route : Route) (old new : Cluster L) (r : Result Value RedisError) : Type 0 where
-    once : (outcome : Result Sent RedisError) → Round of_link c route old new outcome → reached outcome ≡ Some r
-        → Rounds c route old new r
-    again : (outcome : Result Sent RedisError) (unreached : Cluster L) → Round of_link c route old unreached outcome
-        → reached outcome ≡ None → OnceMore c route unreached new r → Rounds c route old new r
+  -- what comes of sending a command; where the last node was not reached the map is asked for, and the command is sent once
+  -- more by its route
+  pub data OrOnceMore (First : Cluster L → Result Sent RedisError → Type 0) (c : Command) (route : Route)
+      (new : Cluster L) (r : Result Value RedisError) : Type 0 where
+    once : (outcome : Result Sent RedisError) → First new outcome → reached outcome ≡ Some r
+        → OrOnceMore First c route new r
+    again : (outcome : Result Sent RedisError) (unreached : Cluster L) → First unreached outcome → reached outcome ≡ None
+        → OnceMore c route unreached new r → OrOnceMore First c route new r
+
+  -- a command is sent by its route, and perhaps once more
+  abbrev pub Rounds : Command → Route → Cluster L → Cluster L → Result Value RedisError → Type 0
+  Rounds c route old new r = OrOnceMore (Round of_link c route old) c route new r
+
+  -- a command goes on from what came of sending it to a node, and is perhaps sent once more
+  abbrev pub RoundsOn : Command → Route → NodeAddr → Sent → Cluster L → Cluster L → Result Value RedisError → Type 0
+  RoundsOn c route node reply old new r = OrOnceMore
+      (λ now outcome. (sent : Sent) × ((outcome ≡ Ok sent) × RoundOn of_link c node reply old now sent)) c route new r
 
   -- a command over a cluster: refused unsent, or sent by its route
   pub data RoutedCall (c : Command) (old new : Cluster L) (r : Result Value RedisError) : Type 0 where

@@ -18,11 +18,15 @@ abbrev pub AreDistinct : List NodeAddr → Type 0
 AreDistinct nodes = (i j : ℕ) (a b : NodeAddr) → i < j → j < length nodes
     → slice_index_or nodes i a ≢ slice_index_or nodes j b
 
+-- these nodes are so, each once
+pub record AreSome (IsSo : NodeAddr → Type 0) (nodes : List NodeAddr) : Type 0 where
+  pub listed : (node : NodeAddr) → Contains nodes node → IsSo node
+  pub distinct : AreDistinct nodes
+
 -- these are the nodes that are so, each once
 pub record AreAll (IsSo : NodeAddr → Type 0) (nodes : List NodeAddr) : Type 0 where
-  pub listed : (node : NodeAddr) → Contains nodes node → IsSo node
+  pub some : AreSome IsSo nodes
   pub complete : (node : NodeAddr) → IsSo node → Contains nodes node
-  pub distinct : AreDistinct nodes
 
 -- these are the primaries of a map, each once
 abbrev pub ArePrimaries : List SlotRange → List NodeAddr → Type 0
@@ -31,6 +35,11 @@ ArePrimaries map nodes = AreAll (IsPrimaryIn map) nodes
 -- these are the primaries and replicas of a map, each once
 abbrev pub AreNodes : List SlotRange → List NodeAddr → Type 0
 AreNodes map nodes = AreAll (λ node. IsPrimaryIn map node ⊎ IsReplicaIn map node) nodes
+
+-- the primary of a range that is that of none of these, if it has one
+abbrev pub IsNewPrimary : List SlotRange → SlotRange → Option NodeAddr → Type 0
+IsNewPrimary before range None = (node : NodeAddr) → range.primary ≡ Some node → IsPrimaryIn before node
+IsNewPrimary before range (Some node) = (range.primary ≡ Some node) × (IsPrimaryIn before node → ⊥)
 
 -- nodes and one more, unless it is among them
 abbrev pub IsWithNew : NodeAddr → List NodeAddr → List NodeAddr → Type 0

@@ -8,7 +8,8 @@ ghost use Rattle.resp_cluster.specs.Cluster.{has_failed, is_to_one, last_link, n
 ghost use Rattle.resp_cluster.specs.Cluster.{node_at, only_reads};
 ghost use Rattle.resp_cluster.specs.Cluster.{several_nodes, EndsWith, IsFirstPlace, Round, RoundOn};
 ghost use Rattle.resp_cluster.specs.Cluster.{answer_of, reached, CannotOpen, OnceMore, Opens, Readies};
-ghost use Rattle.resp_cluster.specs.Cluster.{IsReached, ReachesOne, Refreshes, Rounds, RoutedCall};
+ghost use Rattle.resp_cluster.specs.Cluster.{IsReached, ReachesOne, Refreshes, Rounds, RoundsOn};
+ghost use Rattle.resp_cluster.specs.Cluster.{RoutedCall};
 ghost use Rattle.resp_cluster.specs.Links.{IsLastNode, SentRedirects};
 ghost use Rattle.resp_cluster.specs.Routed.{IsUnfollowed};
 
@@ -366,18 +367,14 @@ impl<N: Nodes> ClusterLink<N> {
         sent
     }
 
-    /// Asks for the map, as `Refreshes` says: the primaries that it knows are asked in turn, and
-    /// where none gives one the map stays. It is still to be asked for where memory runs out first.
+    /// Asks for the map: the primaries that it knows are asked in turn, and where none gives one the
+    /// map stays.
     #[inline(never)]
     fn refresh(&mut self)
         ensures { Refreshes N.Link.connection self.old self.new }
     {
-        let Ok(nodes) = self.map.primaries(self.alloc) else {
-            self.stale = true;
-            return;
-        };
         self.stale = false;
-        let Ok(map) = self.links.ask_in_turn(nodes.as_slice()) else {
+        let Ok(map) = self.links.ask_primaries(&self.map) else {
             return;
         };
         self.map = map;
@@ -419,9 +416,17 @@ impl<N: Nodes> ClusterLink<N> {
     fn rounds(&mut self, route: &Route, command: &Cmd) -> RedisResult<Value>
         ensures { Rounds N.Link.connection command.now route.now self.old self.new result }
     {
-        if let Some(place) = self.first_place(route, command) {
-            return self.rounds_over(place, route, command);
+        match self.first_place(route, command) {
+            Some(place) => self.rounds_over(place, route, command),
+            None => self.rounds_anew(route, command),
         }
+    }
+
+    /// The same where the link to the first node may have to be opened.
+    #[inline(never)]
+    fn rounds_anew(&mut self, route: &Route, command: &Cmd) -> RedisResult<Value>
+        ensures { Rounds N.Link.connection command.now route.now self.old self.new result }
+    {
         match reached(self.round(route, command)) {
             Some(answer) => answer,
             None => self.once_more(route, command),
@@ -435,10 +440,26 @@ impl<N: Nodes> ClusterLink<N> {
         ensures { Rounds N.Link.connection command.now route.now self.old self.new result }
     {
         let answer = self.links.send_at(place, command);
-        if !may_redirect(&answer) {
-            self.stale = answer.is_err();
-            return answer;
+        if may_redirect(&answer) {
+            return self.rounds_on(route, command, answer);
         }
+        self.stale = answer.is_err();
+        answer
+    }
+
+    /// Has a command go on from what its node answered, and sends it once more where the last node
+    /// wasn't reached.
+    #[inline(never)]
+    fn rounds_on(
+        &mut self,
+        route: &Route,
+        command: &Cmd,
+        answer: RedisResult<Value>,
+    ) -> RedisResult<Value>
+        ensures { (node : NodeAddr) → IsLastNode node self.old.links
+            → RoundsOn N.Link.connection command.now route.now node (Sent.Answered answer) self.old
+            self.new result }
+    {
         match reached(Ok(self.round_on(command, answer))) {
             Some(answer) => answer,
             None => self.once_more(route, command),

@@ -77,7 +77,8 @@ fn map_of_reply(alloc: Global, reply: Value, node: &NodeAddr) -> Result<SlotMap,
 
 impl<N: Nodes> NodeLinks<N> {
     ghost use Rattle.resp_command.specs.Call.{PackedCall};
-    ghost use Rattle.resp_cluster.specs.Cluster.{AsksInTurn, AsksMap, AsksReached, slots_bytes};
+    ghost use Rattle.resp_cluster.specs.Cluster.{AsksInTurn, AsksMap, AsksPrimaries, AsksReached};
+    ghost use Rattle.resp_cluster.specs.Cluster.{slots_bytes};
     ghost use Rattle.resp_cluster.specs.Links.{UsesLast, last_used};
 
     /// Asks nodes for the map, one after another, until one gives it; where none does, answers why the
@@ -93,6 +94,23 @@ impl<N: Nodes> NodeLinks<N> {
             }
         }
         Err(refused)
+    }
+
+    /// The same of the primaries that a map knows, each once. Takes no memory for them.
+    pub(crate) fn ask_primaries(&mut self, known: &SlotMap) -> Result<SlotMap, MapError>
+        ensures { AsksPrimaries N.Link.connection known.now self.old self.new result }
+    {
+        let mut why = MapError::NoNode;
+        for place in 0..known.ranges().len() {
+            let Some(node) = known.new_primary(place) else {
+                continue;
+            };
+            match self.ask_map(node) {
+                Ok(map) => return Ok(map),
+                Err(error) => why = error,
+            }
+        }
+        Err(why)
     }
 
     /// Asks a node for the map.

@@ -1,6 +1,6 @@
 //! Nodes, and the slots that they serve.
 
-ghost use Rattle.std.specs.Prelude.{◌≡◌, ◌↔◌, IfOk, IsTrue};
+ghost use Rattle.std.specs.Prelude.{◌≡◌, ◌↔◌, IfOk, IsTrue, Some};
 ghost use Rattle.resp_cluster.specs.FannedOut.{address_of};
 
 use itoa::Buffer;
@@ -88,5 +88,17 @@ impl NodeAddr {
         ensures { IsTrue result ↔ (self.now ≡ other.now) }
     {
         self.port == other.port && self.host.eq_str(other.host.as_str())
+    }
+}
+
+impl SlotRange {
+    /// Whether this is its primary.
+    pub(crate) fn is_led_by(&self, node: &NodeAddr) -> bool
+        ensures { IsTrue result ↔ (self.now.primary ≡ Some node.now) }
+    {
+        match &self.primary {
+            Some(primary) => primary.is(node),
+            None => false,
+        }
     }
 }

@@ -3,7 +3,7 @@
 ghost use Rattle.std.specs.Prelude.{◌≡◌, ◌≢◌, ◌↔◌, ℕ, [], Contains, IfOk, IsTrue, OnErr, OnOk};
 ghost use Rattle.std.specs.Prelude.{Some};
 ghost use Rattle.resp_cluster.specs.Primaries.{AreNodes, ArePrimaries, AreWithNew, AreWithRange};
-ghost use Rattle.resp_cluster.specs.Primaries.{IsWithNew, IsWithPrimary};
+ghost use Rattle.resp_cluster.specs.Primaries.{IsNewPrimary, IsPrimaryIn, IsWithNew, IsWithPrimary};
 ghost use Rattle.std.specs.Option.{option_copied};
 
 use crate::node::{NodeAddr, PortKind, SlotRange, TopologyError};
@@ -38,6 +38,8 @@ impl SlotMap {
     ghost use Rattle.resp_cluster.specs.Maps.{with_primary, IsOwnPlace};
     ghost use Rattle.resp_cluster.specs.Replies.{Gives, map_in};
     ghost use Rattle.resp_cluster.specs.Shards.{map_of_shards};
+    ghost use Rattle.resp_cluster.specs.declared.node.SlotRange.{SlotRange};
+    ghost use Rattle.std.specs.Prelude.{◌<◌, length, slice_get, take};
 
     /// A map without ranges; takes no memory.
     pub fn new(alloc: Global) -> SlotMap
@@ -173,6 +175,19 @@ impl SlotMap {
         None
     }
 
+    /// The primary of the range at this place, if it has one that no range before it has.
+    pub(crate) fn new_primary(&self, place: usize) -> Option<&NodeAddr>
+        requires { place < length self.now }
+        ensures { (range : SlotRange) → slice_get self.now place ≡ Some range
+            → IsNewPrimary (take place self.now) range (option_copied result) }
+    {
+        let node = self.ranges[place].primary.as_ref()?;
+        if is_primary_in(&self.ranges[..place], node) {
+            return None;
+        }
+        Some(node)
+    }
+
     /// The primaries that the map knows, each once.
     pub fn primaries(&self, alloc: Global) -> Result<Items<NodeAddr>, AllocError>
         ensures { IfOk result (ArePrimaries self.now) }
@@ -194,6 +209,13 @@ impl SlotMap {
         }
         Ok(nodes)
     }
+}
+
+/// Whether a node is the primary of one of these ranges.
+fn is_primary_in(ranges: &[SlotRange], node: &NodeAddr) -> bool
+    ensures { IsTrue result ↔ IsPrimaryIn ranges.now node.now }
+{
+    ranges.iter().any(|range| range.is_led_by(node))
 }
 
 /// Adds the primary of a range and its replicas, but for those that are among these.
