@@ -6,6 +6,7 @@ use resp_core::{
 };
 use std::alloc::Global;
 use std::io::{self, Cursor};
+use std::mem::swap;
 
 /// The reply to `CLUSTER SLOTS`: three primaries, a third of the slots each.
 const SLOTS: &[u8] = b"*3\r\n\
@@ -16,7 +17,10 @@ const SLOTS: &[u8] = b"*3\r\n\
 /// A link over bytes in memory.
 pub type MemoryLink = ByteLink<Reading<Cursor<Vec<u8>>>, Writing<io::Sink>>;
 
-/// Nodes of which each answers with the same replies.
+/// The port of the primary whose slots the query's key is in.
+const ASKED: u16 = 7003;
+
+/// Nodes of which the one that is asked has the replies.
 #[derive(Drop)]
 pub struct Answering {
     replies: Vec<u8>,
@@ -25,10 +29,13 @@ pub struct Answering {
 impl Nodes for Answering {
     type Link = MemoryLink;
 
-    fn connect(&mut self, _node: &NodeAddr) -> RedisResult<MemoryLink> {
+    fn connect(&mut self, node: &NodeAddr) -> RedisResult<MemoryLink> {
         let alloc = *self.replies.allocator();
-        let incoming = Cursor::new(Vec::from_slice(alloc, self.replies.as_slice())?);
-        Ok(ByteLink::new(alloc, incoming, io::sink()))
+        let mut replies = Vec::new(alloc);
+        if node.port == ASKED {
+            swap(&mut replies, &mut self.replies);
+        }
+        Ok(ByteLink::new(alloc, Cursor::new(replies), io::sink()))
     }
 }
 
