@@ -2,8 +2,8 @@
 
 use crate::checks::{Test, assert_answer, assert_equal, reply, text, token};
 use resp_core::{
-    FlatPairs, FlatParser, FlatReply, FlatValue, Items, Limits, PushKind, RedisResult, Token,
-    TokenKind, Value, VerbatimFormat,
+    FlatElements, FlatPairs, FlatParser, FlatReply, FlatValue, Items, Limits, PushKind,
+    RedisResult, Token, TokenKind, Value, VerbatimFormat,
 };
 use std::alloc::Global;
 
@@ -46,6 +46,11 @@ fn flat(rt: &impl Test, value: &Value) -> FlatReply {
     let mut flat = FlatReply::new(rt.alloc());
     flat.append(value).expect(rt, "memory");
     flat
+}
+
+/// The same of bytes.
+fn flat_of(rt: &impl Test, bytes: &[u8]) -> FlatReply {
+    flat(rt, &reply(rt, bytes))
 }
 
 #[test]
@@ -182,37 +187,43 @@ fn assert_leaf(rt: &impl Test, leaf: FlatValue<'_>, kind: TokenKind, bytes: Opti
     assert!(rt; leaf.described().is_none());
 }
 
+/// The next of the elements that are left.
+fn next_of<'a>(rt: &impl Test, parts: &mut FlatElements<'a>) -> FlatValue<'a> {
+    parts.next().expect(rt, "an element")
+}
+
+/// The elements are seven leaves.
+fn are_leaves(rt: &impl Test, parts: &mut FlatElements<'_>) {
+    let nil = next_of(rt, parts);
+    assert_leaf(rt, nil, TokenKind::Nil, None);
+    assert!(rt; nil.as_int().is_none());
+    assert!(rt; nil.as_bool().is_none());
+    let int = next_of(rt, parts);
+    assert_leaf(rt, int, TokenKind::Int, None);
+    assert_eq!(rt; int.as_int(), Some(5));
+    let truth = next_of(rt, parts);
+    assert_leaf(rt, truth, TokenKind::Boolean, None);
+    assert_eq!(rt; truth.as_bool(), Some(true));
+    let (error, verbatim) = (next_of(rt, parts), next_of(rt, parts));
+    assert_leaf(rt, error, TokenKind::ServerError, Some(b"ERR x y"));
+    assert_leaf(rt, verbatim, TokenKind::VerbatimString, Some(b"txt:a"));
+    let (bulk, simple) = (next_of(rt, parts), next_of(rt, parts));
+    assert_leaf(rt, bulk, TokenKind::BulkString, Some(b"\xFFa"));
+    assert!(rt; bulk.as_str().is_none());
+    assert!(rt; simple.as_str() == Some("b"));
+    assert!(rt; parts.next().is_none());
+}
+
 #[test]
 fn cursors_at_leaves(rt: HostRuntime) {
-    let value = reply(
+    let flat = flat_of(
         &rt,
         b"*7\r\n_\r\n:5\r\n#t\r\n-ERR x y\r\n=5\r\ntxt:a\r\n$2\r\n\xFFa\r\n+b\r\n",
     );
-    let flat = flat(&rt, &value);
     let root = flat.root().expect(&rt, "a token");
     assert_eq!(rt; root.len(), 7);
     assert!(rt; !root.is_empty());
-    let mut parts = root.elements();
-    let nil = parts.next().expect(&rt, "an element");
-    assert_leaf(&rt, nil, TokenKind::Nil, None);
-    assert!(rt; nil.as_int().is_none());
-    assert!(rt; nil.as_bool().is_none());
-    let int = parts.next().expect(&rt, "an element");
-    assert_leaf(&rt, int, TokenKind::Int, None);
-    assert_eq!(rt; int.as_int(), Some(5));
-    let truth = parts.next().expect(&rt, "an element");
-    assert_leaf(&rt, truth, TokenKind::Boolean, None);
-    assert_eq!(rt; truth.as_bool(), Some(true));
-    let error = parts.next().expect(&rt, "an element");
-    assert_leaf(&rt, error, TokenKind::ServerError, Some(b"ERR x y"));
-    let verbatim = parts.next().expect(&rt, "an element");
-    assert_leaf(&rt, verbatim, TokenKind::VerbatimString, Some(b"txt:a"));
-    let bulk = parts.next().expect(&rt, "an element");
-    assert_leaf(&rt, bulk, TokenKind::BulkString, Some(b"\xFFa"));
-    assert!(rt; bulk.as_str().is_none());
-    let simple = parts.next().expect(&rt, "an element");
-    assert!(rt; simple.as_str() == Some("b"));
-    assert!(rt; parts.next().is_none());
+    are_leaves(&rt, &mut root.elements());
 }
 
 /// The next key and its value.
@@ -220,40 +231,47 @@ fn next_pair<'a>(rt: &impl Test, pairs: &mut FlatPairs<'a>) -> (FlatValue<'a>, F
     pairs.next().expect(rt, "a pair")
 }
 
-#[test]
-fn cursors_pass_over_what_is_inside(rt: HostRuntime) {
-    let value = reply(
-        &rt,
-        b"|1\r\n+ttl\r\n*2\r\n:1\r\n:2\r\n%2\r\n*1\r\n:3\r\n%1\r\n:4\r\n:5\r\n:6\r\n~2\r\n+a\r\n*0\r\n",
-    );
-    let flat = flat(&rt, &value);
-    let root = flat.root().expect(&rt, "a token");
-    assert!(rt; root.kind() == TokenKind::Attribute);
-    assert_eq!(rt; root.len(), 1);
-    let (key, value) = next_pair(&rt, &mut root.pairs());
-    assert!(rt; key.as_bytes() == Some(b"ttl".as_slice()));
-    assert_eq!(rt; value.len(), 2);
-    let map = root.described().expect(&rt, "a value");
-    assert!(rt; map.kind() == TokenKind::Map);
-    let mut pairs = map.pairs();
-    let (key, value) = next_pair(&rt, &mut pairs);
+/// The pairs are of an array and a map, and of 6 and a set of two.
+fn are_nested(rt: &impl Test, pairs: &mut FlatPairs<'_>) {
+    let (key, value) = next_pair(rt, pairs);
     assert!(rt; key.kind() == TokenKind::Array);
     assert!(rt; value.kind() == TokenKind::Map);
     assert_equal(
-        &rt,
+        rt,
         value.to_value(rt.alloc()),
-        &reply(&rt, b"%1\r\n:4\r\n:5\r\n"),
+        &reply(rt, b"%1\r\n:4\r\n:5\r\n"),
     );
-    let (key, value) = next_pair(&rt, &mut pairs);
+    let (key, value) = next_pair(rt, pairs);
     assert_eq!(rt; key.as_int(), Some(6));
     assert_eq!(rt; value.elements().count(), 2);
     assert!(rt; pairs.next().is_none());
 }
 
+/// The cursor stands at an attribute with one pair.
+fn is_attribute(rt: &impl Test, root: FlatValue<'_>) {
+    assert!(rt; root.kind() == TokenKind::Attribute);
+    assert_eq!(rt; root.len(), 1);
+    let (key, value) = next_pair(rt, &mut root.pairs());
+    assert!(rt; key.as_bytes() == Some(b"ttl".as_slice()));
+    assert_eq!(rt; value.len(), 2);
+}
+
+#[test]
+fn cursors_pass_over_what_is_inside(rt: HostRuntime) {
+    let flat = flat_of(
+        &rt,
+        b"|1\r\n+ttl\r\n*2\r\n:1\r\n:2\r\n%2\r\n*1\r\n:3\r\n%1\r\n:4\r\n:5\r\n:6\r\n~2\r\n+a\r\n*0\r\n",
+    );
+    let root = flat.root().expect(&rt, "a token");
+    is_attribute(&rt, root);
+    let map = root.described().expect(&rt, "a value");
+    assert!(rt; map.kind() == TokenKind::Map);
+    are_nested(&rt, &mut map.pairs());
+}
+
 #[test]
 fn cursors_at_pushes(rt: HostRuntime) {
-    let value = reply(&rt, b">3\r\n+message\r\n*1\r\n:1\r\n+a\r\n");
-    let flat = flat(&rt, &value);
+    let flat = flat_of(&rt, b">3\r\n+message\r\n*1\r\n:1\r\n+a\r\n");
     let push = flat.root().expect(&rt, "a token");
     assert_eq!(rt; push.len(), 3);
     let mut parts = push.elements();

@@ -3,7 +3,7 @@
 use crate::checks::{Test, assert_text, reply, string};
 use crate::testing::{answer_text, bytes_text, debug_text, refusal_text};
 use resp_core::{Parser, ProtocolVersion, Text, Value, Writing, cmd};
-use resp_server::{Request, send_value};
+use resp_server::{Request, RequestArgs, send_value};
 
 const REFUSED: &str = "request is not an array of bulk strings - Client";
 
@@ -75,17 +75,25 @@ fn a_value_is_given_back(rt: HostRuntime) {
     }
 }
 
-#[test]
-fn names_and_arguments(rt: HostRuntime) {
-    let request = request(&rt, b"*3\r\n$3\r\nSeT\r\n$0\r\n\r\n$2\r\n\r\n\r\n");
+fn is_set(rt: &impl Test, request: &Request) {
     assert_eq!(rt; request.name(), b"SeT".as_slice());
     assert!(rt; request.is_named("set") && request.is_named("SET") && !request.is_named("se"));
     assert_eq!(rt; request.len(), 3);
-    let mut args = request.args();
+}
+
+/// The arguments are an empty one and CR LF.
+fn has_args(rt: &impl Test, args: &mut RequestArgs<'_>) {
     assert_eq!(rt; args.size_hint(), (2, Some(2)));
     assert_eq!(rt; args.next(), Some(b"".as_slice()));
     assert_eq!(rt; args.next(), Some(b"\r\n".as_slice()));
     assert!(rt; args.next().is_none() && args.next().is_none());
+}
+
+#[test]
+fn names_and_arguments(rt: HostRuntime) {
+    let request = request(&rt, b"*3\r\n$3\r\nSeT\r\n$0\r\n\r\n$2\r\n\r\n\r\n");
+    is_set(&rt, &request);
+    has_args(&rt, &mut request.args());
 }
 
 #[test]

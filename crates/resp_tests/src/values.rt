@@ -4,7 +4,7 @@ use crate::checks::{
     Test, assert_debug, assert_display, assert_equal, assert_text, reply, string, text,
 };
 use crate::testing::{answer_text, debug_text};
-use resp_core::{Boxed, Bytes, Description, Items, PushInfo, PushKind, Text, Value};
+use resp_core::{Boxed, Bytes, Description, Items, OwnedMapIter, PushInfo, PushKind, Text, Value};
 
 /// A value of each type.
 const VALUES: &[&[u8]] = &[
@@ -28,13 +28,16 @@ const VALUES: &[&[u8]] = &[
     b">0\r\n",
 ];
 
+fn is_default(value: &Value) -> bool {
+    *value == Value::default()
+}
+
 #[test]
 fn values_equal_their_copies(rt: HostRuntime) {
     for bytes in VALUES {
         let value = reply(&rt, bytes);
         assert_equal(&rt, value.try_clone(rt.alloc()), &value);
-        let is_nil = value == Value::default();
-        assert_eq!(rt; is_nil, bytes.starts_with(b"_"), "{bytes:?}");
+        assert_eq!(rt; is_default(&value), bytes.starts_with(b"_"), "{bytes:?}");
     }
 }
 
@@ -65,14 +68,26 @@ fn lends_pairs(rt: &impl Test, value: &Value, wanted: &[&str]) {
     assert!(rt; pairs.next().is_none());
 }
 
-/// The reply has these pairs, moved.
-fn gives_pairs(rt: &impl Test, value: Value, wanted: &[&str]) {
-    let mut pairs = value.into_map_iter().ok().expect(rt, "pairs");
+/// What the next pair is, moved.
+fn next_text(rt: &impl Test, pairs: &mut OwnedMapIter) -> String {
+    debug_text(rt.alloc(), &pairs.next())
+}
+
+/// The pairs that are left are these.
+fn gives_each(rt: &impl Test, pairs: &mut OwnedMapIter, wanted: &[&str]) {
     assert_eq!(rt; pairs.size_hint(), (wanted.len(), Some(wanted.len())));
     for wanted in wanted {
-        assert_text(rt, debug_text(rt.alloc(), &pairs.next()), wanted);
+        assert_text(rt, next_text(rt, pairs), wanted);
     }
-    assert!(rt; pairs.next().is_none());
+    assert_text(rt, next_text(rt, pairs), "None");
+}
+
+/// The reply has these pairs, moved.
+fn gives_pairs(rt: &impl Test, value: Value, wanted: &[&str]) {
+    match value.into_map_iter() {
+        Ok(mut pairs) => gives_each(rt, &mut pairs, wanted),
+        Err(_) => assert!(rt; false, "pairs"),
+    }
 }
 
 #[test]
@@ -88,21 +103,26 @@ fn pairs_of_maps_and_arrays(rt: HostRuntime) {
     gives_pairs(&rt, four, wanted.as_slice());
 }
 
+/// The value comes back.
+fn comes_back<T: Drop>(rt: &impl Test, answer: Result<T, Value>, wanted: &str) {
+    assert_debug(rt, &answer.err(), wanted);
+}
+
 #[test]
 fn values_that_come_back(rt: HostRuntime) {
     let three = reply(&rt, b"*3\r\n:1\r\n:2\r\n:3\r\n");
     assert!(rt; three.as_map_iter().is_none());
-    let back = three.into_map_iter().err();
-    assert_debug(&rt, &back, "Some(array([int(1), int(2), int(3)]))");
-    let back = reply(&rt, b"%0\r\n").into_sequence(rt.alloc()).err();
-    assert_debug(&rt, &back, "Some(map([]))");
-    let unharmed = reply(&rt, b"%1\r\n+a\r\n*1\r\n+OK\r\n");
+    let wanted = "Some(array([int(1), int(2), int(3)]))";
+    comes_back(&rt, three.into_map_iter(), wanted);
+    let map = reply(&rt, b"%0\r\n");
+    comes_back(&rt, map.into_sequence(rt.alloc()), "Some(map([]))");
+    let unharmed = reply(&rt, b"%1\r\n+a\r\n*1\r\n+OK\r\n").extract_error();
     let wanted = "map([(simple-string(\"a\"), array([ok]))])";
-    assert_text(
-        &rt,
-        answer_text(rt.alloc(), unharmed.extract_error()),
-        wanted,
-    );
+    assert_text(&rt, answer_text(rt.alloc(), unharmed), wanted);
+}
+
+#[test]
+fn a_push_equals_its_copy(rt: HostRuntime) {
     let payload = vec![in rt.alloc(); Value::Int(1)].expect(&rt, "memory");
     let push = PushInfo {
         kind: PushKind::Message,
@@ -138,6 +158,15 @@ fn items_as_a_list_and_a_slice(rt: HostRuntime) {
     assert!(rt; sum == 12 && items.into_vec().len() == 4);
 }
 
+/// Bytes are these, and so are a copy and what is taken out of one.
+fn are(rt: &impl Test, bytes: &Bytes, wanted: &[u8]) {
+    assert!(rt; bytes.as_slice() == wanted && bytes.len() == wanted.len());
+    assert_equal(rt, Bytes::from_slice(rt.alloc(), bytes.as_slice()), bytes);
+    let copy = Bytes::from_slice(rt.alloc(), bytes.as_slice()).expect(rt, "memory");
+    let given_back = copy.into_vec().expect(rt, "memory");
+    assert!(rt; given_back.as_slice() == wanted);
+}
+
 /// Bytes behave alike whether they stand in the value, or, from the 41st on, on the heap.
 #[test]
 fn bytes_inline_and_on_the_heap(rt: HostRuntime) {
@@ -147,13 +176,7 @@ fn bytes_inline_and_on_the_heap(rt: HostRuntime) {
     for byte in 0..99 {
         bytes.extend_from_slice(&[byte]).expect(&rt, "memory");
         wanted.push(byte).expect(&rt, "memory");
-        assert!(rt; bytes.as_slice() == wanted.as_slice() && bytes.len() == wanted.len());
-        let copy = Bytes::from_slice(rt.alloc(), bytes.as_slice());
-        assert_equal(&rt, copy, &bytes);
-        let given_back = Bytes::from_slice(rt.alloc(), bytes.as_slice())
-            .expect(&rt, "memory")
-            .into_vec();
-        assert!(rt; given_back.expect(&rt, "memory").as_slice() == wanted.as_slice());
+        are(&rt, &bytes, wanted.as_slice());
     }
     let short = vec![in rt.alloc(); 1u8, 255].expect(&rt, "memory");
     assert_debug(&rt, &Bytes::from(short), "[1, 255]");
