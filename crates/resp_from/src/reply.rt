@@ -1,6 +1,6 @@
 //! The forms of replies that types are read of.
 
-ghost use Rattle.std.specs.Prelude.{◌≡◌, ◌<◌, ℕ, List, IfSome, MatchResult, true};
+ghost use Rattle.std.specs.Prelude.{◌≡◌, ◌≢◌, ◌<◌, ℕ, List, IfSome, MatchResult, true, false};
 ghost use Rattle.std.specs.Result.{IsErrAnd};
 ghost use Rattle.resp_errors.specs.declared.parsing_error.ParsingError.TheVariants as parsing;
 ghost use Rattle.resp_value.specs.declared.value.Value.{Value, out-Value};
@@ -75,13 +75,13 @@ pub trait Reply: Sized + Drop {
     fn into_elements(self) -> Result<Self::Elements, Self>
         ensures shown { (v : Value) → shows self v → MatchResult result
             (λ elements. (is_list (out-Value v) ≡ true) × show elements (elements_of v))
-            (λ other. shows other v) };
+            (λ other. (is_list (out-Value v) ≡ false) × shows other v) };
 
     /// The keys and values of a map; any other reply comes back.
     fn into_pairs(self) -> Result<Self::Pairs, Self>
         ensures shown { (v : Value) → shows self v → MatchResult result
             (λ pairs. (kind_of v ≡ kind.Map) × pairs_show pairs (pairs_of v))
-            (λ other. shows other v) }
+            (λ other. (kind_of v ≢ kind.Map) × shows other v) }
         ensures none { MatchResult result (λ _. token_kind self ≡ kind.Map)
             (λ other. shows_nothing self → shows_nothing other) };
 
