@@ -1,18 +1,45 @@
--- Whether a command is a subscription, by what is shown of its first argument.
+-- Whether a command is a subscription, by its first ordinary argument.
 use Rattle.std.proofs.Common.{◌≡◌, ℕ, suc, zero, ◌+◌, ◌<◌, ◌/◌, ◌%◌, ◌==◌, Bool, true, false, List, [], ◌∷◌}
-use Rattle.std.proofs.Common.{nat_eq, nat_lt, Option, None, Some, refl, sym, subst, arith}
-use Rattle.std.specs.Prelude.{decimal, slice_get, if◌then◌else◌}
-use Rattle.std.specs.List.{list_any}
+use Rattle.std.proofs.Common.{nat_eq, nat_lt, Option, None, Some, refl, sym, ap, ◌∙◌, arith, length, IsTrue, not, ◌↔◌}
+use Rattle.std.specs.Prelude.{◌&&◌, codes, decimal, slice_get, if◌then◌else◌}
 use Rattle.std.specs.Fmt.{digit_glyph, digits, digits_onto}
-use borrow.Author.Tests.{eqb-true}
+use Rattle.std.specs.Str.{bytes_eq, str_eq_ignore_ascii_case, str_to_ascii_lowercase}
+use Rattle.std.specs.Char.{to_ascii_lowercase}
+use Rattle.std.proofs.lemmas.List.{length-map}
 use Rattle.resp_args.specs.Args.{Args}
-use Rattle.resp_command.specs.declared.args_iter.Arg.{Arg}
-use Rattle.resp_command.specs.declared.args_iter.Arg.TheVariants.{Cursor}
-use Rattle.resp_command.specs.Cursors.{HaveText, HoldsCursor}
-use Rattle.resp_command.specs.ShownArgs.{shown_args}
+use Rattle.resp_command.specs.Pieces.{Keeps, sent_args}
 use Rattle.resp_command.specs.Subscriptions.{is_subscription, is_subscription_name}
 use Rattle.resp_command.proofs.ArgsWalk.{unequal}
-use Rattle.resp_command.proofs.PiecesAgree.{lt-test}
+use Rattle.resp_command.proofs.PiecesAgree.{interleaved-simple, lt-test}
+
+-- ---- a text of few bytes is no name
+
+none_after : (test : Bool) {later : Bool} → later ≡ false → (test && later) ≡ false
+none_after true e = e
+none_after false e = refl
+
+shorter : (xs ys : List ℕ) → length xs < length ys → bytes_eq xs ys ≡ false
+shorter [] [] l = absurd (omega arith)
+shorter [] (y ∷ ys) l = refl
+shorter (x ∷ xs) [] l = absurd (omega arith)
+shorter (x ∷ xs) (y ∷ ys) l = none_after (nat_eq x y) (shorter xs ys (omega arith))
+
+of_few : (name text : List ℕ) → length name < length text → str_eq_ignore_ascii_case name text ≡ false
+of_few name text l =
+    let n : length (str_to_ascii_lowercase name) ≡ length name = length-map name to_ascii_lowercase in
+    let t : length (str_to_ascii_lowercase text) ≡ length text = length-map text to_ascii_lowercase in
+    shorter (str_to_ascii_lowercase name) (str_to_ascii_lowercase text) (omega arith)
+
+pub few : (name : List ℕ) → length name < 9 → is_subscription_name name ≡ false
+unfolding is_subscription_name
+few name l = rw (
+  of_few name (codes "SUBSCRIBE") l,
+  of_few name (codes "PSUBSCRIBE") (omega arith),
+  of_few name (codes "SSUBSCRIBE") (omega arith),
+  of_few name (codes "UNSUBSCRIBE") (omega arith),
+  of_few name (codes "PUNSUBSCRIBE") (omega arith),
+  of_few name (codes "SUNSUBSCRIBE") (omega arith),
+) refl
 
 -- ---- a number is no name
 
@@ -57,30 +84,47 @@ decimal_begins n = by_test (n / 10 == 0)
 
 -- ---- the first argument
 
-first_text : (text : List ℕ) (args : Args) (cursors : List ℕ) → list_any (nat_eq 0) cursors ≡ true
-    → HaveText text args cursors → slice_get args 0 ≡ Some text
-first_text text args [] any h = absurd (cc)
-first_text text args (place ∷ places) any h = by_test (nat_eq 0 place) refl
-    (λ later. first_text text args places later h.1)
-  where
-    by_test : (test : Bool) → nat_eq 0 place ≡ test
-        → (list_any (nat_eq 0) places ≡ true → slice_get args 0 ≡ Some text) → slice_get args 0 ≡ Some text
-    by_test true e later = subst (λ (i : ℕ). slice_get args i ≡ Some text) (sym (eqb-true 0 place e)) h.0
-    by_test false e later = later (rw e at any)
+-- it isn't a cursor argument
+pub named : (cursor : Option ℕ) (cursors : List ℕ) (args : Args) (name : List ℕ) → slice_get args 0 ≡ Some name
+    → (slice_get cursors 0 ≡ Some 0 → ⊥) → is_subscription (sent_args cursor cursors args) ≡ is_subscription_name name
+named cursor cursors [] name is other = absurd (cc)
+named cursor [] (arg ∷ args) name is other = let same : arg ≡ name = cc in rw same refl
+named cursor (zero ∷ cursors) (arg ∷ args) name is other = absurd (other refl)
+named cursor (suc place ∷ cursors) (arg ∷ args) name is other =
+    let same : arg ≡ name = cc in
+    rw (interleaved-simple 0 (suc place) cursors arg args (omega arith)) (ap is_subscription_name same)
 
-pub cursor_first : (args : Args) (cursor : Option ℕ) (cursors : List ℕ) (rest : List (Arg (List ℕ)))
-    → HoldsCursor args cursor cursors → shown_args args cursors ≡ Cursor ∷ rest → is_subscription args ≡ false
-cursor_first [] cursor cursors rest holds e = absurd (cc)
-cursor_first (arg ∷ args) cursor cursors rest holds e = by_test (list_any (nat_eq 0) cursors) refl
-  where
-    by_cursor : (cursor : Option ℕ) → HoldsCursor (arg ∷ args) cursor cursors → list_any (nat_eq 0) cursors ≡ true
-        → is_subscription_name arg ≡ false
-    by_cursor None holds any = absurd (let none = rw holds.texts at any in cc)
-    by_cursor (Some n) holds any =
-        let is : Some arg ≡ Some (decimal n) = first_text (decimal n) (arg ∷ args) cursors any holds.texts in
-        let same : arg ≡ decimal n = cc in
-        rw same (no_name (decimal n) (decimal_begins n))
+-- it is one
+pub at_cursor : (cursor : Option ℕ) (cursors : List ℕ) (args : Args) → Keeps cursor cursors args
+    → slice_get cursors 0 ≡ Some 0 → is_subscription (sent_args cursor cursors args) ≡ false
+at_cursor cursor [] args keeps is = absurd (cc)
+at_cursor None (place ∷ places) args keeps is = absurd (let none = keeps.unset in cc)
+at_cursor (Some n) (suc place ∷ places) args keeps is = absurd (cc)
+at_cursor (Some n) (zero ∷ places) [] keeps is = no_name (decimal n) (decimal_begins n)
+at_cursor (Some n) (zero ∷ places) (arg ∷ args) keeps is = no_name (decimal n) (decimal_begins n)
 
-    by_test : (test : Bool) → list_any (nat_eq 0) cursors ≡ test → is_subscription_name arg ≡ false
-    by_test true is = by_cursor cursor holds is
-    by_test false is = absurd (let k = rw is at e in cc)
+-- there is no ordinary argument
+pub nameless : (cursor : Option ℕ) (cursors : List ℕ) (args : Args) → Keeps cursor cursors args
+    → slice_get args 0 ≡ None → is_subscription (sent_args cursor cursors args) ≡ false
+nameless cursor cursors (arg ∷ args) keeps is = absurd (cc)
+nameless cursor [] [] keeps is = refl
+nameless None (place ∷ places) [] keeps is = absurd (let none = keeps.unset in cc)
+nameless (Some n) (place ∷ places) [] keeps is = no_name (decimal n) (decimal_begins n)
+
+-- ---- by the first ordinary argument, and whether a cursor argument is before it
+
+pub other_first : (cursor : Option ℕ) (cursors : List ℕ) (args : Args) (name : List ℕ) → Keeps cursor cursors args
+    → slice_get args 0 ≡ Some name → is_subscription_name name ≡ false
+    → is_subscription (sent_args cursor cursors args) ≡ false
+other_first cursor [] args name keeps is other = named cursor [] args name is (λ e. cc) ∙ other
+other_first cursor (zero ∷ places) args name keeps is other = at_cursor cursor (zero ∷ places) args keeps refl
+other_first cursor (suc place ∷ places) args name keeps is other =
+    named cursor (suc place ∷ places) args name is (λ e. cc) ∙ other
+
+pub named_first : (cursor : Option ℕ) (cursors : List ℕ) (args : Args) (name : List ℕ) → Keeps cursor cursors args
+    → slice_get args 0 ≡ Some name → is_subscription_name name ≡ true
+    → (begins : Bool) → IsTrue begins ↔ (slice_get cursors 0 ≡ Some 0)
+    → not begins ≡ is_subscription (sent_args cursor cursors args)
+named_first cursor cursors args name keeps is such true begins = sym (at_cursor cursor cursors args keeps (begins.0 refl))
+named_first cursor cursors args name keeps is such false begins =
+    sym (named cursor cursors args name is (λ e. let t = begins.1 e in cc) ∙ such)

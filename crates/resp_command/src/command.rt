@@ -2,7 +2,7 @@
 
 ghost use Rattle.std.specs.Prelude.{◌≡◌, ◌∷◌, [], ◌++◌, ◌↔◌, is_ok, if◌then◌else◌, IfOk, IfErr};
 ghost use Rattle.std.specs.Prelude.{OnOk, OnErr, IsTrue, true, false, length, take, ◌<◌, is_some};
-ghost use Rattle.std.specs.Prelude.{Err, None, MatchResult};
+ghost use Rattle.std.specs.Prelude.{Err, None, Some, MatchResult, slice_get};
 ghost use Rattle.std.specs.Iterator.{IsFiniteIterable};
 ghost use Rattle.resp_errors.specs.Memory.{OnlyMemory};
 ghost use Rattle.resp_value.specs.FirstError.{first_error};
@@ -18,7 +18,7 @@ ghost use Rattle.resp_command.specs.Scans.{CannotStart, FirstRequest, Starts, sc
 ghost use Rattle.resp_command.specs.ScanStates.{borrowed, scan_state, state_of};
 ghost use Rattle.resp_command.specs.Subscriptions.{IsUnanswered, is_subscription};
 
-use crate::args_iter::{Arg, ArgsIter};
+use crate::args_iter::ArgsIter;
 use crate::connection::ConnectionLike;
 use crate::encoded_args::EncodedArgs;
 use crate::packing::{append_frames, append_pieces};
@@ -331,13 +331,23 @@ impl Cmd {
     }
 
     /// Whether the first argument is the name of a subscription.
-    #[tactic(auto, using(crate::proofs::FirstArgument::cursor_first))]
     fn is_subscription(&self) -> bool
         ensures { result ≡ is_subscription self.now.args }
     {
-        match self.args_iter().next() {
-            Some(Arg::Simple(name)) => is_subscription_name(name),
-            Some(Arg::Cursor) | None => false,
+        match self.encoded_args.get(0) {
+            // By its name first, since hardly any is one.
+            Some(name) => is_subscription_name(name) && !self.begins_with_cursor(),
+            None => false,
+        }
+    }
+
+    /// Whether the first argument is a cursor argument.
+    fn begins_with_cursor(&self) -> bool
+        ensures { IsTrue result ↔ (slice_get self.now.cursors 0 ≡ Some 0) }
+    {
+        match self.cursors.first() {
+            Some(place) => *place == 0,
+            None => false,
         }
     }
 
@@ -359,11 +369,10 @@ impl Cmd {
         if may_hold_error(&reply) {
             return answer(self.alloc, reply);
         }
-        let value = match T::from_redis_value(self.alloc, reply) {
-            Ok(value) => value,
-            Err(error) => return Err(RedisError::from(error)),
-        };
-        Ok(value)
+        match T::from_redis_value(self.alloc, reply) {
+            Ok(value) => Ok(value),
+            Err(error) => Err(RedisError::from(error)),
+        }
     }
 
     /// Sends the command, and asks of its reply only that it holds no server error.
