@@ -1,5 +1,5 @@
 -- What a pipeline answers, by the replies to it.
-use Rattle.std.specs.Prelude.{◌≡◌, ◌≢◌, ℕ, ◌+◌, ◌<◌, ◌⊎◌, Bool, true, false, List, [], ◌∷◌, ◌++◌, None, Result, Err, codes, length}
+use Rattle.std.specs.Prelude.{◌≡◌, ◌≢◌, ℕ, ◌+◌, ◌<◌, ◌⊎◌, Bool, true, false, List, [], ◌∷◌, ◌++◌, Option, Some, None, Result, Err, codes, length}
 use Rattle.resp_value.specs.declared.value.Value.{Value, Nil, Array, out-Value}
 use Rattle.resp_value.specs.declared.value.Value.TheOpen.{Value-F}
 use Rattle.resp_errors.specs.declared.server_error.ServerError.{ServerError}
@@ -18,12 +18,19 @@ kept [] (item ∷ items) = item ∷ items
 kept (true ∷ marks) (item ∷ items) = kept marks items
 kept (false ∷ marks) (item ∷ items) = item ∷ kept marks items
 
+-- the server error that an item is, if it is one
+abbrev pub error_in : Value → Option ServerError
+error_in item = elim (out-Value item) [
+  | Value-F.ServerError error ↦ Some error
+  | _ ↦ None
+]
+
 -- the items that are server errors, each with its position, where the first item stands at n
 abbrev pub errors_from : ℕ → List Value → List (ℕ × ServerError)
 errors_from n [] = []
-errors_from n (item ∷ items) = elim (out-Value item) [
-  | Value-F.ServerError error ↦ (n, error) ∷ errors_from (n + 1) items
-  | _ ↦ errors_from (n + 1) items
+errors_from n (item ∷ items) = elim (error_in item) [
+  | Some error ↦ (n, error) ∷ errors_from (n + 1) items
+  | None ↦ errors_from (n + 1) items
 ]
 
 -- the items that are server errors, each with its position; ignored ones are among them

@@ -1,7 +1,7 @@
 //! What replies to several commands make together.
 
 ghost use Rattle.std.specs.Prelude.{◌≡◌, ◌≢◌, ◌↔◌, [], IsTrue, IfOk, false, slice_index_or};
-ghost use Rattle.resp_pipeline.specs.Outcome.{kept, errors_of};
+ghost use Rattle.resp_pipeline.specs.Outcome.{kept, error_in, errors_of};
 
 use resp_value::{Items, ServerError, Value};
 use std::alloc::{AllocError, Global};
@@ -27,11 +27,21 @@ pub fn into_server_errors(
 {
     let mut errors = Items::new(alloc);
     for (position, item) in items.into_iter().enumerate() {
-        if let Value::ServerError(error) = item {
+        if let Some(error) = into_server_error(item) {
             errors.push((position, error))?;
         }
     }
     Ok(errors)
+}
+
+/// The server error that an item is, if it is one.
+fn into_server_error(item: Value) -> Option<ServerError>
+    ensures { result ≡ error_in item }
+{
+    match item {
+        Value::ServerError(error) => Some(error),
+        _ => None,
+    }
 }
 
 /// Keeps the items whose position isn't ignored, in order. Takes no memory.
