@@ -1,6 +1,6 @@
 //! Values in the types of RESP2.
 
-ghost use Rattle.std.specs.Prelude.{◌≡◌, ◌∷◌, ◌++◌, map, IfOk};
+ghost use Rattle.std.specs.Prelude.{◌≡◌, ◌∷◌, ◌++◌, map, IfOk, OnOk};
 ghost use Rattle.resp_value.specs.declared.value.Value.{BulkString};
 ghost use Rattle.resp_value.specs.Names.{name_of_push_kind};
 ghost use Rattle.resp_errors.specs.Memory.{OnlyMemory};
@@ -61,9 +61,7 @@ fn forms_of(alloc: Global, elements: &Items<Value>) -> Result<Items<Value>, Allo
     ensures { IfOk result (λ forms. forms ≡ map resp2_of elements.now) }
 {
     let mut forms = Items::new(alloc);
-    for element in elements.as_slice() {
-        forms.push(form_of(alloc, element)?)?;
-    }
+    push_forms(alloc, elements.as_slice(), &mut forms)?;
     Ok(forms)
 }
 
@@ -73,10 +71,7 @@ fn flat_forms_of(alloc: Global, pairs: &Items<(Value, Value)>) -> Result<Items<V
         ≡ flat (map (λ p. (resp2_of p.0, resp2_of p.1)) pairs.now)) }
 {
     let mut forms = Items::new(alloc);
-    for (key, value) in pairs.as_slice() {
-        forms.push(form_of(alloc, key)?)?;
-        forms.push(form_of(alloc, value)?)?;
-    }
+    push_flat_forms(alloc, pairs.as_slice(), &mut forms)?;
     Ok(forms)
 }
 
@@ -91,8 +86,34 @@ fn push_forms_of(
 {
     let mut forms = Items::new(alloc);
     forms.push(bulk_string(alloc, kind.name().as_bytes())?)?;
-    for element in payload.as_slice() {
+    push_forms(alloc, payload.as_slice(), &mut forms)?;
+    Ok(forms)
+}
+
+/// Pushes the forms of elements.
+#[cycle(resp2)]
+fn push_forms(alloc: Global, elements: &[Value], forms: &mut Items<Value>) -> Result<(), AllocError>
+    ensures { OnOk result (forms.new ≡ forms.old ++ map resp2_of elements.now) }
+{
+    for element in elements {
         forms.push(form_of(alloc, element)?)?;
     }
-    Ok(forms)
+    Ok(())
+}
+
+/// Pushes the forms of keys and values, each key's before its value's.
+#[cycle(resp2)]
+fn push_flat_forms(
+    alloc: Global,
+    pairs: &[(Value, Value)],
+    forms: &mut Items<Value>,
+) -> Result<(), AllocError>
+    ensures { OnOk result (forms.new
+        ≡ forms.old ++ flat (map (λ p. (resp2_of p.0, resp2_of p.1)) pairs.now)) }
+{
+    for (key, value) in pairs {
+        forms.push(form_of(alloc, key)?)?;
+        forms.push(form_of(alloc, value)?)?;
+    }
+    Ok(())
 }
