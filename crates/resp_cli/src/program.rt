@@ -142,12 +142,25 @@ fn print_all<R: Read, O: Write>(
 /// Prints the replies that the parser holds whole.
 fn print_ready<O: Write>(alloc: Global, parser: &mut Parser, out: &mut O) -> RedisResult<()> {
     for _ in 0..u64::MAX {
-        let Some(value) = parser.take_value()? else {
+        if !print_next(alloc, parser, out)? {
             break;
-        };
-        print_value(alloc, &value, out)?;
+        }
     }
     Ok(())
+}
+
+/// Prints the next reply, if the parser holds it whole. Whether it does.
+fn print_next<O: Write>(alloc: Global, parser: &mut Parser, out: &mut O) -> RedisResult<bool> {
+    match parser.take_value() {
+        Ok(Some(value)) => print_taken(alloc, value, out).map(|()| true),
+        Ok(None) => Ok(false),
+        Err(error) => Err(error),
+    }
+}
+
+/// Prints a value that is let go of then.
+fn print_taken<O: Write>(alloc: Global, value: Value, out: &mut O) -> RedisResult<()> {
+    print_value(alloc, &value, out)
 }
 
 /// Prints a value's Debug text on a line.

@@ -9,8 +9,8 @@ ghost use Rattle.example_snippets.specs.declared.proxy.commands.Handling.TheVari
 
 use crate::proxy::commands::{ClientState, Handling, handling_of};
 use crate::proxy::forwarding::{forward, relay};
-use crate::proxy::reply::{is_error, refusal};
-use resp_core::{ConnectionLike, RedisResult, pack_command};
+use crate::proxy::reply::{PING, end_subscribing, is_error, refusal};
+use resp_core::{ConnectionLike, ProtocolVersion, RedisResult, pack_command};
 use resp_encode::encode;
 use std::alloc::Global;
 
@@ -36,13 +36,23 @@ pub fn pass_on(
         client.old.protocol replies.old.items replies.new.items result) }
 {
     match handling_of(client, words) {
-        Handling::Refuse => encode(&refusal(alloc, words)?, client.protocol, replies),
+        Handling::Refuse => refuse(alloc, client.protocol, words, replies),
         Handling::Forward => {
             let request = pack_command(alloc, words)?;
             relay_noting(upstream, client, words, request.as_slice(), replies)
         }
         other => pass_on_other(alloc, upstream, client, other, words, replies),
     }
+}
+
+/// Appends the refusal of a command.
+fn refuse(
+    alloc: Global,
+    protocol: ProtocolVersion,
+    words: &[Vec<u8>],
+    replies: &mut Vec<u8>,
+) -> RedisResult<()> {
+    encode(&refusal(alloc, words)?, protocol, replies)
 }
 
 /// Passes a command on that has one reply, and notes where a transaction begins and ends.
@@ -72,22 +82,20 @@ fn pass_on_other(
     words: &[Vec<u8>],
     replies: &mut Vec<u8>,
 ) -> RedisResult<()> {
+    let request = request_of(alloc, handling, words)?;
+    let reply = forward(upstream, request.as_slice())?;
+    if handling == Handling::Subscribe {
+        return end_subscribing(upstream, client.protocol, &reply, replies);
+    }
+    client.note(handling, words, is_error(&reply));
+    encode(&reply, client.protocol, replies)
+}
+
+/// The bytes of a command, with `PING` after `SUBSCRIBE`.
+fn request_of(alloc: Global, handling: Handling, words: &[Vec<u8>]) -> RedisResult<Vec<u8>> {
     let mut request = pack_command(alloc, words)?;
     if handling == Handling::Subscribe {
         request.extend_from_slice(PING)?;
     }
-    let reply = forward(upstream, request.as_slice())?;
-    if handling != Handling::Subscribe {
-        client.note(handling, words, is_error(&reply));
-        return encode(&reply, client.protocol, replies);
-    }
-    if is_error(&reply) {
-        // it answers the command, and so PING is still to be answered: with one more, two replies
-        upstream.req_packed_commands(PING, 0, 2)?;
-        return encode(&reply, client.protocol, replies);
-    }
-    Ok(())
+    Ok(request)
 }
-
-/// What is sent after `SUBSCRIBE`: the pushes that answer it come before this one's reply.
-const PING: &[u8] = b"*1\r\n$4\r\nPING\r\n";

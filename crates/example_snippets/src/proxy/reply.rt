@@ -1,7 +1,8 @@
 //! What comes back. The alias stands in a file of its own, so that no file with a clause names
 //! [`Value`].
 
-use resp_core::{RedisResult, ServerError, Text, Value};
+use resp_core::{ConnectionLike, ProtocolVersion, RedisResult, ServerError, Text, Value};
+use resp_encode::encode;
 use std::alloc::Global;
 
 /// A reply, or why there is none.
@@ -26,4 +27,22 @@ pub fn refusal(alloc: Global, words: &[Vec<u8>]) -> RedisResult<Value> {
     }
     let text = Text::from_utf8_lossy(alloc, line.as_slice())?;
     Ok(Value::ServerError(ServerError::from_text(alloc, text.as_str())?))
+}
+
+/// What is sent after `SUBSCRIBE`: the pushes that answer it come before this one's reply.
+pub const PING: &[u8] = b"*1\r\n$4\r\nPING\r\n";
+
+/// Appends the reply to `SUBSCRIBE` where it is an error; else only pushes answer it.
+pub fn end_subscribing(
+    upstream: &mut dyn ConnectionLike,
+    protocol: ProtocolVersion,
+    reply: &Value,
+    replies: &mut Vec<u8>,
+) -> RedisResult<()> {
+    if !is_error(reply) {
+        return Ok(());
+    }
+    // it answers the command, and so PING is still to be answered: with one more, two replies
+    upstream.req_packed_commands(PING, 0, 2)?;
+    encode(reply, protocol, replies)
 }

@@ -27,15 +27,15 @@ pub fn count_call(
         .cmd("EXPIRE")?
         .arg((key, 60, "NX"))?
         .query(con);
+    count_of(answer)
+}
+
+/// The count of a reply, `None` where the key holds a value of another type.
+fn count_of(answer: RedisResult<(i64, bool)>) -> RedisResult<Option<i64>> {
     match answer {
         Ok((count, _)) => Ok(Some(count)),
-        Err(error) => {
-            if is_of_wrong_type(&error) {
-                Ok(None)
-            } else {
-                Err(error)
-            }
-        }
+        Err(error) if is_of_wrong_type(&error) => Ok(None),
+        Err(error) => Err(error),
     }
 }
 
