@@ -37,6 +37,11 @@ module _ {S : Type 0} (sends : S → S → NodeAddr → List ℕ → ℕ → Res
     pub some : group ≢ [] → (given : Vec Value)
         × ((given.items ≡ replies) × sends old new node (request_of group) (length group) (Ok given))
 
+  -- a node is sent commands as one request and refuses them, or memory runs out before
+  abbrev pub NodeRefuses : List Command → S → NodeAddr → RedisError → S → Type 0
+  NodeRefuses group old node e new =
+      ((e ≡ OutOfMemory) × (new ≡ old)) ⊎ sends old new node (request_of group) (length group) (Err e)
+
   module _ (commands : List Command) (targets : List ℕ) where
     -- nodes in order, of which the first is at this place, are sent each its commands, and give these replies
     abbrev pub SentEach : ℕ → List NodeAddr → S → List (List Value) → S → Type 0

@@ -1,9 +1,9 @@
 //! Several commands over the nodes of a cluster.
 
-ghost use Rattle.std.specs.Prelude.{◌≡◌, ◌<◌, ◌⊎◌, All, Err, IfOk, IfErr, length, map};
+ghost use Rattle.std.specs.Prelude.{◌≡◌, ◌<◌, All, IfOk, IfErr, length, map};
 ghost use Rattle.resp_errors.specs.Memory.{OnlyMemory};
-ghost use Rattle.resp_cluster.specs.Gathered.{FollowedEach, Gathered, InPlaces, RefusedGroup, SentEach};
-ghost use Rattle.resp_cluster.specs.Gathered.{SentGroup, StopsAt, of_node, request_of};
+ghost use Rattle.resp_cluster.specs.Gathered.{FollowedEach, Gathered, InPlaces, NodeRefuses, RefusedGroup};
+ghost use Rattle.resp_cluster.specs.Gathered.{SentEach, SentGroup, StopsAt, of_node, request_of};
 ghost use Rattle.resp_cluster.specs.Gathering.{Enough, from_last};
 
 use crate::node::NodeAddr;
@@ -131,10 +131,8 @@ fn send_to<C: SendGroups>(
     requires each { length targets.now ≡ length commands.now }
     ensures sent { IfOk result (λ replies. SentGroup C.sends
         (of_node place targets.now commands.now) cluster.old node.now replies.items cluster.new) }
-    ensures refused { IfErr result (λ e. ((e ≡ RedisError.OutOfMemory) × (cluster.new ≡ cluster.old))
-        ⊎ C.sends cluster.old cluster.new node.now
-        (request_of (of_node place targets.now commands.now))
-        (length (of_node place targets.now commands.now)) (Err e)) }
+    ensures refused { IfErr result (λ e. NodeRefuses C.sends
+        (of_node place targets.now commands.now) cluster.old node.now e cluster.new) }
 {
     let group = group_of(alloc, place, commands, targets)?;
     if group.count == 0 {

@@ -60,16 +60,16 @@ fn map_of_answer(
     ensures { IsMapAnswer node.now answer result }
 {
     match answer {
-        Ok(reply) => map_of_reply(alloc, reply, node),
+        Ok(reply) => map_of_reply(alloc, &reply, node),
         Err(error) => Err(MapError::Failed(error)),
     }
 }
 
 /// The map that a node's reply gives.
-fn map_of_reply(alloc: Global, reply: Value, node: &NodeAddr) -> Result<SlotMap, MapError>
-    ensures { IsMapOf node.now reply result }
+fn map_of_reply(alloc: Global, reply: &Value, node: &NodeAddr) -> Result<SlotMap, MapError>
+    ensures { IsMapOf node.now reply.now result }
 {
-    match SlotMap::from_slots_reply(alloc, &reply, node.host.as_str()) {
+    match SlotMap::from_slots_reply(alloc, reply, node.host.as_str()) {
         Ok(map) => Ok(map),
         Err(error) => Err(MapError::NoMap(error)),
     }

@@ -84,6 +84,7 @@ impl NodeAddr {
     }
 
     /// Whether it is this address.
+    #[inline(always)]
     pub(crate) fn is(&self, other: &NodeAddr) -> bool
         ensures { IsTrue result ↔ (self.now ≡ other.now) }
     {
