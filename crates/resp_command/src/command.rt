@@ -361,7 +361,8 @@ impl Cmd {
         ensures { CommandQuery (connection con.old) (connection con.new) self.now T.of_value
             result }
     {
-        // By `match`, since `?` moves the reply and the value once more.
+        // By `match` and `let`, since `?` moves the reply and the value once more, and so do arms that
+        // end in `Ok`.
         let reply = match con.req_command(self) {
             Ok(reply) => reply,
             Err(error) => return Err(error),
@@ -369,10 +370,11 @@ impl Cmd {
         if may_hold_error(&reply) {
             return answer(self.alloc, reply);
         }
-        match T::from_redis_value(self.alloc, reply) {
-            Ok(value) => Ok(value),
-            Err(error) => Err(RedisError::from(error)),
-        }
+        let value = match T::from_redis_value(self.alloc, reply) {
+            Ok(value) => value,
+            Err(error) => return Err(RedisError::from(error)),
+        };
+        Ok(value)
     }
 
     /// Sends the command, and asks of its reply only that it holds no server error.

@@ -18,7 +18,7 @@ returns-in-Err-from_redis_value g c =
     (refused_call _ c.in-Err-from_redis_value.error c.in-Err-from_redis_value.ensures.converts)))
     c.req_command.ensures
 
-pub returns-in-Ok-from_redis_value : goal.returns-in-Ok-from_redis_value
-returns-in-Ok-from_redis_value g c = command_answered _ _ _ _ _ _ _ c.in-Ok.is (harmless_answered g.T.FromRedisValue.of_value c.in-Ok.reply
+pub returns : goal.returns
+returns g c = command_answered _ _ _ _ _ _ _ c.in-Ok.is (harmless_answered g.T.FromRedisValue.of_value c.in-Ok.reply
     (Ok c.in-Ok-from_redis_value.value) (c.may_hold_error.ensures c.if-may_hold_error.false)
     c.in-Ok-from_redis_value.ensures.converts) c.req_command.ensures
