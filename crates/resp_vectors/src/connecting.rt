@@ -62,10 +62,10 @@ pub fn greeting(alloc: Global, row: &Row) -> RedisResult<String> {
 fn greeted(alloc: Global, redis: &RedisConnectionInfo, incoming: &[u8]) -> RedisResult<String> {
     let mut link = link_over(alloc, incoming)?;
     let answer = match greet(alloc, &mut link, redis) {
-        Ok(version) => debug_text(alloc, &version)?,
-        Err(error) => not_greeted(alloc, error)?,
+        Ok(version) => debug_text(alloc, &version),
+        Err(error) => not_greeted(alloc, error),
     };
-    with_link(alloc, answer, link)
+    with_link(alloc, answer?, link)
 }
 
 fn not_greeted(alloc: Global, error: GreetingError) -> RedisResult<String> {
@@ -114,15 +114,25 @@ pub fn reconnect(alloc: Global, row: &Row) -> RedisResult<String> {
         alloc,
         links: copies(alloc, links)?.into_iter(),
     });
-    let mut answers = String::new(alloc);
-    for command in commands.split(is_comma) {
-        let answer = ask(alloc, command, &mut con)?;
-        add_part(&mut answers, answer.as_str())?;
-    }
+    let answers = ask_each(alloc, commands, &mut con)?;
     match con.into_parts() {
         (_script, Some(link)) => with_link(alloc, answers, link),
         _ => Ok(answers),
     }
+}
+
+/// What the commands are answered.
+fn ask_each(
+    alloc: Global,
+    commands: &[Vec<u8>],
+    con: &mut dyn ConnectionLike,
+) -> RedisResult<String> {
+    let mut answers = String::new(alloc);
+    for command in commands.split(is_comma) {
+        let answer = ask(alloc, command, con)?;
+        add_part(&mut answers, answer.as_str())?;
+    }
+    Ok(answers)
 }
 
 /// What a command is answered.

@@ -11,20 +11,20 @@ use std::alloc::Global;
 /// `encode BYTES`
 pub fn encode_both(alloc: Global, row: &Row) -> RedisResult<String> {
     match row.words() {
-        [bytes] => {
-            let value = parse_redis_value(alloc, bytes.as_slice())?;
-            if let Some(other) = written_otherwise(alloc, &value)? {
-                return Ok(other);
-            }
-            let mut text = encoded(alloc, &value, ProtocolVersion::RESP3)?;
-            add_part(
-                &mut text,
-                encoded(alloc, &value, ProtocolVersion::RESP2)?.as_str(),
-            )?;
-            Ok(text)
-        }
+        [bytes] => both_encoded(alloc, &parse_redis_value(alloc, bytes.as_slice())?),
         _ => Err(malformed()),
     }
+}
+
+/// The bytes of a value in each version, or what it shows where it isn't the same, read again.
+fn both_encoded(alloc: Global, value: &Value) -> RedisResult<String> {
+    if let Some(other) = written_otherwise(alloc, value)? {
+        return Ok(other);
+    }
+    let mut text = encoded(alloc, value, ProtocolVersion::RESP3)?;
+    let other = encoded(alloc, value, ProtocolVersion::RESP2)?;
+    add_part(&mut text, other.as_str())?;
+    Ok(text)
 }
 
 /// The bytes of a value, in quotes.
@@ -54,7 +54,7 @@ pub fn values_written_again(alloc: Global, bytes: &[u8]) -> RedisResult<Option<S
     for _ in 0..u64::MAX {
         match parser.take_value() {
             Ok(Some(value)) => {
-                if let Some(other) = written_otherwise(alloc, &value)? {
+                if let Some(other) = taken_otherwise(alloc, value)? {
                     return Ok(Some(other));
                 }
             }
@@ -62,6 +62,11 @@ pub fn values_written_again(alloc: Global, bytes: &[u8]) -> RedisResult<Option<S
         }
     }
     Ok(None)
+}
+
+/// What a value that was taken shows where it isn't the same, written and read again.
+fn taken_otherwise(alloc: Global, value: Value) -> RedisResult<Option<String>> {
+    written_otherwise(alloc, &value)
 }
 
 /// What a value shows where it isn't the same, written and read again.

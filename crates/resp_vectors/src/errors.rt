@@ -19,9 +19,9 @@ pub fn error(alloc: Global, row: &Row) -> RedisResult<String> {
 
 /// `first-error BYTES`
 pub fn first_error(alloc: Global, row: &Row) -> RedisResult<String> {
-    match reply_of(alloc, row)?.extract_error() {
-        Ok(_) => Ok(String::from_str(alloc, "none")?),
-        Err(error) => known_of(alloc, &error),
+    match reply_of(alloc, row)?.extract_error().err() {
+        Some(error) => known_of(alloc, &error),
+        None => Ok(String::from_str(alloc, "none")?),
     }
 }
 
@@ -200,6 +200,11 @@ fn standard_kind(alloc: Global, row: &Row) -> RedisResult<String> {
 
 /// What an error means for its connection.
 fn meaning(alloc: Global, error: RedisError) -> RedisResult<String> {
+    meaning_of(alloc, &error)
+}
+
+/// The same of an error that is kept.
+fn meaning_of(alloc: Global, error: &RedisError) -> RedisResult<String> {
     let mut text = format!(in alloc; "category: {:?}", error.category())?;
     write!(text, "; retry: {:?}", error.retry_method())?;
     write!(text, "; io: {}", error.is_io_error())?;

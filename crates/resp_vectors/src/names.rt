@@ -19,6 +19,12 @@ fn only_word(row: &Row) -> RedisResult<&[u8]> {
 /// `view BYTES`
 pub fn view(alloc: Global, row: &Row) -> RedisResult<String> {
     let reply = parse_redis_value(alloc, only_word(row)?)?;
+    let text = seen(alloc, &reply)?;
+    same_by_move(alloc, reply, text)
+}
+
+/// How many values or pairs a reply is seen as, and whether it looks like a cursor.
+fn seen(alloc: Global, reply: &Value) -> RedisResult<String> {
     let mut text = String::new(alloc);
     if let Some(values) = reply.as_sequence() {
         write!(text, "sequence {}", values.len())?;
@@ -35,23 +41,29 @@ pub fn view(alloc: Global, row: &Row) -> RedisResult<String> {
     if text.is_empty() {
         text.push_str("none")?;
     }
-    same_by_move(alloc, reply, text)
+    Ok(text)
 }
 
 /// The text, if a reply that is moved is seen as many values or pairs as one that is borrowed.
 fn same_by_move(alloc: Global, reply: Value, text: String) -> RedisResult<String> {
     let values = reply.as_sequence().map(|values| values.len());
     let pairs = reply.as_map_iter().map(|pairs| pairs.size_hint().0);
-    let moved_pairs = reply
-        .try_clone(alloc)?
-        .into_map_iter()
-        .ok()
-        .map(|pairs| pairs.size_hint().0);
-    let moved = reply.into_sequence(alloc).ok().map(|values| values.len());
+    let moved_pairs = pairs_by_move(reply.try_clone(alloc)?);
+    let moved = values_by_move(alloc, reply);
     if moved == values && moved_pairs == pairs {
         return Ok(text);
     }
     Ok(format!(in alloc; "{text}; by move {moved:?} and {moved_pairs:?}")?)
+}
+
+/// How many pairs a reply is seen as that is moved.
+fn pairs_by_move(reply: Value) -> Option<usize> {
+    reply.into_map_iter().ok().map(|pairs| pairs.size_hint().0)
+}
+
+/// How many values a reply is seen as that is moved.
+fn values_by_move(alloc: Global, reply: Value) -> Option<usize> {
+    reply.into_sequence(alloc).ok().map(|values| values.len())
 }
 
 /// `info BYTES KEY..`

@@ -5,7 +5,8 @@ use crate::rows::{Row, malformed, text_of};
 use crate::texts::{add_part, answer_text, quoted};
 use crate::types::{AtType, at_answer_type};
 use resp_core::{
-    ByteLink, ConnectionLike, FromRedisValue, Reading, RedisError, RedisResult, Value, Writing, cmd,
+    ByteLink, ConnectionLike, FromRedisValue, PushInfo, Reading, RedisError, RedisResult, Value,
+    Writing, cmd,
 };
 use std::alloc::Global;
 use std::fmt::Debug;
@@ -84,26 +85,33 @@ struct Later {
 /// The answer, and then what was sent, which pushes were set aside, and whether the link is broken
 /// or what later requests are answered.
 pub fn with_link(alloc: Global, answer: String, mut link: MemoryLink) -> RedisResult<String> {
-    let pushes = link.take_pushes();
+    let pushes = pushes_text(alloc, link.take_pushes())?;
     let broken = link.is_broken();
     let later = later_replies(alloc, &mut link)?;
-    let (_source, sink) = link.into_ends();
-    let mut sent = sink.into_inner();
-    sent.truncate(
-        sent.len()
-            .saturating_sub(later.requests.saturating_mul(PING.len())),
-    );
-    let sent = quoted(alloc, sent.as_slice())?;
-    let mut text = format!(in alloc; "{answer} | sent {sent}")?;
-    if !pushes.is_empty() {
-        write!(text, " | pushes {pushes:?}")?;
-    }
+    let sent = sent_text(alloc, link, later.requests)?;
+    let mut text = format!(in alloc; "{answer} | sent {sent}{pushes}")?;
     if broken {
         text.push_str(" | broken")?;
     } else if !later.text.is_empty() {
         write!(text, " | then {}", later.text)?;
     }
     Ok(text)
+}
+
+/// The pushes that were set aside, if there are any.
+fn pushes_text(alloc: Global, pushes: Vec<PushInfo>) -> RedisResult<String> {
+    if pushes.is_empty() {
+        return Ok(String::new(alloc));
+    }
+    Ok(format!(in alloc; " | pushes {pushes:?}")?)
+}
+
+/// What was sent before so many later requests, in quotes.
+fn sent_text(alloc: Global, link: MemoryLink, later: usize) -> RedisResult<String> {
+    let (_source, sink) = link.into_ends();
+    let mut sent = sink.into_inner();
+    sent.truncate(sent.len().saturating_sub(later.saturating_mul(PING.len())));
+    quoted(alloc, sent.as_slice())
 }
 
 /// What requests are answered until the link breaks.

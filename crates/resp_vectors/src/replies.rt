@@ -2,9 +2,10 @@
 
 use crate::encodings::values_written_again;
 use crate::rows::{Row, malformed, number_of};
-use crate::texts::{add_part, refusal_text};
+use crate::texts::{add_part, debug_text, refusal_text};
 use resp_core::{
-    ErrorKind, FlatParser, FlatReply, Limits, Parser, Reading, RedisError, RedisResult, Value,
+    ErrorKind, FlatParser, FlatReply, FrameFault, Limits, Parser, Reading, RedisError, RedisResult,
+    Value,
 };
 use std::alloc::Global;
 use std::io;
@@ -194,13 +195,18 @@ impl Flat {
     /// The value that the flat reply is read back as, if the reply is that value's.
     fn value_of_reply(&self, alloc: Global) -> RedisResult<Option<Value>> {
         let value = self.reply.to_value(alloc)?;
-        let mut flat = FlatReply::new(alloc);
-        flat.append(&value)?;
-        let tokens = flat.tokens.as_slice() == self.reply.tokens.as_slice();
-        if tokens && flat.text.as_slice() == self.reply.text.as_slice() {
+        if self.is_of(alloc, &value)? {
             return Ok(Some(value));
         }
         Err(RedisError::from((ErrorKind::Client, "another flat reply")))
+    }
+
+    /// Whether the flat reply is that of the value.
+    fn is_of(&self, alloc: Global, value: &Value) -> RedisResult<bool> {
+        let mut flat = FlatReply::new(alloc);
+        flat.append(value)?;
+        let tokens = flat.tokens.as_slice() == self.reply.tokens.as_slice();
+        Ok(tokens && flat.text.as_slice() == self.reply.text.as_slice())
     }
 }
 
@@ -227,6 +233,16 @@ impl Parses for Flat {
     fn fault_offset(&self) -> Option<usize> {
         self.parser.fault_offset()
     }
+}
+
+/// The Debug text of a value.
+fn shown(alloc: Global, value: Value) -> RedisResult<String> {
+    debug_text(alloc, &value)
+}
+
+/// A fault and its offset.
+fn fault_text(alloc: Global, fault: FrameFault, offset: usize) -> RedisResult<String> {
+    Ok(format!(in alloc; "{fault:?}@{offset}")?)
 }
 
 /// What a parser takes from the bytes, and the text that it shows.
@@ -261,25 +277,24 @@ impl<P: Parses> Taken<P> {
     /// Adds the next value, if it is whole, or the fault. Whether there was a value.
     fn take(&mut self, alloc: Global) -> RedisResult<bool> {
         match self.parser.next(alloc) {
-            Ok(Some(value)) => {
-                add_part(&mut self.text, format!(in alloc; "{value:?}")?.as_str())?;
-                Ok(true)
-            }
+            Ok(Some(value)) => self.add(shown(alloc, value)).map(|()| true),
             Ok(None) => Ok(false),
-            Err(error) => {
-                self.refuse(alloc, error)?;
-                Ok(false)
-            }
+            Err(error) => self.refuse(alloc, error).map(|()| false),
         }
+    }
+
+    /// Adds what is shown.
+    fn add(&mut self, shown: RedisResult<String>) -> RedisResult<()> {
+        add_part(&mut self.text, shown?.as_str())
     }
 
     /// Adds a fault and its offset, or another refusal. Fails where memory ran out.
     fn refuse(&mut self, alloc: Global, error: RedisError) -> RedisResult<()> {
         let shown = match (error.frame_fault(), self.parser.fault_offset()) {
-            (Some(fault), Some(offset)) => format!(in alloc; "{fault:?}@{offset}")?,
-            _ => refusal_text(alloc, error)?,
+            (Some(fault), Some(offset)) => fault_text(alloc, fault, offset),
+            _ => refusal_text(alloc, error),
         };
-        add_part(&mut self.text, shown.as_str())
+        self.add(shown)
     }
 
     /// The text, with `..` where a value is in progress.
@@ -335,12 +350,23 @@ impl Taken<Parser> {
     fn read_in_threes(&mut self, alloc: Global, bytes: &[u8]) -> RedisResult<()> {
         let mut source = Reading::new(InThrees { rest: bytes });
         for _ in 0..u64::MAX {
-            match self.parser.parse_from(&mut source) {
-                Ok(value) => add_part(&mut self.text, format!(in alloc; "{value:?}")?.as_str())?,
-                Err(error) => return self.end_source(alloc, error),
+            if !self.read_next(alloc, &mut source)? {
+                break;
             }
         }
         Ok(())
+    }
+
+    /// Adds the next value of the source, or its end or a fault. Whether there was a value.
+    fn read_next(
+        &mut self,
+        alloc: Global,
+        source: &mut Reading<InThrees<'_>>,
+    ) -> RedisResult<bool> {
+        match self.parser.parse_from(source) {
+            Ok(value) => self.add(shown(alloc, value)).map(|()| true),
+            Err(error) => self.end_source(alloc, error).map(|()| false),
+        }
     }
 
     /// Adds what a source's end or a fault shows.

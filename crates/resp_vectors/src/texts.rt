@@ -75,13 +75,25 @@ pub fn refusal_text(alloc: Global, error: RedisError) -> RedisResult<String> {
     if matches!(&error, RedisError::OutOfMemory) {
         return Err(error);
     }
-    let mut text = format!(in alloc; "refused: {}", error.category())?;
-    let cause = cause_of(alloc, &error)?;
+    let category = error.kind().category();
+    let cause = cause_text(alloc, &error)?;
+    let places = places_text(alloc, error)?;
+    Ok(format!(in alloc; "refused: {category}{places}{cause}")?)
+}
+
+/// What is known of a refusal's cause, in parentheses, where anything is.
+fn cause_text(alloc: Global, error: &RedisError) -> RedisResult<String> {
+    match cause_of(alloc, error)? {
+        Some(cause) => Ok(format!(in alloc; " ({cause})")?),
+        None => Ok(String::new(alloc)),
+    }
+}
+
+/// The position and the code of each server error that a refusal stands for.
+fn places_text(alloc: Global, error: RedisError) -> RedisResult<String> {
+    let mut text = String::new(alloc);
     if let Some(errors) = error.into_server_errors(alloc)? {
         add_places(&mut text, errors.as_slice())?;
-    }
-    if let Some(cause) = cause {
-        write!(text, " ({cause})")?;
     }
     Ok(text)
 }

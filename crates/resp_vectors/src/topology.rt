@@ -13,8 +13,8 @@ use std::alloc::{AllocError, Global};
 pub fn of_slots(alloc: Global, row: &Row) -> RedisResult<String> {
     match row.question()? {
         ([host], incoming) => {
-            let reply = parse_redis_value(alloc, incoming)?;
             let asked = text_of(host.as_slice())?;
+            let reply = parse_redis_value(alloc, incoming)?;
             described(alloc, SlotMap::from_slots_reply(alloc, &reply, asked))
         }
         _ => Err(malformed()),
@@ -25,9 +25,9 @@ pub fn of_slots(alloc: Global, row: &Row) -> RedisResult<String> {
 pub fn of_shards(alloc: Global, row: &Row) -> RedisResult<String> {
     match row.question()? {
         ([host, kind], incoming) => {
-            let reply = parse_redis_value(alloc, incoming)?;
             let asked = text_of(host.as_slice())?;
             let kind = port_kind(text_of(kind.as_slice())?)?;
+            let reply = parse_redis_value(alloc, incoming)?;
             described(
                 alloc,
                 SlotMap::from_shards_reply(alloc, &reply, asked, &kind),
@@ -114,20 +114,35 @@ fn slot_number(word: &[u8]) -> RedisResult<u16> {
 pub fn follow(alloc: Global, row: &Row) -> RedisResult<String> {
     match row.question()? {
         ([host, slot, budget, replies @ ..], incoming) => {
-            let mut map = map_of(alloc, host.as_slice(), incoming)?;
-            let mut script = Script::new(alloc, replies)?;
             let slot = slot_number(slot.as_slice())?;
             let budget = number_of(budget.as_slice())?;
-            let command = Cmd::new(alloc);
-            let answer = route(alloc, &mut script, &mut map, &command, slot, budget);
-            let end = end_of(alloc, answer)?;
-            let mut text = script.into_sends();
-            add_part(&mut text, end.as_str())?;
-            add_primary(alloc, &mut text, &map, slot)?;
-            Ok(text)
+            let mut map = map_of(alloc, host.as_slice(), incoming)?;
+            let script = Script::new(alloc, replies)?;
+            let text = followed(alloc, script, &mut map, slot, budget)?;
+            with_primary(alloc, text, &map, slot)
         }
         _ => Err(malformed()),
     }
+}
+
+/// What was sent to which node, and how the command ended.
+fn followed(
+    alloc: Global,
+    mut script: Script,
+    map: &mut SlotMap,
+    slot: u16,
+    budget: u64,
+) -> RedisResult<String> {
+    let answer = route(alloc, &mut script, map, &Cmd::new(alloc), slot, budget);
+    let mut text = script.into_sends();
+    add_part(&mut text, end_of(alloc, answer)?.as_str())?;
+    Ok(text)
+}
+
+/// The text, and then the primary of a slot.
+fn with_primary(alloc: Global, mut text: String, map: &SlotMap, slot: u16) -> RedisResult<String> {
+    add_primary(alloc, &mut text, map, slot)?;
+    Ok(text)
 }
 
 /// How a command ended.
@@ -218,8 +233,9 @@ impl SendCommand<Reply> for Script {
 pub fn redirect(alloc: Global, row: &Row) -> RedisResult<String> {
     match row.question()? {
         ([host], incoming) => {
+            let host = text_of(host.as_slice())?;
             let reply = parse_redis_value(alloc, incoming)?;
-            let redirect = redirect_of(alloc, &reply, text_of(host.as_slice())?)?;
+            let redirect = redirect_of(alloc, &reply, host)?;
             where_to(alloc, &redirect)
         }
         _ => Err(malformed()),
