@@ -1,6 +1,6 @@
 //! Calls that change an object: a refused one leaves it as it was, and works when it is made again.
 
-use crate::heap::{Test, equal, has_to_repeat, ran_out, refuse};
+use crate::heap::{Test, equal, has_run_out, has_to_repeat, ran_out, refuse, succeeds};
 use crate::made::{LONG, get};
 use crate::subjects::{REST, Subject};
 use resp_core::{
@@ -29,9 +29,7 @@ fn shows(rt: &impl Test, object: &mut impl Subject, wanted: &str) {
 fn before_and_after<C: Change>(rt: &impl Test, change: C, size: usize) -> (String, String) {
     let mut object = C::Object::of_size(rt, size);
     let before = object.shows(rt);
-    change
-        .apply(rt.alloc(), &mut object)
-        .expect(rt, "no refusal");
+    succeeds(rt, change.apply(rt.alloc(), &mut object));
     (before, object.shows(rt))
 }
 
@@ -39,10 +37,9 @@ fn before_and_after<C: Change>(rt: &impl Test, change: C, size: usize) -> (Strin
 /// then changes it.
 fn applies<C: Change>(rt: &impl Test, change: C, object: &mut C::Object, before: &str) {
     refuse(rt.alloc());
-    let answer = change.apply(rt.alloc(), object);
-    if has_to_repeat(rt, &answer) {
+    if has_to_repeat(rt, change.apply(rt.alloc(), object)) {
         shows(rt, object, before);
-        change.apply(rt.alloc(), object).expect(rt, "no refusal");
+        succeeds(rt, change.apply(rt.alloc(), object));
     }
 }
 
@@ -286,9 +283,8 @@ const LONGER: &[u8] = &[b'z'; 1000];
 fn appends_all(rt: &impl Test, command: &mut Cmd) {
     let mut writer: ArgWriter<'_, Cmd> = command.writer_for_next_arg().expect(rt, "no refusal");
     refuse(rt.alloc());
-    let answer = writer.write_all(LONGER);
-    if has_to_repeat(rt, &answer) {
-        writer.write_all(LONGER).expect(rt, "no refusal");
+    if has_to_repeat(rt, writer.write_all(LONGER)) {
+        succeeds(rt, writer.write_all(LONGER));
     }
 }
 
@@ -435,8 +431,7 @@ fn is_extended(only: &[u8], refused: bool) -> bool {
 fn parts_of_an_argument(rt: HostRuntime) {
     let mut out = list(&rt);
     refuse(rt.alloc());
-    let answer = write_part(&mut out);
-    let refused = ran_out(&rt, &answer);
+    let refused = has_run_out(&rt, write_part(&mut out));
     equal(&rt, out.len(), 1);
     let only = out.first().expect(&rt, "the old argument");
     assert!(rt; is_extended(only.as_slice(), refused));

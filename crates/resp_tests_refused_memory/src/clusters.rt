@@ -2,7 +2,9 @@
 //! command is answered by the reply to it.
 
 use crate::changes::{Change, changes};
-use crate::heap::{Test, debug_text, equal, made, ran_out, refuse, was_refused};
+use crate::heap::{
+    Test, debug_text, equal, has_run_out, made, refuse, succeeds, unless_out, was_refused,
+};
 use crate::links::{Asked, Link, Until, answered, link, sent};
 use crate::scans::is_one_of;
 use crate::subjects::{Subject, taken_text};
@@ -83,9 +85,8 @@ fn is_map(rt: &impl Test, map: &SlotMap, wanted: &str) {
 
 /// The reply gave the map, or memory ran out.
 fn gives_map(rt: &impl Test, answer: Result<SlotMap, TopologyError>) {
-    let answer = answer.map_err(of_topology);
-    if !ran_out(rt, &answer) {
-        is_map(rt, &answer.expect(rt, "a map"), RANGES);
+    if let Some(map) = unless_out(rt, answer.map_err(of_topology)) {
+        is_map(rt, &map, RANGES);
     }
 }
 
@@ -560,12 +561,10 @@ fn clusters_that_are_opened(rt: HostRuntime) {
     let opened = ClusterLink::open(rt.alloc(), nodes, seeds.as_slice(), 3).map_err(
         RedisError::from,
     );
-    if ran_out(&rt, &opened) {
-        return;
+    if let Some(mut con) = unless_out(&rt, opened) {
+        is_map(&rt, con.map(), RANGES);
+        let _ = answers_in_turn(&rt, &mut con, MAPPED);
     }
-    let mut con = opened.expect(&rt, "a map");
-    is_map(&rt, con.map(), RANGES);
-    let _ = answers_in_turn(&rt, &mut con, MAPPED);
 }
 
 /// What a transaction is answered in which a command is refused, then the map, and then numbers.
@@ -606,10 +605,9 @@ fn a_map_that_is_asked_for(rt: HostRuntime) {
 /// Has a link to a node, or memory runs out, and the cluster has none; then it has one.
 fn reaches(rt: &impl Test, con: &mut Cluster, node: &NodeAddr) {
     refuse(rt.alloc());
-    let answer = con.reach(node);
-    if ran_out(rt, &answer) {
+    if has_run_out(rt, con.reach(node)) {
         assert!(rt; con.link().is_none());
-        con.reach(node).expect(rt, "no refusal");
+        succeeds(rt, con.reach(node));
     }
     assert!(rt; con.link().is_some());
 }

@@ -1,6 +1,6 @@
 //! Addresses, greetings, and links that are dialled, where memory runs out.
 
-use crate::heap::{Test, equal, made, ran_out, refuse, shows, was_refused};
+use crate::heap::{Test, equal, made, refuse, shows, unless_out, was_refused};
 use crate::links::{Link, link};
 use crate::made::get;
 use resp_connect::{
@@ -180,16 +180,18 @@ fn reconnecting_waits(rt: HostRuntime) {
 fn pools(rt: HostRuntime) {
     let mut pool = Pool::new(rt.alloc(), one_dial(&rt), 1);
     refuse(rt.alloc());
-    let answer = pool.get();
-    if ran_out(&rt, &answer) {
-        equal(&rt, pool.lent(), 0);
-        return;
+    match unless_out(&rt, pool.get()) {
+        Some(link) => takes_back(&rt, &mut pool, link),
+        None => equal(&rt, pool.lent(), 0),
     }
-    let link = answer.expect(&rt, "no refusal");
-    equal(&rt, pool.lent(), 1);
+}
+
+/// The pool has lent this link alone, and keeps it where no request is refused.
+fn takes_back(rt: &impl Test, pool: &mut Pool<Script>, link: Link) {
+    equal(rt, pool.lent(), 1);
     refuse(rt.alloc());
     pool.put(link);
     let refused = was_refused(rt.alloc());
-    equal(&rt, pool.idle() == 0, refused);
-    equal(&rt, pool.lent(), 0);
+    equal(rt, pool.idle() == 0, refused);
+    equal(rt, pool.lent(), 0);
 }

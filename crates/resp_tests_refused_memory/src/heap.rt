@@ -59,11 +59,34 @@ pub fn ran_out<T>(rt: &impl Test, answer: &RedisResult<T>) -> bool {
     is_out_of_memory(rt, answer, refused)
 }
 
-/// Whether memory ran out in the call, which else succeeded. From here no request is refused.
-pub fn has_to_repeat(rt: &impl Test, answer: &RedisResult<()>) -> bool {
+/// The same of an answer that is let go of.
+pub fn has_run_out<T: Drop>(rt: &impl Test, answer: RedisResult<T>) -> bool {
+    ran_out(rt, &answer)
+}
+
+/// What the call answered; none where memory ran out in it. From here no request is refused.
+pub fn unless_out<T: Drop>(rt: &impl Test, answer: RedisResult<T>) -> Option<T> {
+    if ran_out(rt, &answer) {
+        return None;
+    }
+    Some(answer.expect(rt, "no refusal"))
+}
+
+/// Whether memory ran out in a call, which else succeeded.
+fn ran_out_or_succeeded(rt: &impl Test, answer: &RedisResult<()>) -> bool {
     let repeats = ran_out(rt, answer);
     assert!(rt; repeats || answer.is_ok());
     repeats
+}
+
+/// Whether memory ran out in the call, which else succeeded. From here no request is refused.
+pub fn has_to_repeat(rt: &impl Test, answer: RedisResult<()>) -> bool {
+    ran_out_or_succeeded(rt, &answer)
+}
+
+/// The call succeeded.
+pub fn succeeds(rt: &impl Test, answer: RedisResult<()>) {
+    answer.expect(rt, "no refusal");
 }
 
 /// The Debug text of a value.
@@ -101,8 +124,7 @@ pub fn made<T: Debug + Drop, E: Into<RedisError> + Drop, W: Debug>(
     answer: Result<T, E>,
     wanted: &W,
 ) {
-    let answer = answer.map_err(E::into);
-    if !ran_out(rt, &answer) {
-        show_alike(rt, &answer.expect(rt, "no refusal"), wanted);
+    if let Some(value) = unless_out(rt, answer.map_err(E::into)) {
+        show_alike(rt, &value, wanted);
     }
 }

@@ -280,6 +280,7 @@ fn forms_of_replies(rt: HostRuntime) {
     flat.append(&value).expect(&rt, "no refusal");
     refuse_all(rt.alloc());
     has_parts(&rt, flat.root().expect(&rt, "a token"));
+    has_parts(&rt, &value);
     has_parts(&rt, value);
     took_none(&rt);
 }
@@ -449,6 +450,15 @@ fn truth_values(rt: HostRuntime) {
     equal(&rt, from_redis_value_ref(alloc, &text), Ok(true));
     equal(&rt, bool::from_redis_value_ref(alloc, &text), Ok(true));
     equal(&rt, bool::from_redis_value(alloc, text), Ok(true));
+    took_none(&rt);
+}
+
+/// A borrowed list is read where it stands.
+#[test]
+fn borrowed_pairs(rt: HostRuntime) {
+    let value: Value = reply(&rt, b"*2\r\n:1\r\n:2\r\n");
+    refuse_all(rt.alloc());
+    equal(&rt, from_redis_value_ref(rt.alloc(), &value), Ok((1, 2)));
     took_none(&rt);
 }
 

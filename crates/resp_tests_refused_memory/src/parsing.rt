@@ -1,6 +1,6 @@
 //! Parsers: after want of memory a parser has failed for good, but for a refused `feed`.
 
-use crate::heap::{Test, equal, made, ran_out, refuse};
+use crate::heap::{Test, equal, has_run_out, made, refuse, unless_out};
 use resp_core::{
     FlatParser, FlatReply, Parser, Reading, RedisError, RedisResult, Value, parse_redis_value,
 };
@@ -63,6 +63,11 @@ fn fed(rt: &impl Test, bytes: &[u8]) -> Parser {
     parser
 }
 
+/// The value is this.
+fn is_wanted<T: PartialEq>(rt: &impl Test, value: &T, wanted: &T) {
+    assert!(rt; *value == *wanted);
+}
+
 /// The parser answered this, or memory ran out and it has failed.
 fn answered<T: PartialEq + Drop>(
     rt: &impl Test,
@@ -70,11 +75,9 @@ fn answered<T: PartialEq + Drop>(
     answer: RedisResult<T>,
     wanted: &T,
 ) {
-    if ran_out(rt, &answer) {
-        has_failed(rt, parser);
-    } else {
-        let value = answer.expect(rt, "no refusal");
-        assert!(rt; value == *wanted);
+    match unless_out(rt, answer) {
+        Some(value) => is_wanted(rt, &value, wanted),
+        None => has_failed(rt, parser),
     }
 }
 
@@ -88,23 +91,49 @@ fn takes(rt: &impl Test, bytes: &[u8], wanted: &Option<Value>) {
 
 /// What is fed gives the flat reply of this, or leaves the reply before as it was.
 fn takes_flat(rt: &impl Test, bytes: &[u8], wanted: &Option<Value>) {
+    let parser = fed_flat(rt, bytes);
+    let mut reply = okay(rt);
+    let taken = took_flat(rt, parser, &mut reply, wanted.is_some());
+    match wanted {
+        Some(value) if taken => is_value(rt, &reply, value),
+        _ => is_value(rt, &reply, &Value::Okay),
+    }
+}
+
+/// A parser of flat replies that was fed these bytes.
+fn fed_flat(rt: &impl Test, bytes: &[u8]) -> FlatParser {
     let mut parser = FlatParser::new(rt.alloc());
     parser.feed(bytes).expect(rt, "no refusal");
+    parser
+}
+
+/// The flat reply of `+OK`.
+fn okay(rt: &impl Test) -> FlatReply {
     let mut reply = FlatReply::new(rt.alloc());
     reply.append(&Value::Okay).expect(rt, "no refusal");
+    reply
+}
+
+/// The parser says as wanted whether there is a reply, or memory ran out and it has failed. Whether
+/// it gave one.
+fn took_flat(rt: &impl Test, mut parser: FlatParser, reply: &mut FlatReply, wanted: bool) -> bool {
     refuse(rt.alloc());
-    let answer = parser.take_reply(&mut reply);
-    let taken = matches!(answer, Ok(true));
-    if ran_out(rt, &answer) {
-        flat_has_failed(rt, parser);
-    } else {
-        equal(rt, answer.expect(rt, "no refusal"), wanted.is_some());
+    match unless_out(rt, parser.take_reply(reply)) {
+        Some(taken) => {
+            equal(rt, taken, wanted);
+            taken
+        }
+        None => {
+            flat_has_failed(rt, parser);
+            false
+        }
     }
+}
+
+/// The flat reply is that of the value.
+fn is_value(rt: &impl Test, reply: &FlatReply, wanted: &Value) {
     let shown = reply.to_value(rt.alloc()).expect(rt, "no refusal");
-    match wanted {
-        Some(value) if taken => assert!(rt; shown == *value),
-        _ => assert!(rt; shown == Value::Okay),
-    }
+    is_wanted(rt, &shown, wanted);
 }
 
 /// What is read gives this.
@@ -130,10 +159,9 @@ fn finds(rt: &impl Test, bytes: &[u8], wanted: bool) {
     let mut source = Reading::new(bytes);
     refuse(rt.alloc());
     let found = parser.find_bulk(&mut source);
-    if ran_out(rt, &found) {
-        has_failed(rt, parser);
-    } else {
-        equal(rt, found.expect(rt, "no refusal").is_some(), wanted);
+    match unless_out(rt, found) {
+        Some(header) => equal(rt, header.is_some(), wanted),
+        None => has_failed(rt, parser),
     }
 }
 
@@ -142,8 +170,7 @@ fn fills(rt: &impl Test, bytes: &[u8]) {
     let mut parser = Parser::new(rt.alloc());
     let mut source = Reading::new(bytes);
     refuse(rt.alloc());
-    let filled = parser.fill_from(&mut source);
-    if ran_out(rt, &filled) {
+    if has_run_out(rt, parser.fill_from(&mut source)) {
         has_failed(rt, parser);
     } else {
         equal(rt, parser.unparsed_len(), bytes.len());
