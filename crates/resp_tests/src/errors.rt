@@ -109,6 +109,11 @@ fn parsing_errors(rt: HostRuntime) {
     assert!(rt; ParsingError::OutOfMemory.is_out_of_memory());
 }
 
+/// The error is a device's, of this kind.
+fn is_of_device(rt: &impl Test, error: RedisError, wanted: IoKind) {
+    assert_eq!(rt; error.io_kind(), Some(wanted));
+}
+
 #[test]
 fn errors_of_the_standard_library(rt: HostRuntime) {
     for (kind, wanted) in [
@@ -117,16 +122,15 @@ fn errors_of_the_standard_library(rt: HostRuntime) {
         (io::ErrorKind::WriteZero, IoKind::WriteZero),
         (io::ErrorKind::AlreadyExists, IoKind::Other),
     ] {
-        assert_eq!(rt;
-            RedisError::from(io::Error::from(kind)).io_kind(),
-            Some(wanted)
-        );
+        is_of_device(&rt, RedisError::from(io::Error::from(kind)), wanted);
     }
     let refused = io::Error::from(io::ErrorKind::OutOfMemory);
-    assert_eq!(rt; RedisError::from(refused), RedisError::OutOfMemory);
-    assert_eq!(rt;
-        RedisError::from(IoKind::OutOfMemory),
-        RedisError::OutOfMemory
+    assert!(rt; alike(RedisError::from(refused), RedisError::OutOfMemory));
+    assert!(rt;
+        alike(
+            RedisError::from(IoKind::OutOfMemory),
+            RedisError::OutOfMemory
+        )
     );
 }
 

@@ -47,17 +47,37 @@ fn increments(rt: HostRuntime) {
     }
 }
 
+/// The type has this name and equals its copy.
+fn copies_name(rt: &impl Test, read: &ValueType, name: &str) {
+    assert_equal(rt, read.try_clone(rt.alloc()), read);
+    assert_eq!(rt; read.name(), name);
+}
+
+/// The increment equals its copy.
+fn copies_increment(rt: &impl Test, both: &IncrexResult) {
+    assert_equal(rt, both.try_clone(rt.alloc()), both);
+}
+
+/// The role equals its copy.
+fn copies_role(rt: &impl Test, role: &Role) {
+    assert_equal(rt, role.try_clone(rt.alloc()), role);
+}
+
+/// The reply's bytes as a value of a type.
+fn read_as<T: FromRedisValue>(rt: &impl Test, bytes: &[u8]) -> T {
+    T::from_redis_value(rt.alloc(), reply(rt, bytes)).expect(rt, "no refusal")
+}
+
 #[test]
 fn copies_of_types(rt: HostRuntime) {
-    let unknown = ValueType::read(rt.alloc(), "xyz").expect(&rt, "memory");
-    assert_equal(&rt, unknown.try_clone(rt.alloc()), &unknown);
-    assert_eq!(rt; unknown.name(), "xyz");
-    let both = IncrexResult::from_redis_value(rt.alloc(), reply(&rt, b"*2\r\n:5\r\n_\r\n"));
-    let both = both.expect(&rt, "an increment");
-    assert_equal(&rt, both.try_clone(rt.alloc()), &both);
-    let role = Role::from_redis_value(rt.alloc(), reply(&rt, b"*2\r\n$8\r\nsentinel\r\n*0\r\n"));
-    let role = role.expect(&rt, "a role");
-    assert_equal(&rt, role.try_clone(rt.alloc()), &role);
+    copies_name(&rt, &unknown_type(&rt), "xyz");
+    copies_increment(&rt, &read_as(&rt, b"*2\r\n:5\r\n_\r\n"));
+    copies_role(&rt, &read_as(&rt, b"*2\r\n$8\r\nsentinel\r\n*0\r\n"));
+}
+
+/// A type that the library has no name for.
+fn unknown_type(rt: &impl Test) -> ValueType {
+    ValueType::read(rt.alloc(), "xyz").expect(rt, "memory")
 }
 
 #[test]

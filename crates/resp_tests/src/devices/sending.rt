@@ -1,11 +1,27 @@
 //! Commands whose last argument is read as it is sent: from readers that give a byte a call, end
 //! early or fail, and over writers that fail.
 
-use crate::checks::{Test, assert_text};
+use crate::checks::{Test, assert_answer, assert_text};
 use crate::devices::checks::{Spec, TAKES_ALL, device};
-use crate::testing::{answer_text, bytes_text, command};
-use resp_core::{ByteLink, Reading};
+use crate::testing::{Device, bytes_text, command};
+use resp_core::{ByteLink, Cmd, Reading, RedisResult};
 use std::io::ErrorKind;
+
+/// The command `SET k`, without its value.
+fn set_key(rt: &impl Test) -> Cmd {
+    command(rt.alloc(), &["SET", "k"]).expect(rt, "memory")
+}
+
+/// The writer was sent this, and flushed where the command went through.
+fn assert_written(rt: &impl Test, writer: &Device, sent: &str, broken: bool) {
+    assert_text(rt, bytes_text(rt.alloc(), writer.taken.as_slice()), sent);
+    assert!(rt; writer.flushes == usize::from(!broken));
+}
+
+/// A link is broken exactly where its call was refused.
+fn assert_broken(rt: &impl Test, broken: bool, refused: bool) {
+    assert!(rt; broken == refused);
+}
 
 /// `SET k` and a body of so many bytes, over a link to a peer that says `+OK` for ever.
 fn assert_set(
@@ -17,15 +33,12 @@ fn assert_set(
     let peer = device(rt, (b"+OK\r\n+OK\r\n", 99, 0, None));
     let mut link = ByteLink::new(rt.alloc(), peer, device(rt, writer));
     let mut body = Reading::new(device(rt, body));
-    let set = command(rt.alloc(), &["SET", "k"]).expect(rt, "memory");
-    let answered = link.req_command_from(&set, len, &mut body);
-    let broken = answered.is_err();
-    assert_text(rt, answer_text(rt.alloc(), answered), wanted);
-    assert!(rt; link.is_broken() == broken);
+    let answered = link.req_command_from(&set_key(rt), len, &mut body);
+    let broken = link.is_broken();
+    assert_broken(rt, broken, answered.is_err());
+    assert_answer(rt, answered, wanted);
     let (_source, sink) = link.into_ends();
-    let writer = sink.into_inner();
-    assert_text(rt, bytes_text(rt.alloc(), writer.taken.as_slice()), sent);
-    assert!(rt; writer.flushes == usize::from(!broken));
+    assert_written(rt, &sink.into_inner(), sent, broken);
 }
 
 const REQUEST: &str = "*3\r\n$3\r\nSET\r\n$1\r\nk\r\n$5\r\nabcde\r\n";
@@ -48,14 +61,23 @@ fn a_body_of_no_bytes(rt: HostRuntime) {
     assert_set(&rt, (body, TAKES_ALL), 0, ("ok", request));
 }
 
+/// The call succeeded.
+fn succeeds<T: Drop>(rt: &impl Test, answered: RedisResult<T>) {
+    assert!(rt; answered.is_ok());
+}
+
 #[test]
 fn only_the_body_is_read(rt: HostRuntime) {
     let peer = device(&rt, (b"+OK\r\n", 99, 0, None));
     let mut link = ByteLink::new(rt.alloc(), peer, Vec::new(rt.alloc()));
     let mut body = Reading::new(device(&rt, (b"abcdefgh", 2, 0, None)));
-    let set = command(rt.alloc(), &["SET", "k"]).expect(&rt, "memory");
-    assert!(&rt; link.req_command_from(&set, 5, &mut body).is_ok());
-    assert_eq!(rt; body.into_inner().most, 5);
+    succeeds(&rt, link.req_command_from(&set_key(&rt), 5, &mut body));
+    asked_at_most(&rt, &body.into_inner(), 5);
+}
+
+/// The most bytes that a call asked of the device.
+fn asked_at_most(rt: &impl Test, reader: &Device, wanted: usize) {
+    assert_eq!(rt; reader.most, wanted);
 }
 
 /// What was sent where the body stopped after so many bytes.

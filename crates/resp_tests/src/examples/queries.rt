@@ -6,7 +6,10 @@ use crate::testing::{MemoryLink, command, sent_text};
 use example_snippets::arguments::{fields_of, rename, set_fields};
 use example_snippets::proxy::{ClientState, forward, hand_on_pushes, pass_on, relay};
 use example_snippets::redirect::query_redirected;
-use resp_core::{ByteLink, ConnectionLike, ErrorKind, ProtocolVersion, Reading, Value, Writing};
+use resp_core::{
+    ByteLink, ConnectionLike, ErrorKind, ProtocolVersion, Reading, RedisResult, Value, Writing,
+};
+use std::alloc::{AllocError, Global};
 use std::io::Cursor;
 
 #[test]
@@ -194,31 +197,47 @@ fn a_proxy_passes_subscriptions_on(rt: HostRuntime) {
     );
 }
 
-#[test]
-fn a_push_without_bytes_is_lost(rt: HostRuntime) {
-    let mut incoming = Vec::new(rt.alloc());
-    incoming
-        .extend_from_slice(b">2\r\n+invalidate\r\n:1\r\n>2\r\n+x\r\n")
-        .expect(&rt, "memory");
+/// A push, one that is nested a hundred levels deep, and a reply.
+fn deep_push(alloc: Global) -> Result<Vec<u8>, AllocError> {
+    let mut incoming = Vec::from_slice(alloc, b">2\r\n+invalidate\r\n:1\r\n>2\r\n+x\r\n")?;
     for _ in 0..100 {
-        incoming.extend_from_slice(b"*1\r\n").expect(&rt, "memory");
+        incoming.extend_from_slice(b"*1\r\n")?;
     }
-    incoming
-        .extend_from_slice(b":1\r\n+OK\r\n")
-        .expect(&rt, "memory");
+    incoming.extend_from_slice(b":1\r\n+OK\r\n")?;
+    Ok(incoming)
+}
+
+/// A link that reads more levels than can be sent on, on which these bytes come in.
+fn deep_link(rt: &impl Test, incoming: Vec<u8>) -> MemoryLink {
     let source = Reading::new(Cursor::new(incoming));
     let sink = Writing::new(Vec::new(rt.alloc()));
     let made = ByteLink::over_with_depth_limit(rt.alloc(), source, sink, 1000);
-    let mut upstream = made.expect(&rt, "a limit");
-    let mut replies = Vec::new(rt.alloc());
-    let protocol = ProtocolVersion::RESP3;
-    relay(&mut upstream, GET.as_bytes(), protocol, &mut replies).expect(&rt, "a reply");
-    match hand_on_pushes(&mut upstream, protocol, &mut replies) {
-        Ok(()) => assert_eq!(&rt; "handed on", "refused"),
-        Err(error) => assert_eq!(&rt; error.kind(), ErrorKind::Client),
+    made.expect(rt, "a limit")
+}
+
+/// The call was refused as the client's own fault.
+fn is_refused(rt: &impl Test, answer: RedisResult<()>) {
+    match answer {
+        Ok(()) => assert_eq!(rt; "handed on", "refused"),
+        Err(error) => assert_eq!(rt; error.kind(), ErrorKind::Client),
     }
+}
+
+/// The pushes around a reply can't be handed on, and none of them is kept.
+fn loses_pushes(rt: &impl Test, upstream: &mut MemoryLink, replies: &mut Vec<u8>) {
+    let protocol = ProtocolVersion::RESP3;
+    relay(upstream, GET.as_bytes(), protocol, replies).expect(rt, "a reply");
+    is_refused(rt, hand_on_pushes(upstream, protocol, replies));
+    assert!(rt; upstream.pushes().is_empty());
+}
+
+#[test]
+fn a_push_without_bytes_is_lost(rt: HostRuntime) {
+    let incoming = deep_push(rt.alloc()).expect(&rt, "memory");
+    let mut upstream = deep_link(&rt, incoming);
+    let mut replies = Vec::new(rt.alloc());
+    loses_pushes(&rt, &mut upstream, &mut replies);
     assert_eq!(&rt; replies.as_slice(), b"+OK\r\n".as_slice());
-    assert!(&rt; upstream.pushes().is_empty());
 }
 
 const GET: &str = "*2\r\n$3\r\nGET\r\n$1\r\nx\r\n";

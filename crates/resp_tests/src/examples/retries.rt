@@ -5,7 +5,7 @@ use crate::checks::{Test, assert_answer, link};
 use crate::examples::connections::stored;
 use crate::testing::{MemoryLink, command, pipeline};
 use example_snippets::replies::{visits_read_again, visits_when_ready};
-use resp_core::{Cmd, Pipeline, RedisError, RetryMethod, retrying};
+use resp_core::{Cmd, Pipeline, RedisError, RedisResult, RetryMethod, retrying};
 
 const LOADING: &str = "-LOADING Redis is loading the dataset in memory\r\n";
 
@@ -92,23 +92,36 @@ fn a_pipeline_is_sent_again(rt: HostRuntime) {
     assert_answer(&rt, pair, "(1, 2)");
 }
 
+/// A pipeline of three commands.
+fn three_commands(rt: &impl Test) -> Pipeline {
+    pipeline(rt.alloc(), &[&["A"], &["B"], &["C"]]).expect(rt, "memory")
+}
+
+/// The refusal is of several server errors, of which this is the first.
+fn assert_first_error(rt: &impl Test, refusal: &RedisError) {
+    assert_eq!(rt; refusal.code(), None);
+    let (position, first) = refusal.first_server_error().expect(rt, "a server error");
+    assert_eq!(rt; (position, first.code()), (1, "WRONGTYPE"));
+    assert_eq!(rt; first.details(), Some("x"));
+}
+
+/// The call was refused, with several server errors, of which this is the first.
+fn assert_refused(rt: &impl Test, answer: RedisResult<()>) {
+    match answer {
+        Ok(()) => panic!(rt; "answered"),
+        Err(error) => assert_first_error(rt, &error),
+    }
+}
+
+/// The error holds no server error.
+fn has_no_server_error(rt: &impl Test, error: &RedisError) {
+    assert!(rt; error.first_server_error().is_none());
+}
+
 #[test]
 fn the_first_error_of_a_pipeline(rt: HostRuntime) {
     let incoming = b"+OK\r\n-WRONGTYPE x\r\n-ERR y\r\n";
     let mut link = link(&rt, incoming);
-    let three = pipeline(rt.alloc(), &[&["A"], &["B"], &["C"]]).expect(&rt, "memory");
-    match three.exec(&mut link) {
-        Ok(()) => panic!(rt; "answered"),
-        Err(error) => {
-            assert_eq!(rt; error.code(), None);
-            match error.first_server_error() {
-                Some((position, first)) => {
-                    assert_eq!(rt; (position, first.code()), (1, "WRONGTYPE"));
-                    assert_eq!(rt; first.details(), Some("x"));
-                }
-                None => panic!(rt; "no server error"),
-            }
-        }
-    }
-    assert!(rt; RedisError::OutOfMemory.first_server_error().is_none());
+    assert_refused(&rt, three_commands(&rt).exec(&mut link));
+    has_no_server_error(&rt, &RedisError::OutOfMemory);
 }
