@@ -5,7 +5,7 @@ ghost use Rattle.std.specs.Str.{is_utf8};
 ghost use Rattle.resp_value.specs.declared.value.Value.{BulkString};
 ghost use Rattle.resp_flat.specs.FlatReplies.{placed, tokens_of, text_of};
 ghost use Rattle.resp_parse.specs.declared.open_aggregates.OpenAggregate.{OpenAggregate};
-ghost use Rattle.resp_parse.specs.Building.{filling, whole};
+ghost use Rattle.resp_parse.specs.Building.{filling, nothing, whole};
 ghost use Rattle.resp_parse.specs.Computes.{Computes};
 ghost use Rattle.resp_parse.specs.FlatBuilders.{BuildsFlat, names_kind, with_name};
 ghost use Rattle.resp_parse.specs.Shapes.{body_value};
@@ -44,6 +44,23 @@ impl FlatBuilder {
         self.reply.append(value)
     }
 
+    /// A value of which no part is open.
+    #[inline(always)]
+    fn append_leaf(&mut self, value: &Value) -> Result<SeenValue, AllocError>
+        ensures seen { IfOk result (λ v. v ≡ value.now) }
+        ensures stands { (fs : List OpenAggregate) →
+            BuildsFlat self.old.reply self.old.opens.items self.old.start fs nothing →
+            IfOk result (λ v.
+            BuildsFlat self.new.reply self.new.opens.items self.new.start fs (whole v)) }
+    {
+        let seen = SeenValue::of(value);
+        match token_alone(value, self.reply.text.len()) {
+            Some(token) => self.reply.tokens.push(token)?,
+            None => self.append(value)?,
+        }
+        Ok(seen)
+    }
+
     /// The bytes of the body are a bulk string.
     fn bulk_body(&mut self, body: &Body) -> Result<SeenValue, AllocError>
         ensures seen { IfOk result (λ v. v ≡ BulkString body.now.seen) }
@@ -77,7 +94,7 @@ impl FlatBuilder {
         let bytes = Bytes::from_slice(alloc, &self.reply.text[start..])?;
         let value = kind.value(alloc, bytes)?;
         self.reply.text.truncate(start);
-        Ok(self.leaf(value)?)
+        Ok(self.append_leaf(&value)?)
     }
 
     /// Whether the first element of the push at `token` names its kind; its token is then that of a
@@ -122,17 +139,12 @@ impl Builder for FlatBuilder {
 
     #[inline(always)]
     fn leaf(&mut self, value: Value) -> Result<SeenValue, AllocError> {
-        let seen = SeenValue::of(&value);
-        match token_alone(&value, self.reply.text.len()) {
-            Some(token) => self.reply.tokens.push(token)?,
-            None => self.append(&value)?,
-        }
-        Ok(seen)
+        self.append_leaf(&value)
     }
 
     fn simple(&mut self, _alloc: Global, text: &str) -> Result<SeenValue, AllocError> {
         if text == "OK" {
-            return self.leaf(Value::Okay);
+            return self.append_leaf(&Value::Okay);
         }
         let start = self.reply.text.len();
         self.reply.text.extend_from_slice(text.as_bytes())?;
