@@ -12,7 +12,9 @@ ghost use Rattle.resp_from.specs.Rules.{OfList, OfEach, OfBytes};
 ghost use Rattle.resp_from.specs.Replies.{RefusesTokens};
 
 use crate::reply::Reply;
-use crate::rules::{answer_each, convert_bytes, convert_list, convert_one, copies_of, pieces_of};
+use crate::rules::{
+    answer_each, convert_bytes, convert_list, convert_list_ref, convert_one, pieces_of,
+};
 use resp_value::{Bytes, ParsingError, Value};
 use std::alloc::Global;
 
@@ -94,7 +96,7 @@ pub trait FromRedisValue: Sized + Drop {
     ) -> Result<Vec<Self>, ParsingError>
         ensures converts { ConvertsList (OfList WIDTH of_value values.now) result }
     {
-        Self::from_redis_values(alloc, copies_of(alloc, values)?)
+        convert_list_ref(alloc, Self::WIDTH, values)
     }
 
     /// The values of a list of replies, or in place of each its refusal.

@@ -80,7 +80,7 @@ pub fn convert_one<T: FromRedisValue>(alloc: Global, reply: Value) -> Result<Vec
 }
 
 /// Equal replies.
-pub fn copies_of(alloc: Global, replies: &[Value]) -> Result<Vec<Value>, AllocError>
+fn copies_of(alloc: Global, replies: &[Value]) -> Result<Vec<Value>, AllocError>
     ensures { IfOk result (λ v. v.items ≡ replies.now) }
 {
     let mut copies = Vec::new(alloc);
@@ -103,6 +103,20 @@ pub fn convert_list<T: FromRedisValue>(
     } else {
         convert_groups(alloc, width, replies)
     }
+}
+
+/// The values of a list of borrowed replies, of a type of this width.
+pub fn convert_list_ref<T: FromRedisValue>(
+    alloc: Global,
+    width: usize,
+    replies: &[Value],
+) -> Result<Vec<T>, ParsingError>
+    ensures converts { ConvertsList (OfList width T.of_value replies.now) result }
+{
+    if width == 0 {
+        return convert_elements::<T, &Value>(alloc, replies.len(), replies);
+    }
+    convert_list(alloc, width, copies_of(alloc, replies)?)
 }
 
 /// One value for each group of so many replies.
