@@ -91,6 +91,11 @@ abbrev pub attributes_in : Option ProtocolVersion → ℕ → List ℕ → ℕ �
 attributes_in (Some RESP3) d x n ts at = both (made_of (counted 124 n) ts at) (pairs_in (Some RESP3) d x n)
 attributes_in _ d x n ts at = pairs_in None d x n ts at
 
+-- what is read was given, as it is shown, and reading goes on there; or there is none
+abbrev pub GivesRead : {A B : Type 0} → (A → B) → Read B → Result A WriteError → List Token → ℕ → Type 0
+GivesRead shown r (Ok a) ts at = r ≡ got (shown a) ts at
+GivesRead shown r (Err e) ts at = (e ≡ NoSpelling) × (r ≡ refused)
+
 -- the bytes for what is read were appended, and reading goes on there; or there are none, or memory
 -- ran out, and the bytes that were there come first
 unfoldable pub AppendsRead : Result (Unit {0}) WriteError → Read (List ℕ) → List ℕ → List ℕ → List Token → ℕ → Type 0

@@ -1,10 +1,11 @@
 //! Tokens that are read one after another.
 
-ghost use Rattle.std.specs.Prelude.{◌≡◌, ◌∷◌, [], List, true, false, MatchOption, MatchResult};
+ghost use Rattle.std.specs.Prelude.{◌≡◌, ◌∷◌, [], List, true, false, IfOk, MatchOption, MatchResult};
 ghost use Rattle.std.specs.Str.{is_utf8};
 ghost use Rattle.resp_value.specs.Names.{kind_named};
 ghost use Rattle.resp_flat.specs.declared.token.Token.{Token};
-ghost use Rattle.resp_flat.specs.Reading.{refused, got, next_token, next_bytes, next_kind};
+ghost use Rattle.resp_flat.specs.Reading.{next_token, next_bytes, next_kind};
+ghost use Rattle.resp_encode.specs.FlatEncoding.{GivesRead};
 ghost use Rattle.resp_encode.specs.declared.write_error.WriteError.TheVariants.{NoSpelling};
 
 use crate::write_error::WriteError;
@@ -43,11 +44,8 @@ pub(crate) struct Place<T> {
 impl<T: Tokens> Place<T> {
     /// The next token, if a reply may have it here.
     pub(crate) fn token(&mut self) -> Result<Token, WriteError>
-        ensures token { MatchResult result
-            (λ token. next_token (T.left self.old.tokens) self.old.at
-            ≡ got token (T.left self.new.tokens) self.new.at)
-            (λ e. (e ≡ NoSpelling)
-            × (next_token (T.left self.old.tokens) self.old.at ≡ refused)) }
+        ensures token { GivesRead (λ token. token) (next_token (T.left self.old.tokens) self.old.at)
+            result (T.left self.new.tokens) self.new.at }
     {
         let Some(token) = self.tokens.next_token() else {
             return Err(WriteError::NoSpelling);
@@ -60,11 +58,9 @@ impl<T: Tokens> Place<T> {
 
     /// The next bytes of the text.
     pub(crate) fn bytes<'a>(&mut self, text: &'a [u8], size: usize) -> Result<&'a [u8], WriteError>
-        ensures bytes { MatchResult result
-            (λ bytes. next_bytes text.now size (T.left self.old.tokens) self.old.at
-            ≡ got bytes.now (T.left self.new.tokens) self.new.at)
-            (λ e. (e ≡ NoSpelling)
-            × (next_bytes text.now size (T.left self.old.tokens) self.old.at ≡ refused)) }
+        ensures bytes { GivesRead (λ bytes. bytes.now)
+            (next_bytes text.now size (T.left self.old.tokens) self.old.at) result
+            (T.left self.new.tokens) self.new.at }
     {
         let Some(end) = self.at.checked_add(size) else {
             return Err(WriteError::NoSpelling);
@@ -78,11 +74,10 @@ impl<T: Tokens> Place<T> {
 
     /// The name of a push's kind, a bulk string.
     pub(crate) fn name<'a>(&mut self, text: &'a [u8]) -> Result<&'a str, WriteError>
-        ensures name { MatchResult result
-            (λ name. (is_utf8 name.now ≡ true) × (next_kind text.now (T.left self.old.tokens) self.old.at
-            ≡ got (kind_named name.now) (T.left self.new.tokens) self.new.at))
-            (λ e. (e ≡ NoSpelling)
-            × (next_kind text.now (T.left self.old.tokens) self.old.at ≡ refused)) }
+        ensures name { GivesRead (λ name. kind_named name.now)
+            (next_kind text.now (T.left self.old.tokens) self.old.at) result
+            (T.left self.new.tokens) self.new.at }
+        ensures text { IfOk result (λ name. is_utf8 name.now ≡ true) }
     {
         let token = self.token()?;
         if token.kind != TokenKind::BulkString {

@@ -113,12 +113,12 @@ write_push-returns-in_err-name t g c =
 pub write_push-returns-in_err-write_push_head : goal.write_push-returns-in_err-write_push_head
 write_push-returns-in_err-write_push_head t g c =
     let left = t.T.Tokens.left in
-    let name = c.in_ok-name.ensures.name in
+    let name = c.in_ok-name.ensures in
     let us = left c.name.new.self.tokens in
     let from = c.name.new.self.at in
     reads_as c.from_residual-in_err-write_push_head.result _ _ _ _ us from
     (push_read c.args.self.now.sent c.args.levels c.args.self.now.text.now c.args.payload _
-    (left c.args.place.now.tokens) us c.args.place.now.at from name.0 name.1)
+    (left c.args.place.now.tokens) us c.args.place.now.at from name.text name.name)
     (text_exit c.from_residual-in_err-write_push_head.result c.in_err-write_push_head.field-0.0 _ _ _ _ us us from
     from
     c.from_residual-in_err-write_push_head.ensures.1 c.in_err-write_push_head.ensures)
@@ -126,12 +126,12 @@ write_push-returns-in_err-write_push_head t g c =
 pub write_push-returns : goal.write_push-returns
 write_push-returns t g c =
     let left = t.T.Tokens.left in
-    let name = c.in_ok-name.ensures.name in
+    let name = c.in_ok-name.ensures in
     let us = left c.name.new.self.tokens in
     let from = c.name.new.self.at in
     reads_as c.write_values.result _ _ _ _ _ _
     (push_read c.args.self.now.sent c.args.levels c.args.self.now.text.now c.args.payload _
-    (left c.args.place.now.tokens) us c.args.place.now.at from name.0 name.1)
+    (left c.args.place.now.tokens) us c.args.place.now.at from name.text name.name)
     (text_then c.write_values.result _ _ _ _ _ us _ from _ c.in_ok-write_push_head.ensures c.write_values.ensures)
 
 pub write_token-returns-in-Nil : goal.write_token-returns-in-Nil
