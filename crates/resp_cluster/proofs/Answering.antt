@@ -1,5 +1,5 @@
 -- Packed commands over a cluster's links are a call of a connection that routes.
-use Rattle.std.proofs.Common.{◌≡◌, ◌≢◌, ℕ, ◌+◌, false, List, [], ◌∷◌, ◌++◌, drop, length, All, IfOk, Some, Result, Ok, Err}
+use Rattle.std.proofs.Common.{◌≡◌, ◌≢◌, ℕ, ◌+◌, true, false, List, [], ◌∷◌, ◌++◌, drop, length, All, IfOk, Some, Result, Ok, Err}
 use Rattle.std.proofs.Common.{refl, sym, ap, subst, ◌∙◌, arith, append-nil, option_map}
 use Rattle.std.specs.Prelude.{slice_index_or}
 use Rattle.std.specs.Global.{Vec}
@@ -11,6 +11,7 @@ use Rattle.resp_command.specs.Connection.{Connection, Exchange, routes}
 use Rattle.resp_command.specs.Packed.{packed}
 use Rattle.resp_command.specs.Parted.{Parted, multi_bytes}
 use Rattle.resp_command.specs.Subscriptions.{IsUnanswered}
+use Rattle.resp_command.proofs.OtherKinds.{exchange}
 use Rattle.resp_command.proofs.Queries.{exchange_ok, parted_turned}
 use Rattle.resp_cluster.specs.Cluster.{Cluster, last_link}
 use Rattle.resp_cluster.specs.Gathered.{request_of}
@@ -20,7 +21,6 @@ use Rattle.resp_cluster.specs.Spread.{SendsGroup, SpreadCall, called, unreached}
 use Rattle.resp_cluster.specs.declared.node.NodeAddr.{NodeAddr}
 use Rattle.resp_cluster.proofs.OverLinks.{policy_is, reached_works, refused_call, routed, set_there}
 use Rattle.resp_cluster.proofs.Parts.{OneReply, answer_of_reply, as_many, parts}
-use Rattle.resp_cluster.proofs.RoutedCalls.{exchange}
 
 -- the one command of a list
 pub alone : {A : Type 0} (xs : List A) (d : A) → length xs ≡ 1 → xs ≡ slice_index_or xs 0 d ∷ []
@@ -36,7 +36,7 @@ module _ {L : Type 0} (of_link : L → Connection) (unrouted : (link : L) → (o
   over_last before after q n replies new works is_last h =
       by_one (routing before) works (subst (λ link. Exchange (routing before) (routing_over of_link link) q n (Ok replies)
       (λ given. given ≡ replies)) (sym is_last)
-      (exchange before (of_link after) q n (Ok replies) (λ given. given ≡ replies) h))
+      (exchange (λ _. true) routes before (of_link after) q n (Ok replies) (λ given. given ≡ replies) h))
 
   by_group : (q : List ℕ) (n : ℕ) (replies : Vec Value) (ready sent new : Cluster L) (node : NodeAddr)
       → new.links ≡ sent.links → SendsGroup of_link ready sent node q n (Ok replies) → RepliedTo of_link q n replies.items new

@@ -11,6 +11,7 @@ pub mod Gathers
 pub mod InGroups
 pub mod Joining
 pub mod Linking
+pub mod LinkNames
 pub mod Merging
 pub mod MorePrimaries
 pub mod Moves
@@ -19,7 +20,6 @@ pub mod Parting
 pub mod Parts
 pub mod RedirectTexts
 pub mod Rounds
-pub mod RoutedCalls
 pub mod SoFar
 pub mod Splitting
 pub mod Spreading

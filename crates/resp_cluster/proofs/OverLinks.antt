@@ -1,5 +1,5 @@
 -- A command over a cluster's links is a call of a connection that routes.
-use Rattle.std.proofs.Common.{◌≡◌, ◌≢◌, ℕ, Bool, false, List, [], ◌∷◌, ◌++◌, Option, None, Some, Result, Ok, Err}
+use Rattle.std.proofs.Common.{◌≡◌, ◌≢◌, ℕ, Bool, true, false, List, [], ◌∷◌, ◌++◌, Option, None, Some, Result, Ok, Err}
 use Rattle.std.proofs.Common.{refl, sym, ap, subst, ◌∙◌, arith, length, get_or, set, option_map}
 use Rattle.std.specs.List.{slice_get}
 use Rattle.std.proofs.lemmas.Grind.{common_steps}
@@ -14,6 +14,7 @@ use Rattle.resp_command.specs.Connection.{Connection, stays, reconnects, routes}
 use Rattle.resp_command.specs.Packed.{packed}
 use Rattle.resp_command.specs.Parted.{Parted}
 use Rattle.resp_command.specs.Subscriptions.{IsUnanswered}
+use Rattle.resp_command.proofs.OtherKinds.{asks}
 use Rattle.resp_routing.specs.declared.routes.Route.{Route}
 use Rattle.resp_cluster.specs.Cluster as over
 use Rattle.resp_cluster.specs.Cluster.{Cluster, Round, Rounds, RoutedCall, OnceMore, answer_of, last_link}
@@ -25,7 +26,6 @@ use Rattle.resp_cluster.specs.declared.links.NodeLink.{NodeLink}
 use Rattle.resp_cluster.specs.declared.links.Sent.{Sent}
 use Rattle.resp_cluster.specs.declared.links.Sent.TheVariants.{Unreached, Answered}
 use Rattle.resp_cluster.specs.declared.node.NodeAddr.{NodeAddr}
-use Rattle.resp_cluster.proofs.RoutedCalls.{asks}
 use Rattle.resp_cluster.proofs.Told.{told_works}
 
 -- ---- places
@@ -172,7 +172,7 @@ module _ {L : Type 0} (of_link : L → Connection) where
         let h = by_routed of_link unrouted c v old new call in
         carried (routing h.before) h.works (subst (λ link. Asks (routing h.before) (routing_over of_link link) (c.args ≡ [])
         (IsUnanswered c) (packed c.args) (needed c) (answer of_link unrouted c v) (answers of_link unrouted c v)) (sym h.is_last)
-        (asks h.before (of_link h.after) (packed c.args) (needed c) (answer of_link unrouted c v) (answers of_link unrouted c v) (c.args ≡ [])
+        (asks (λ _. true) routes h.before (of_link h.after) (packed c.args) (needed c) (answer of_link unrouted c v) (answers of_link unrouted c v) (c.args ≡ [])
         (IsUnanswered c) h.asks))
 
     pub routed_call : (r : Result Value RedisError) → RoutedCall of_link c old new r

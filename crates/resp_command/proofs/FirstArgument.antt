@@ -24,7 +24,7 @@ shorter [] (y ∷ ys) l = refl
 shorter (x ∷ xs) [] l = absurd (omega arith)
 shorter (x ∷ xs) (y ∷ ys) l = none_after (nat_eq x y) (shorter xs ys (omega arith))
 
-of_few : (name text : List ℕ) → length name < length text → str_eq_ignore_ascii_case name text ≡ false
+pub of_few : (name text : List ℕ) → length name < length text → str_eq_ignore_ascii_case name text ≡ false
 of_few name text l =
     let n : length (str_to_ascii_lowercase name) ≡ length name = length-map name to_ascii_lowercase in
     let t : length (str_to_ascii_lowercase text) ≡ length text = length-map text to_ascii_lowercase in

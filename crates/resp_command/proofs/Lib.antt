@@ -8,6 +8,7 @@ pub mod LastPieces
 pub mod LongerFrame
 pub mod Nexts
 pub mod OneTaking
+pub mod OtherKinds
 pub mod PackedPieces
 pub mod PackedReadsBack
 pub mod PageReading

@@ -1,21 +1,25 @@
--- What is said of a call over a link holds of it as a connection that routes.
-use Rattle.std.proofs.Common.{◌≡◌, ◌⊎◌, ℕ, List, Result, refl, ap, inl, inr}
+-- What an exchange over a connection leaves holds, too, of the connection as another kind: one that takes several
+-- commands at a time or not, and of another policy.
+use Rattle.std.proofs.Common.{◌≡◌, ◌⊎◌, ℕ, Bool, List, Result, refl, ap, inl, inr}
 use Rattle.resp_value.specs.declared.value.Value.{Value}
 use Rattle.resp_errors.specs.declared.redis_error.RedisError.{RedisError}
 use Rattle.resp_command.specs.Call.{Asks}
 use Rattle.resp_command.specs.Connection as connection
-use Rattle.resp_command.specs.Connection.{Connection, SameKind, Bytes, NoFailure, SetsAside, Exchange, ExchangeOf}
-use Rattle.resp_command.specs.Connection.{RanOutOfMemory, BrokenMidway}
+use Rattle.resp_command.specs.Connection.{Connection, LinkPolicy, SameKind, Bytes, NoFailure, SetsAside, Exchange}
+use Rattle.resp_command.specs.Connection.{ExchangeOf, RanOutOfMemory, BrokenMidway}
 use Rattle.resp_command.specs.Taken.{Aside, no_pushes}
-use Rattle.resp_cluster.specs.Routing.{routing}
 
-module _ {A : Type 0} (old new : Connection) (q : List ℕ) (n : ℕ) (r : Result A RedisError)
-    (answers : List Value → Type 0) where
+-- a connection as it is, but for its policy, and for whether it takes several commands at a time
+abbrev pub of_kind : (Bool → Bool) → LinkPolicy → Connection → Connection
+of_kind several policy c = record c { pipelines = several c.pipelines; policy = policy }
+
+module _ {A : Type 0} (several : Bool → Bool) (policy : LinkPolicy) (old new : Connection) (q : List ℕ) (n : ℕ)
+    (r : Result A RedisError) (answers : List Value → Type 0) where
   abbrev old' : Connection
-  old' = routing old
+  old' = of_kind several policy old
 
   abbrev new' : Connection
-  new' = routing new
+  new' = of_kind several policy new
 
   no_failure : NoFailure old new → NoFailure old' new'
   no_failure h = record { source = h.source; sink = h.sink }
@@ -41,7 +45,7 @@ module _ {A : Type 0} (old new : Connection) (q : List ℕ) (n : ℕ) (r : Resul
   }
     where
       by_left : ((new ≡ old) ⊎ BrokenMidway bytes old new q) → ((new' ≡ old') ⊎ BrokenMidway bytes old' new' q)
-      by_left (inl same) = inl (ap routing same)
+      by_left (inl same) = inl (ap (of_kind several policy) same)
       by_left (inr broken) = inr (midway bytes broken)
 
   exchange_of : (bytes : Bytes) → ExchangeOf bytes old new q n r answers → ExchangeOf bytes old' new' q n r answers
@@ -107,7 +111,7 @@ module _ {A : Type 0} (old new : Connection) (q : List ℕ) (n : ℕ) (r : Resul
   pub exchange : Exchange old new q n r answers → Exchange old' new' q n r answers
   exchange h = record {
     same = record {
-      pipelines = refl;
+      pipelines = ap several h.same.pipelines;
       policy = refl;
       limits = h.same.limits;
       read_size = h.same.read_size;
@@ -122,10 +126,13 @@ module _ {A : Type 0} (old new : Connection) (q : List ℕ) (n : ℕ) (r : Resul
   pub asks : (IsEmpty IsUnanswered : Type 0) → Asks old new IsEmpty IsUnanswered q n r answers
       → Asks old' new' IsEmpty IsUnanswered q n r answers
   asks IsEmpty IsUnanswered h = record {
-    when_empty = λ none. record { answer = (h.when_empty none).answer; same = ap routing (h.when_empty none).same };
+    when_empty = λ none. record {
+      answer = (h.when_empty none).answer;
+      same = ap (of_kind several policy) (h.when_empty none).same;
+    };
     when_unanswered = λ none. record {
       answer = (h.when_unanswered none).answer;
-      same = ap routing (h.when_unanswered none).same;
+      same = ap (of_kind several policy) (h.when_unanswered none).same;
     };
     otherwise = λ some answered. exchange (h.otherwise some answered);
   }
