@@ -120,6 +120,13 @@ fn lists_and_refusals_of_replies(rt: HostRuntime) {
 }
 
 #[test]
+fn pairs_of_borrowed_replies(rt: HostRuntime) {
+    let values = [Value::Int(1), Value::Int(2)];
+    let pairs = <(i64, i64)>::from_redis_value_refs(rt.alloc(), values.as_slice());
+    assert_eq!(rt; pairs.expect(&rt, "pairs").as_slice(), [(1, 2)].as_slice());
+}
+
+#[test]
 fn laws_can_be_called() {
     law_of_completion();
     law_of_equal_errors();
