@@ -1,6 +1,6 @@
 //! Commands about hashes.
 
-ghost use Rattle.std.specs.Prelude.{◌≡◌, ◌-◌, IfOk, OnOk, MatchResult, map, length};
+ghost use Rattle.std.specs.Prelude.{◌≡◌, ◌-◌, IfErr, IfOk, OnErr, OnOk, map, length};
 ghost use Rattle.std.specs.BTreeMap.{IsUnchanged};
 ghost use Rattle.example_server.specs.KeyCommands.{GetsAll, SetsFields, PutsFields, KeepsOtherKeys};
 ghost use Rattle.example_server.specs.KeyCommands.{held, content_of, fields_in, with_fields, shown};
@@ -31,11 +31,11 @@ pub fn hset(
 
 /// Takes the fields out of the hash that a key holds; there are none where nothing is held.
 fn take_fields(alloc: Global, store: &mut Store, key: &Vec<u8>) -> Result<Fields, Refusal>
-    ensures { MatchResult result
-        (λ fields. (fields_in (content_of (held store.old key.now)) ≡ Ok fields.entries)
-        × KeepsOtherKeys store.old store.new key.now)
-        (λ why. (fields_in (content_of (held store.old key.now)) ≡ Err why)
-        × IsUnchanged store.old store.new) }
+    ensures fields { IfOk result (λ fields. fields_in (content_of (held store.old key.now))
+        ≡ Ok fields.entries) }
+    ensures others { IfOk result (λ _. KeepsOtherKeys store.old store.new key.now) }
+    ensures refused { IfErr result (λ why. fields_in (content_of (held store.old key.now)) ≡ Err why) }
+    ensures unchanged { OnErr result (IsUnchanged store.old store.new) }
 {
     match content_of(store.get(key)) {
         Some(Content::Text(_)) => Err(Refusal::WrongType),
