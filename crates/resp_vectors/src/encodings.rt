@@ -3,7 +3,8 @@
 use crate::rows::{Row, malformed};
 use crate::texts::{add_part, debug_text, quoted};
 use resp_core::{
-    ErrorKind, FlatReply, Parser, ProtocolVersion, RedisResult, Value, parse_redis_value,
+    ErrorKind, FlatReply, Parser, ProtocolVersion, RedisError, RedisResult, Value,
+    parse_redis_value,
 };
 use resp_encode::{as_resp2, encode, encode_reply};
 use std::alloc::Global;
@@ -32,18 +33,43 @@ fn encoded(alloc: Global, value: &Value, protocol: ProtocolVersion) -> RedisResu
     quoted(alloc, bytes_of(alloc, value, protocol)?.as_slice())
 }
 
-/// The bytes of a value, or those of its flat reply where these are others.
+/// The bytes of a value; refused where its flat reply is sent otherwise.
 fn bytes_of(alloc: Global, value: &Value, protocol: ProtocolVersion) -> RedisResult<Vec<u8>> {
+    let flat = bytes_of_flat(alloc, value, protocol).ok();
+    if_same(bytes_of_tree(alloc, value, protocol), &flat)
+}
+
+fn bytes_of_tree(alloc: Global, value: &Value, protocol: ProtocolVersion) -> RedisResult<Vec<u8>> {
     let mut out = Vec::new(alloc);
-    let answer = encode(value, protocol, &mut out);
+    encode(value, protocol, &mut out)?;
+    Ok(out)
+}
+
+fn bytes_of_flat(alloc: Global, value: &Value, protocol: ProtocolVersion) -> RedisResult<Vec<u8>> {
     let mut flat = FlatReply::new(alloc);
     flat.append(value)?;
-    let mut flat_out = Vec::new(alloc);
-    encode_reply(&flat, protocol, &mut flat_out)?;
-    if answer.is_ok() && flat_out.as_slice() == out.as_slice() {
-        return Ok(out);
+    let mut out = Vec::new(alloc);
+    encode_reply(&flat, protocol, &mut out)?;
+    Ok(out)
+}
+
+/// The bytes of a value, or its refusal, if its flat reply has the same or is refused, too.
+fn if_same(tree: RedisResult<Vec<u8>>, flat: &Option<Vec<u8>>) -> RedisResult<Vec<u8>> {
+    if are_same(&tree, flat) {
+        return tree;
     }
-    Ok(flat_out)
+    Err(RedisError::from((
+        ErrorKind::UnexpectedReturnType,
+        "the flat reply is sent otherwise",
+    )))
+}
+
+fn are_same(tree: &RedisResult<Vec<u8>>, flat: &Option<Vec<u8>>) -> bool {
+    match (tree, flat) {
+        (Ok(bytes), Some(others)) => bytes.as_slice() == others.as_slice(),
+        (Err(_), None) => true,
+        _ => false,
+    }
 }
 
 /// What the values show that the bytes begin with, where each is the same when it is written and
@@ -85,11 +111,16 @@ fn written_otherwise(alloc: Global, value: &Value) -> RedisResult<Option<String>
 
 /// The text, where it isn't what the value's form shows.
 fn other_than_form(alloc: Global, value: &Value, again: String) -> RedisResult<Option<String>> {
-    let form = debug_text(alloc, &as_resp2(alloc, value)?)?;
-    if again.as_str() == form.as_str() {
+    if is_form(alloc, value, again.as_str())? {
         return Ok(None);
     }
     Ok(Some(again))
+}
+
+/// Whether the text is what the value's form shows.
+fn is_form(alloc: Global, value: &Value, text: &str) -> RedisResult<bool> {
+    let form = as_resp2(alloc, value)?;
+    Ok(debug_text(alloc, &form)?.as_str() == text)
 }
 
 /// What a value shows that was written and is read again.

@@ -34,9 +34,16 @@ fn reply_of(alloc: Global, row: &Row) -> RedisResult<Value> {
 
 /// What is known of a server's error.
 fn known_of(alloc: Global, error: &RedisError) -> RedisResult<String> {
-    let display = format!(in alloc; "{error}")?;
-    let redirect = error.redirect_node();
     let mut text = format!(in alloc; "kind: {:?}; code: {:?}", error.kind(), error.code())?;
+    add_known(&mut text, error)?;
+    let display = format!(in alloc; "{error}")?;
+    write!(text, "; display: {display:?}")?;
+    Ok(text)
+}
+
+/// Appends what its functions answer.
+fn add_known(text: &mut String, error: &RedisError) -> RedisResult<()> {
+    let redirect = error.redirect_node();
     write!(text, "; detail: {:?}", error.detail())?;
     write!(text, "; category: {:?}", error.category())?;
     write!(
@@ -46,8 +53,7 @@ fn known_of(alloc: Global, error: &RedisError) -> RedisResult<String> {
     )?;
     write!(text, "; cluster: {}", error.is_cluster_error())?;
     write!(text, " unrecoverable: {}", error.is_unrecoverable_error())?;
-    write!(text, "; display: {display:?}")?;
-    Ok(text)
+    Ok(())
 }
 
 /// The kinds of errors that a server answers.

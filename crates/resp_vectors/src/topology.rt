@@ -6,7 +6,7 @@ use resp_cluster::{
     NodeAddr, PortKind, Redirect, RouteError, SendCommand, SlotMap, SlotRange, TopologyError,
     redirect_of, route,
 };
-use resp_core::{Cmd, RedisError, RedisResult, Text, parse_redis_value};
+use resp_core::{Cmd, RedisError, RedisResult, Text, Value, parse_redis_value};
 use std::alloc::{AllocError, Global};
 
 /// `slots-map HOST < BYTES`
@@ -14,11 +14,15 @@ pub fn of_slots(alloc: Global, row: &Row) -> RedisResult<String> {
     match row.question()? {
         ([host], incoming) => {
             let asked = text_of(host.as_slice())?;
-            let reply = parse_redis_value(alloc, incoming)?;
-            described(alloc, SlotMap::from_slots_reply(alloc, &reply, asked))
+            slots_in(alloc, &parse_redis_value(alloc, incoming)?, asked)
         }
         _ => Err(malformed()),
     }
+}
+
+/// The ranges of the map that a reply gives.
+fn slots_in(alloc: Global, reply: &Value, asked: &str) -> RedisResult<String> {
+    described(alloc, SlotMap::from_slots_reply(alloc, reply, asked))
 }
 
 /// `shards-map HOST PORT-KIND < BYTES`
@@ -27,14 +31,15 @@ pub fn of_shards(alloc: Global, row: &Row) -> RedisResult<String> {
         ([host, kind], incoming) => {
             let asked = text_of(host.as_slice())?;
             let kind = port_kind(text_of(kind.as_slice())?)?;
-            let reply = parse_redis_value(alloc, incoming)?;
-            described(
-                alloc,
-                SlotMap::from_shards_reply(alloc, &reply, asked, &kind),
-            )
+            shards_in(alloc, &parse_redis_value(alloc, incoming)?, asked, &kind)
         }
         _ => Err(malformed()),
     }
+}
+
+/// The ranges of the map that a reply gives, with ports of this kind.
+fn shards_in(alloc: Global, reply: &Value, asked: &str, kind: &PortKind) -> RedisResult<String> {
+    described(alloc, SlotMap::from_shards_reply(alloc, reply, asked, kind))
 }
 
 fn port_kind(name: &str) -> RedisResult<PortKind> {
@@ -102,8 +107,11 @@ fn add_primary(alloc: Global, text: &mut String, map: &SlotMap, slot: u16) -> Re
 }
 
 fn map_of(alloc: Global, host: &[u8], incoming: &[u8]) -> RedisResult<SlotMap> {
-    let reply = parse_redis_value(alloc, incoming)?;
-    SlotMap::from_slots_reply(alloc, &reply, text_of(host)?).map_err(|_| malformed())
+    map_in(alloc, &parse_redis_value(alloc, incoming)?, text_of(host)?)
+}
+
+fn map_in(alloc: Global, reply: &Value, asked: &str) -> RedisResult<SlotMap> {
+    SlotMap::from_slots_reply(alloc, reply, asked).map_err(|_| malformed())
 }
 
 fn slot_number(word: &[u8]) -> RedisResult<u16> {
@@ -234,12 +242,15 @@ pub fn redirect(alloc: Global, row: &Row) -> RedisResult<String> {
     match row.question()? {
         ([host], incoming) => {
             let host = text_of(host.as_slice())?;
-            let reply = parse_redis_value(alloc, incoming)?;
-            let redirect = redirect_of(alloc, &reply, host)?;
-            where_to(alloc, &redirect)
+            redirect_in(alloc, &parse_redis_value(alloc, incoming)?, host)
         }
         _ => Err(malformed()),
     }
+}
+
+/// Where a reply sends its command.
+fn redirect_in(alloc: Global, reply: &Value, host: &str) -> RedisResult<String> {
+    where_to(alloc, &redirect_of(alloc, reply, host)?)
 }
 
 /// Where a redirect sends its command.
