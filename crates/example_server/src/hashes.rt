@@ -34,7 +34,8 @@ fn take_fields(alloc: Global, store: &mut Store, key: &Vec<u8>) -> Result<Fields
     ensures fields { IfOk result (λ fields. fields_in (content_of (held store.old key.now))
         ≡ Ok fields.entries) }
     ensures others { IfOk result (λ _. KeepsOtherKeys store.old store.new key.now) }
-    ensures refused { IfErr result (λ why. fields_in (content_of (held store.old key.now)) ≡ Err why) }
+    ensures refused { IfErr result (λ why. fields_in (content_of (held store.old key.now))
+        ≡ Err why) }
     ensures unchanged { OnErr result (IsUnchanged store.old store.new) }
 {
     match content_of(store.get(key)) {

@@ -1,7 +1,8 @@
 //! The words of an inline command.
 
 ghost use Rattle.std.specs.Prelude.{◌≡◌, ◌<◌, length, IfOk, IfSome};
-ghost use Rattle.example_server.specs.Inline.{bare, closing, ends_word, escape, escaped, hex_digit, hex_escape};
+ghost use Rattle.example_server.specs.Inline.{bare, closing, ends_word, escape, escaped, hex_digit};
+ghost use Rattle.example_server.specs.Inline.{hex_escape};
 ghost use Rattle.example_server.specs.declared.inline.Place.TheVariants as place;
 ghost use Rattle.example_server.specs.Inline.{after, at_end, is_space, piece_at, single, words_in};
 ghost use Rattle.std.specs.Option.{option_map};

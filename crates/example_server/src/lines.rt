@@ -1,7 +1,9 @@
 //! Lines, and what the headers of requests announce.
 
 ghost use Rattle.std.specs.Prelude.{◌≡◌, ◌≤◌, ◌<◌, ◌+◌, drop, length, IfSome, position};
-ghost use Rattle.example_server.specs.Lines.{HasBulkString, HasHeader, array_of, bulk_string_of, count_in, end_at, header_text, is_end, largest, line_of};
+ghost use Rattle.example_server.specs.Lines.{HasBulkString, HasHeader, array_of, bulk_string_of};
+ghost use Rattle.example_server.specs.Lines.{count_in, end_at, header_text, is_end, largest};
+ghost use Rattle.example_server.specs.Lines.{line_of};
 ghost use Rattle.example_server.specs.Lines.{size_in, sized_bulk_string};
 
 use crate::integers::integer_of;

@@ -1,7 +1,8 @@
 //! Requests, out of the bytes that a client sends.
 
 ghost use Rattle.std.specs.Prelude.{◌≡◌, ◌++◌, [], ◌<◌, IfOk, OnOk, OnErr, drop};
-ghost use Rattle.example_server.specs.Requests.{IsArray, IsInline, Takes, ahead, between, in_array, pending};
+ghost use Rattle.example_server.specs.Requests.{IsArray, IsInline, Takes, ahead, between, in_array};
+ghost use Rattle.example_server.specs.Requests.{pending};
 
 use crate::inline::words;
 use crate::lines::{Array, BulkString, Line, array_header, bulk_string, first_line, rest};
