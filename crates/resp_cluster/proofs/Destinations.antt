@@ -1,6 +1,6 @@
 -- Where a command goes, and where the first primary is.
 use Rattle.std.proofs.Common.{◌≡◌, ◌≢◌, ℕ, ◌+◌, ◌<◌, List, ◌∷◌, length, drop, get_or, Option, None, Some}
-use Rattle.std.proofs.Common.{refl, sym, ap, subst, ◌∙◌, Bool, true, false, Result, Ok, Err, MatchResult, IfErr, IfOk}
+use Rattle.std.proofs.Common.{refl, sym, ap, subst, ◌∙◌, Bool, true, false, Result, Ok, Err, IfErr, IfOk}
 use Rattle.std.proofs.lemmas.List.{drop_more}
 use Rattle.resp_args.specs.Args.{Args}
 use Rattle.resp_errors.specs.declared.redis_error.RedisError.{RedisError}
@@ -11,8 +11,9 @@ use Rattle.resp_routing.specs.Routes.{HasNoRoute, IsRoute}
 use Rattle.resp_routing.specs.declared.errors.RoutingError.{RoutingError}
 use Rattle.resp_routing.specs.declared.errors.RoutingError.TheVariants as refused
 use Rattle.resp_cluster.specs.Cluster.{CannotGo, is_to_one, several, unrouted, several_nodes, routed_args, first_primary, first_node, has_failed, only_reads}
-use Rattle.resp_cluster.specs.Cluster.{node_at}
+use Rattle.resp_cluster.specs.Cluster.{error_of, node_at}
 use Rattle.resp_cluster.specs.Maps.{primary_at}
+use Rattle.resp_cluster.specs.declared.one_node.Refusal.{Refusal}
 use Rattle.resp_cluster.specs.declared.read_from.ReadFrom.TheVariants.{Primary}
 use Rattle.resp_cluster.specs.Cluster.{Cluster, EndsWith, Round, followed, cut_short, AsksPrimaries, Refreshes, learnt, kept}
 use Rattle.resp_cluster.specs.Links.{Links, SendsTo, SentRedirects}
@@ -81,13 +82,12 @@ module _ {L : Type 0} (of_link : L → Connection) (c : Command) (route : Route)
   round_ends (Err OutOfMemory) failed ends f i = absurd i
   round_ends (Err (Unfollowed last)) failed ends f i = rw (ends.1) (round_cut_short (rw (← ends.0) at i))
 
--- a route that may be to one node
-module _ (c : Command) (args : Args) (shown : args ≡ routed_args c) (route : Route) (goes : IsRoute args route) where
-  pub one_only : (r : Result Route RedisError)
-      → MatchResult r (λ x. (x ≡ route) × (is_to_one x ≡ true)) (λ e. (is_to_one route ≡ false) × (e ≡ several_nodes))
-      → IfErr r (λ e. e ≢ form.OutOfMemory → CannotGo c e)
-  one_only (Ok x) h = tt
-  one_only (Err e) h = λ differ. several_then c args shown e route goes h.0 h.1
+-- a caller is answered why a command goes nowhere, as far as there is memory
+pub refused_then : (c : Command) (why : Refusal) (e : RedisError)
+    → (error_of why ≢ form.OutOfMemory → CannotGo c (error_of why)) → (e ≢ form.OutOfMemory → e ≡ error_of why)
+    → e ≢ form.OutOfMemory → CannotGo c e
+refused_then c why e cannot given differ =
+    let is = given differ in subst (CannotGo c) (sym is) (cannot (λ same. differ (is ∙ same)))
 
 -- the map was asked for from these parts of a cluster
 module _ {L : Type 0} (of_link : L → Connection) (links : Links L) (map : List SlotRange)

@@ -11,7 +11,6 @@ pub mod Gathers
 pub mod InGroups
 pub mod Joining
 pub mod Linking
-pub mod LinkNames
 pub mod Merging
 pub mod MorePrimaries
 pub mod Moves

@@ -24,6 +24,8 @@ use Rattle.resp_cluster.specs.Maps.{primary_at, reader_at}
 use Rattle.resp_cluster.specs.Primaries.{ArePrimaries, AreSome, IsPrimaryIn}
 use Rattle.resp_cluster.specs.Replies.{map_in}
 use Rattle.resp_cluster.specs.Routed.{Followed, Interrupted, StoppedShort, WentOn}
+use Rattle.resp_cluster.specs.declared.one_node.Refusal.{Refusal}
+use Rattle.resp_cluster.specs.declared.one_node.Refusal.TheVariants.{Empty, Unanswered, OfLink, Several, Unrouted}
 use Rattle.resp_cluster.specs.declared.map_source.MapError.{MapError}
 use Rattle.resp_cluster.specs.declared.map_source.MapError.TheVariants as wrong
 use Rattle.resp_cluster.specs.declared.read_from.ReadFrom.{ReadFrom}
@@ -103,6 +105,14 @@ pub data CannotGo (c : Command) (e : RedisError) : Type 0 where
   several : (route : Route) → IsRoute (routed_args c) route → is_to_one route ≡ false → e ≡ several_nodes
       → CannotGo c e
   unrouted : (why : RoutingError) → HasNoRoute (routed_args c) why → e ≡ redis_error_of why → CannotGo c e
+
+-- what a caller is answered where a command goes nowhere
+abbrev pub error_of : Refusal → RedisError
+error_of Empty = no_command
+error_of Unanswered = no_reply
+error_of OfLink = of_link
+error_of Several = several_nodes
+error_of (Unrouted why) = redis_error_of why
 
 -- the first primary of a map
 abbrev pub first_primary : List SlotRange → Option NodeAddr

@@ -31,14 +31,10 @@ is_of_sessions name =
     || str_eq_ignore_ascii_case name (codes "RESET")
     || str_eq_ignore_ascii_case name (codes "SELECT")
 
--- such a name, in letters of either case
-abbrev pub is_link_name : List ℕ → Bool
-is_link_name name = is_of_transactions name || is_of_modes name || is_of_sessions name
-
--- the first argument is one
+-- the first argument is such a name, in letters of either case
 abbrev pub is_link_command : Args → Bool
 is_link_command [] = false
-is_link_command (name ∷ args) = is_link_name name
+is_link_command (name ∷ args) = is_of_transactions name || is_of_modes name || is_of_sessions name
 
 -- a command of this name, in letters of either case, without arguments
 abbrev pub is_alone : List ℕ → Args → Bool

@@ -1,15 +1,12 @@
 //! A cluster's links, and one command over them.
 
-ghost use Rattle.std.specs.Prelude.{◌≡◌, ◌≢◌, true, false, IfOk, IfErr, IfSome, MatchResult};
+ghost use Rattle.std.specs.Prelude.{◌≡◌, false, IfOk, IfErr, IfSome};
 ghost use Rattle.std.specs.Option.{option_copied};
-ghost use Rattle.resp_errors.specs.declared.redis_error.RedisError.TheVariants as form;
-ghost use Rattle.resp_cluster.specs.Cluster.{CannotGo, Goes, any_node, first_node, first_primary};
-ghost use Rattle.resp_cluster.specs.Cluster.{has_failed, is_to_one, last_link, new_cluster, no_node};
-ghost use Rattle.resp_cluster.specs.Cluster.{node_at, only_reads};
-ghost use Rattle.resp_cluster.specs.Cluster.{several_nodes, EndsWith, IsFirstPlace, Round, RoundOn};
+ghost use Rattle.resp_cluster.specs.Cluster.{any_node, first_node, first_primary, has_failed};
+ghost use Rattle.resp_cluster.specs.Cluster.{last_link, new_cluster, no_node, node_at, only_reads};
+ghost use Rattle.resp_cluster.specs.Cluster.{EndsWith, IsFirstPlace, Round, RoundOn, RoutedCall};
 ghost use Rattle.resp_cluster.specs.Cluster.{answer_of, reached, CannotOpen, OnceMore, Opens, Readies};
 ghost use Rattle.resp_cluster.specs.Cluster.{IsReached, ReachesOne, Refreshes, Rounds, RoundsOn};
-ghost use Rattle.resp_cluster.specs.Cluster.{RoutedCall};
 ghost use Rattle.resp_cluster.specs.Links.{IsLastNode, SentRedirects};
 ghost use Rattle.resp_cluster.specs.Routed.{IsUnfollowed};
 
@@ -17,16 +14,16 @@ mod fan_out;
 mod spread;
 mod transaction;
 
-use crate::link_commands::is_link_command;
 use crate::links::{NodeLinks, Nodes, Sent};
 use crate::map_source::MapError;
 use crate::node::NodeAddr;
+use crate::one_node::route_to_one;
 use crate::read_from::{ReadFrom, ReadOnly};
 use crate::redirect::Redirect;
 use crate::router::{RouteError, follow, go_on};
 use crate::slot_map::SlotMap;
 use resp_command::Cmd;
-use resp_routing::{Route, args_of, is_readonly_cmd, route_of_cmd};
+use resp_routing::{Route, args_of, is_readonly_cmd};
 use resp_value::{ErrorKind, RedisError, RedisResult, Value};
 use std::alloc::{AllocError, Global};
 use std::marker::Model;
@@ -74,47 +71,6 @@ impl<N: Nodes> Model for ClusterLink<N> {
     } };
 }
 
-/// Where a command goes, if to one node.
-#[inline(always)]
-fn route_for(alloc: Global, command: &Cmd) -> RedisResult<Route>
-    ensures goes { IfOk result (Goes command.now) }
-    ensures refused { IfErr result (λ e. e ≢ form.OutOfMemory → CannotGo command.now e) }
-{
-    if command.is_empty() {
-        return Err(RedisError::from((ErrorKind::Client, "empty command")));
-    }
-    if command.is_unanswered() {
-        return Err(RedisError::from((
-            ErrorKind::Client,
-            "a subscription has no reply: set_no_response, then next_push",
-        )));
-    }
-    if is_link_command(command) {
-        return Err(RedisError::from((
-            ErrorKind::Client,
-            "the command changes a link: send it over one",
-        )));
-    }
-    match route_of_cmd(alloc, command, b"0") {
-        Ok(route) => only_to_one(route),
-        Err(refusal) => Err(refusal.to_redis_error(alloc)?),
-    }
-}
-
-/// A route, if it is to one node.
-fn only_to_one(route: Route) -> RedisResult<Route>
-    ensures { MatchResult result (λ r. (r ≡ route) × (is_to_one r ≡ true))
-        (λ e. (is_to_one route ≡ false) × (e ≡ several_nodes)) }
-{
-    if is_to_one(&route) {
-        return Ok(route);
-    }
-    Err(RedisError::from((
-        ErrorKind::Client,
-        "the command goes to several nodes: use req_fan_out",
-    )))
-}
-
 fn no_node() -> RedisError
     ensures { result ≡ no_node }
 {
@@ -122,16 +78,6 @@ fn no_node() -> RedisError
         ErrorKind::ClusterConnectionNotFound,
         "the map has no node for the command",
     ))
-}
-
-/// Whether a route is to one node.
-fn is_to_one(route: &Route) -> bool
-    ensures { result ≡ is_to_one route.now }
-{
-    match route {
-        Route::Slot(_) | Route::Keyless(None) => true,
-        Route::Keyless(Some(_)) => false,
-    }
 }
 
 impl SlotMap {
@@ -280,18 +226,27 @@ impl<N: Nodes> ClusterLink<N> {
     }
 
     /// The node that a command is sent to first. Fails only when out of memory.
+    #[inline(always)]
     #[tactic(auto, using(crate::proofs::Destinations::primary_to_all))]
     fn first_node(&self, route: &Route, command: &Cmd) -> Result<Option<&NodeAddr>, AllocError>
         ensures { IfOk result (λ node. option_copied node
             ≡ first_node (only_reads command.now) route.now self.now) }
     {
         match (&self.reads, route) {
-            (ReadFrom::Replica, Route::Slot(slot)) => {
-                let args = args_of(self.alloc, command, b"0")?;
-                Ok(self.node_at(*slot, is_readonly_cmd(args.as_slice())))
-            }
+            (ReadFrom::Replica, Route::Slot(slot)) => self.node_of(*slot, command),
             _ => Ok(self.primary_or_any(route)),
         }
+    }
+
+    /// The node of a command whose slot is this, where reads go to replicas. Fails only when out of
+    /// memory.
+    #[inline(never)]
+    fn node_of(&self, slot: u16, command: &Cmd) -> Result<Option<&NodeAddr>, AllocError>
+        ensures { IfOk result (λ node. option_copied node
+            ≡ node_at (only_reads command.now) ReadFrom.Replica self.now.map slot) }
+    {
+        let args = args_of(self.alloc, command, b"0")?;
+        Ok(self.node_at(slot, is_readonly_cmd(args.as_slice())))
     }
 
     /// The node that serves a slot, where reads go to replicas.
@@ -407,22 +362,23 @@ impl<N: Nodes> ClusterLink<N> {
     pub fn req_routed(&mut self, command: &Cmd) -> RedisResult<Value>
         ensures { RoutedCall N.Link.connection command.now self.old self.new result }
     {
-        let route = route_for(self.alloc, command)?;
+        let route = match route_to_one(self.alloc, command) {
+            Ok(route) => route,
+            Err(why) => return Err(why.to_redis_error(self.alloc)),
+        };
         self.make_ready();
-        self.rounds(&route, command)
+        let Some(place) = self.first_place(&route, command) else {
+            return self.rounds_anew(&route, command);
+        };
+        let answer = self.links.send_at(place, command);
+        if may_redirect(&answer) {
+            return self.rounds_on(&route, command, answer);
+        }
+        self.stale = answer.is_err();
+        answer
     }
 
     /// Sends a command by its route, and once more where the last node wasn't reached.
-    fn rounds(&mut self, route: &Route, command: &Cmd) -> RedisResult<Value>
-        ensures { Rounds N.Link.connection command.now route.now self.old self.new result }
-    {
-        match self.first_place(route, command) {
-            Some(place) => self.rounds_over(place, route, command),
-            None => self.rounds_anew(route, command),
-        }
-    }
-
-    /// The same where the link to the first node may have to be opened.
     #[inline(never)]
     fn rounds_anew(&mut self, route: &Route, command: &Cmd) -> RedisResult<Value>
         ensures { Rounds N.Link.connection command.now route.now self.old self.new result }
@@ -431,20 +387,6 @@ impl<N: Nodes> ClusterLink<N> {
             Some(answer) => answer,
             None => self.once_more(route, command),
         }
-    }
-
-    /// The same where the link to the first node is at this place and works. Unless it is a server's
-    /// error, what it answers is answered at once.
-    fn rounds_over(&mut self, place: usize, route: &Route, command: &Cmd) -> RedisResult<Value>
-        requires { IsFirstPlace N.Link.connection command.now route.now self.old place }
-        ensures { Rounds N.Link.connection command.now route.now self.old self.new result }
-    {
-        let answer = self.links.send_at(place, command);
-        if may_redirect(&answer) {
-            return self.rounds_on(route, command, answer);
-        }
-        self.stale = answer.is_err();
-        answer
     }
 
     /// Has a command go on from what its node answered, and sends it once more where the last node

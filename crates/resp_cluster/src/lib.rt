@@ -10,6 +10,7 @@ mod links;
 mod map_source;
 mod merge;
 mod node;
+mod one_node;
 mod packed_commands;
 mod read_from;
 mod redirect;

@@ -3,8 +3,8 @@
 ghost use Rattle.std.specs.Prelude.{◌≡◌, ◌∷◌, [], IfNone, IfSome};
 ghost use Rattle.resp_command.specs.ShownArgs.{args_left};
 ghost use Rattle.resp_cluster.specs.Cluster.{routed_args};
-ghost use Rattle.resp_cluster.specs.LinkCommands.{is_link_command, is_link_name, is_of_modes};
-ghost use Rattle.resp_cluster.specs.LinkCommands.{as_bytes, is_alone, is_of_sessions, is_of_transactions};
+ghost use Rattle.resp_cluster.specs.LinkCommands.{is_link_command, is_of_modes, is_of_sessions};
+ghost use Rattle.resp_cluster.specs.LinkCommands.{as_bytes, is_alone, is_of_transactions};
 
 use resp_command::{Arg, ArgsIter, Cmd};
 
@@ -14,18 +14,9 @@ pub(crate) fn is_link_command(command: &Cmd) -> bool
 {
     let mut shown = command.args_iter();
     match next_arg(&mut shown) {
-        Some(name) => is_link_name(name),
+        Some(name) => is_of_transactions(name) || is_of_modes(name) || is_of_sessions(name),
         None => false,
     }
-}
-
-/// Whether this is the name of one.
-#[tactic(auto, using(crate::proofs::LinkNames::few))]
-fn is_link_name(name: &[u8]) -> bool
-    ensures { result ≡ is_link_name name.now }
-{
-    // Those that are sent most have fewer bytes than any of these.
-    name.len() >= 4 && (is_of_transactions(name) || is_of_modes(name) || is_of_sessions(name))
 }
 
 /// Whether this is a command of this name, in letters of either case, without arguments.

@@ -10,11 +10,12 @@ ghost use Rattle.resp_cluster.specs.Spread.{HasNoParts, SplitRefused};
 ghost use Rattle.resp_cluster.specs.Spread.{SpreadCall, SpreadQuery, SpreadRefused, awaited};
 ghost use Rattle.resp_cluster.specs.Transactions.{TransactionQuery};
 
-use super::{ClusterLink, answer_of, no_node, route_for};
+use super::{ClusterLink, answer_of, no_node};
 use crate::gather::{SendGroups, follow_each, gather};
 use crate::links::{Nodes, Sent};
 use crate::merge::merged;
 use crate::node::NodeAddr;
+use crate::one_node::route_for;
 use crate::router::{RouteError, go_on};
 use crate::split::{Merge, Parts, entries, merge_of, split, width_of};
 use resp_command::Cmd;

@@ -10,11 +10,12 @@ ghost use Rattle.resp_cluster.specs.Transactions.{AreTransaction, FindsNode, IsN
 ghost use Rattle.resp_cluster.specs.Transactions.{RequestTogether, SendsWhole, TransactionQuery};
 ghost use Rattle.resp_cluster.specs.Transactions.{is_server_error, no_exec};
 
-use super::{ClusterLink, no_node, route_for};
+use super::{ClusterLink, no_node};
 use crate::gather::SendGroups;
 use crate::link_commands::is_alone;
 use crate::links::Nodes;
 use crate::node::NodeAddr;
+use crate::one_node::route_for;
 use resp_command::Cmd;
 use resp_from::FromRedisValue;
 use resp_pipeline::Pipeline;
