@@ -12,21 +12,21 @@ use std::alloc::Global;
 use std::fmt::Debug;
 
 /// A conversion of a reply, by reference and by move.
-#[derive(Clone, Copy, Drop)]
+#[derive(Drop)]
 struct OfReply<'a> {
     alloc: Global,
     bytes: &'a [u8],
 }
 
 /// A conversion of the items of a reply, each by itself.
-#[derive(Clone, Copy, Drop)]
+#[derive(Drop)]
 struct OfItems<'a> {
     alloc: Global,
     bytes: &'a [u8],
 }
 
 /// A conversion of the bytes of a bulk string, by reference and by move.
-#[derive(Clone, Copy, Drop)]
+#[derive(Drop)]
 struct OfBulk<'a> {
     alloc: Global,
     bytes: &'a [u8],
@@ -43,19 +43,19 @@ fn type_and_bytes(row: &Row) -> RedisResult<(&str, &[u8])> {
 /// `convert TYPE BYTES`
 pub fn convert(alloc: Global, row: &Row) -> RedisResult<String> {
     let (name, bytes) = type_and_bytes(row)?;
-    at_type(name, OfReply { alloc, bytes })
+    at_type(name, &OfReply { alloc, bytes })
 }
 
 /// `each TYPE BYTES`
 pub fn each(alloc: Global, row: &Row) -> RedisResult<String> {
     let (name, bytes) = type_and_bytes(row)?;
-    at_item_type(name, OfItems { alloc, bytes })
+    at_item_type(name, &OfItems { alloc, bytes })
 }
 
 /// `bytes TYPE BYTES`
 pub fn bytes(alloc: Global, row: &Row) -> RedisResult<String> {
     let (name, bytes) = type_and_bytes(row)?;
-    at_item_type(name, OfBulk { alloc, bytes })
+    at_item_type(name, &OfBulk { alloc, bytes })
 }
 
 /// The Debug text of a value, or that its conversion was refused. Fails where memory ran out.
@@ -75,7 +75,7 @@ fn conversion_text<T: Debug + Drop>(
 }
 
 impl<'a> AtType for OfReply<'a> {
-    fn at<T: FromRedisValue + Debug>(self) -> RedisResult<String> {
+    fn at<T: FromRedisValue + Debug>(&self) -> RedisResult<String> {
         let alloc = self.alloc;
         let reply = parse_redis_value(alloc, self.bytes)?;
         let borrowed = conversion_text(alloc, from_redis_value_ref::<T>(alloc, &reply))?;
@@ -85,7 +85,7 @@ impl<'a> AtType for OfReply<'a> {
 }
 
 impl<'a> AtType for OfItems<'a> {
-    fn at<T: FromRedisValue + Debug>(self) -> RedisResult<String> {
+    fn at<T: FromRedisValue + Debug>(&self) -> RedisResult<String> {
         let alloc = self.alloc;
         let items = parse_redis_value(alloc, self.bytes)?
             .into_sequence(alloc)
@@ -99,7 +99,7 @@ impl<'a> AtType for OfItems<'a> {
 }
 
 impl<'a> AtType for OfBulk<'a> {
-    fn at<T: FromRedisValue + Debug>(self) -> RedisResult<String> {
+    fn at<T: FromRedisValue + Debug>(&self) -> RedisResult<String> {
         let alloc = self.alloc;
         let owned = Vec::from_slice(alloc, self.bytes)?;
         let moved = conversion_text(alloc, T::from_byte_vec(alloc, owned))?;

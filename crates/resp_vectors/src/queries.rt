@@ -22,7 +22,7 @@ pub fn link_over(alloc: Global, incoming: &[u8]) -> RedisResult<MemoryLink> {
 }
 
 /// A query of a command or a pipeline.
-#[derive(Clone, Copy, Drop)]
+#[derive(Drop)]
 struct Asked<'a> {
     alloc: Global,
     flags: &'a [Vec<u8>],
@@ -39,7 +39,7 @@ pub fn query(alloc: Global, row: &Row) -> RedisResult<String> {
     let (flags, words) = split_flags(words);
     at_answer_type(
         text_of(name.as_slice())?,
-        Asked {
+        &Asked {
             alloc,
             flags,
             words,
@@ -49,7 +49,7 @@ pub fn query(alloc: Global, row: &Row) -> RedisResult<String> {
 }
 
 impl<'a> AtType for Asked<'a> {
-    fn at<T: FromRedisValue + Debug>(self) -> RedisResult<String> {
+    fn at<T: FromRedisValue + Debug>(&self) -> RedisResult<String> {
         let mut link = link_over(self.alloc, self.incoming)?;
         let answer = answer_of::<T>(self, &mut link)?;
         with_link(self.alloc, answer, link)
@@ -58,7 +58,7 @@ impl<'a> AtType for Asked<'a> {
 
 /// What the query answers.
 fn answer_of<T: FromRedisValue + Debug>(
-    query: Asked<'_>,
+    query: &Asked<'_>,
     con: &mut dyn ConnectionLike,
 ) -> RedisResult<String> {
     let no_response = has_flag(query.flags, "--no-response");

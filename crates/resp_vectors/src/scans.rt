@@ -10,7 +10,7 @@ use std::alloc::Global;
 use std::fmt::Debug;
 
 /// A scan.
-#[derive(Clone, Copy, Drop)]
+#[derive(Drop)]
 struct Scanned<'a> {
     alloc: Global,
     budget: u64,
@@ -24,7 +24,7 @@ pub fn scan(alloc: Global, row: &Row) -> RedisResult<String> {
     match question {
         [name, budget, words @ ..] => at_item_type(
             text_of(name.as_slice())?,
-            Scanned {
+            &Scanned {
                 alloc,
                 budget: number_of(budget.as_slice())?,
                 words,
@@ -36,7 +36,7 @@ pub fn scan(alloc: Global, row: &Row) -> RedisResult<String> {
 }
 
 impl<'a> AtType for Scanned<'a> {
-    fn at<T: FromRedisValue + Debug>(self) -> RedisResult<String> {
+    fn at<T: FromRedisValue + Debug>(&self) -> RedisResult<String> {
         let mut link = link_over(self.alloc, self.incoming)?;
         let answer = answers::<T>(self, &mut link)?;
         with_link(self.alloc, answer, link)
@@ -45,7 +45,7 @@ impl<'a> AtType for Scanned<'a> {
 
 /// What the scan answers, or the refusal of its first request.
 fn answers<T: FromRedisValue + Debug>(
-    asked: Scanned<'_>,
+    asked: &Scanned<'_>,
     link: &mut MemoryLink,
 ) -> RedisResult<String> {
     let command = command_of(asked.alloc, asked.words)?;

@@ -12,11 +12,11 @@ use std::rc::Rc;
 
 /// What is done at a type.
 pub trait AtType {
-    fn at<T: FromRedisValue + Debug>(self) -> RedisResult<String>;
+    fn at<T: FromRedisValue + Debug>(&self) -> RedisResult<String>;
 }
 
 /// Does the work of lists and scans at the type of this name, which is that of an item.
-pub fn at_item_type<W: AtType + Drop>(name: &str, work: W) -> RedisResult<String> {
+pub fn at_item_type<W: AtType>(name: &str, work: &W) -> RedisResult<String> {
     match name {
         "i64" => work.at::<i64>(),
         "u8" => work.at::<u8>(),
@@ -28,7 +28,7 @@ pub fn at_item_type<W: AtType + Drop>(name: &str, work: W) -> RedisResult<String
 }
 
 /// Does the work of a query at the type of this name.
-pub fn at_answer_type<W: AtType + Drop>(name: &str, work: W) -> RedisResult<String> {
+pub fn at_answer_type<W: AtType>(name: &str, work: &W) -> RedisResult<String> {
     match name {
         "Value" => work.at::<Value>(),
         "i64" => work.at::<i64>(),
@@ -46,7 +46,7 @@ pub fn at_answer_type<W: AtType + Drop>(name: &str, work: W) -> RedisResult<Stri
 }
 
 /// Does the work of a conversion at the type of this name.
-pub fn at_type<W: AtType + Drop>(name: &str, work: W) -> RedisResult<String> {
+pub fn at_type<W: AtType>(name: &str, work: &W) -> RedisResult<String> {
     match name {
         "i8" => work.at::<i8>(),
         "i16" => work.at::<i16>(),
@@ -64,7 +64,7 @@ pub fn at_type<W: AtType + Drop>(name: &str, work: W) -> RedisResult<String> {
     }
 }
 
-fn at_scalar<W: AtType + Drop>(name: &str, work: W) -> RedisResult<String> {
+fn at_scalar<W: AtType>(name: &str, work: &W) -> RedisResult<String> {
     match name {
         "()" => work.at::<()>(),
         "bool" => work.at::<bool>(),
@@ -82,7 +82,7 @@ fn at_scalar<W: AtType + Drop>(name: &str, work: W) -> RedisResult<String> {
     }
 }
 
-fn at_list<W: AtType + Drop>(name: &str, work: W) -> RedisResult<String> {
+fn at_list<W: AtType>(name: &str, work: &W) -> RedisResult<String> {
     match name {
         "Vec<u8>" => work.at::<Vec<u8>>(),
         "Vec<i64>" => work.at::<Vec<i64>>(),
@@ -102,7 +102,7 @@ fn at_list<W: AtType + Drop>(name: &str, work: W) -> RedisResult<String> {
     }
 }
 
-fn at_array<W: AtType + Drop>(name: &str, work: W) -> RedisResult<String> {
+fn at_array<W: AtType>(name: &str, work: &W) -> RedisResult<String> {
     match name {
         "BoxedSlice<i64>" => work.at::<BoxedSlice<i64>>(),
         "[u8;3]" => work.at::<[u8; 3]>(),
@@ -122,7 +122,7 @@ fn at_array<W: AtType + Drop>(name: &str, work: W) -> RedisResult<String> {
     }
 }
 
-fn at_tuple<W: AtType + Drop>(name: &str, work: W) -> RedisResult<String> {
+fn at_tuple<W: AtType>(name: &str, work: &W) -> RedisResult<String> {
     match name {
         "(i64,)" => work.at::<(i64,)>(),
         "(i64,i64)" => work.at::<(i64, i64)>(),
@@ -137,7 +137,7 @@ fn at_tuple<W: AtType + Drop>(name: &str, work: W) -> RedisResult<String> {
     }
 }
 
-fn at_wide_tuple<W: AtType + Drop>(name: &str, work: W) -> RedisResult<String> {
+fn at_wide_tuple<W: AtType>(name: &str, work: &W) -> RedisResult<String> {
     match name {
         "(i64,i64,i64,i64)" => work.at::<(i64, i64, i64, i64)>(),
         "(i64,i64,i64,i64,i64,i64)" => work.at::<(i64, i64, i64, i64, i64, i64)>(),
@@ -161,7 +161,7 @@ fn at_wide_tuple<W: AtType + Drop>(name: &str, work: W) -> RedisResult<String> {
     }
 }
 
-fn at_keyed<W: AtType + Drop>(name: &str, work: W) -> RedisResult<String> {
+fn at_keyed<W: AtType>(name: &str, work: &W) -> RedisResult<String> {
     match name {
         "BTreeMap<i64,i64>" => work.at::<BTreeMap<i64, i64>>(),
         "BTreeMap<String,i64>" => work.at::<BTreeMap<String, i64>>(),
