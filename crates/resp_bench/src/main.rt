@@ -16,7 +16,7 @@
 //!
 //! `resp_bench query WHAT COUNT ROUNDS` asks COUNT times over a connection in memory that holds the
 //! replies, and converts each answer: `incr` to an integer, `get` to a text, `routed` the same over
-//! the links of a cluster of three primaries, `lrange` (100 elements)
+//! the links of a cluster of three primaries, `spread` of a hundred, `lrange` (100 elements)
 //! to texts, `mget` (100) to integers, `hgetall` (50 pairs) to a sorted map and `hashed` to a hashed
 //! one, `zrange` (50 pairs) to pairs of a text and an integer, and `pipe`, a pipeline of 100 GET, to
 //! texts.

@@ -27,7 +27,8 @@ const MANY: u64 = 100;
 pub enum Query {
     Incr,
     Get,
-    Routed,
+    /// By the links of a cluster with so many primaries.
+    Routed(u64),
     Lrange,
     Mget,
     Hgetall,
@@ -42,7 +43,8 @@ impl Query {
         match word {
             "incr" => Some(Query::Incr),
             "get" => Some(Query::Get),
-            "routed" => Some(Query::Routed),
+            "routed" => Some(Query::Routed(3)),
+            "spread" => Some(Query::Routed(100)),
             "lrange" => Some(Query::Lrange),
             "mget" => Some(Query::Mget),
             "hgetall" => Some(Query::Hgetall),
@@ -67,7 +69,7 @@ impl Query {
     fn reply(self, alloc: Global) -> RedisResult<Vec<u8>> {
         match self {
             Query::Incr => Ok(Vec::from_slice(alloc, b":1234567\r\n")?),
-            Query::Get | Query::Routed => Ok(Vec::from_slice(alloc, FOUND)?),
+            Query::Get | Query::Routed(_) => Ok(Vec::from_slice(alloc, FOUND)?),
             Query::Pipe => values_found(alloc),
             _ => self.elements(alloc)?.get_packed_command(),
         }
@@ -94,7 +96,7 @@ impl Query {
     fn ask(self, alloc: Global, con: &mut dyn ConnectionLike) -> RedisResult<()> {
         match self {
             Query::Incr => ask_keyed::<i64>(alloc, "INCR", con),
-            Query::Get | Query::Routed => ask_keyed::<String>(alloc, "GET", con),
+            Query::Get | Query::Routed(_) => ask_keyed::<String>(alloc, "GET", con),
             Query::Lrange => ask_ranged(alloc, con),
             Query::Mget => ask_keyed::<Vec<i64>>(alloc, "MGET", con),
             Query::Hgetall => ask_keyed::<BTreeMap<String, String>>(alloc, "HGETALL", con),
@@ -143,7 +145,10 @@ pub fn query_round(
     count: usize,
 ) -> RedisResult<Round> {
     match query {
-        Query::Routed => ask_routed_often(alloc, &mut primaries_linked(alloc, replies)?, count)?,
+        Query::Routed(primaries) => {
+            let mut cluster = primaries_linked(alloc, replies, primaries)?;
+            ask_routed_often(alloc, &mut cluster, count)?;
+        }
         _ => {
             let incoming = Cursor::new(Vec::from_slice(alloc, replies)?);
             let mut link = ByteLink::new(alloc, incoming, io::sink());

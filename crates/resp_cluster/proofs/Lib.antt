@@ -9,6 +9,7 @@ pub mod FanningOut
 pub mod Following
 pub mod Gathers
 pub mod InGroups
+pub mod Indexing
 pub mod Joining
 pub mod Linking
 pub mod Merging

@@ -1,9 +1,13 @@
 -- A map after a slot has moved.
-use Rattle.std.proofs.Common.{◌≡◌, ◌≢◌, ℕ, ◌+◌, ◌<◌, ◌≤◌, ◌&&◌, nat_le, ◌==◌, Bool, true, false, List, [], ◌∷◌, ◌++◌, None, Some}
-use Rattle.std.proofs.Common.{refl, sym, ap, ◌∙◌, cond, drop, take, length, arith, get_or, set, append_assoc, le_refl}
+use Rattle.std.proofs.Common.{◌≡◌, ◌≢◌, ℕ, ◌<◌, ◌&&◌, nat_le, ◌==◌, Bool, true, false, List, Option, None, Some}
+use Rattle.std.proofs.Common.{refl, sym, ap, ◌∙◌, length, arith, get_or}
+use Rattle.std.specs.List.{slice_get}
+use Rattle.std.specs.Option.{option_and_then, option_map_or}
 use Rattle.std.proofs.lemmas.Bool.Decides.{nat_tests}
-use Rattle.std.proofs.lemmas.List.{drop_more, drop_all, take_more, drop-set, take-set, take-append-drop}
-use Rattle.resp_cluster.specs.Maps.{covers, is_of, moved, primary_at, has_own_range, with_range, with_primary, IsOwnPlace}
+use Rattle.std.proofs.lemmas.List.Folds.{find_at, find-set, find_past, position_or_len-set}
+use Rattle.std.proofs.lemmas.Option.{slice_get_within, get_or_from_slice_get}
+use Rattle.resp_cluster.specs.Maps.{covers, is_of, moved, primary_at, range_at, has_own_range, place_in, with_range}
+use Rattle.resp_cluster.specs.Maps.{with_primary, IsOwnPlace}
 use Rattle.resp_cluster.specs.declared.node.NodeAddr.{NodeAddr}
 use Rattle.resp_cluster.specs.declared.node.SlotRange.{SlotRange}
 
@@ -20,127 +24,82 @@ has_no_other slot other first last differ own = grind (arith, nat_tests)
 is_of_itself : (slot : ℕ) → (slot == slot) && (slot == slot) ≡ true
 is_of_itself slot = grind (arith, nat_tests)
 
--- the primary of a slot, where the first range is known to have it or not
-module _ (slot : ℕ) (range : SlotRange) (map : List SlotRange) where
-  pub here : covers slot range ≡ true → primary_at (range ∷ map) slot ≡ range.primary
-  here has = rw has refl
+has_the_same : (slot other first last : ℕ) → (first == slot) && (last == slot) ≡ true
+    → nat_le slot other && nat_le other slot ≡ nat_le first other && nat_le other last
+has_the_same slot other first last own = grind (arith, nat_tests)
 
-  pub further : covers slot range ≡ false → primary_at (range ∷ map) slot ≡ primary_at map slot
-  further lacks = rw lacks refl
+-- the first range that has a slot, where that has no other
+pub record OwnRange (slot : ℕ) (map : List SlotRange) : Type 0 where
+  pub range : SlotRange
+  pub within : place_in slot map < length map
+  pub is : get_or map (place_in slot map) range ≡ range
+  pub own : is_of slot range ≡ true
 
-  pub own_here : covers slot range ≡ true → has_own_range slot (range ∷ map) ≡ is_of slot range
-  own_here has = rw has refl
+pub own_range : (slot : ℕ) (map : List SlotRange) → has_own_range slot map ≡ true → OwnRange slot map
+own_range slot map own = by_found (slice_get map (place_in slot map)) refl
+    (ap (λ range. option_map_or (is_of slot) range false) (sym (find_at (covers slot) map)) ∙ own)
+  where
+    by_found : (found : Option SlotRange) → slice_get map (place_in slot map) ≡ found
+        → option_map_or (is_of slot) (slice_get map (place_in slot map)) false ≡ true → OwnRange slot map
+    by_found None is own = cc
+    by_found (Some range) is own = record {
+      range = range;
+      within = slice_get_within map (place_in slot map) range is;
+      is = get_or_from_slice_get map (place_in slot map) range range is;
+      own = ap (λ found. option_map_or (is_of slot) found false) (sym is) ∙ own;
+    }
 
-  pub own_further : covers slot range ≡ false → has_own_range slot (range ∷ map) ≡ has_own_range slot map
-  own_further lacks = rw lacks refl
+module _ (slot : ℕ) (map : List SlotRange) (place : ℕ) (at_place : place ≡ place_in slot map) where
+  pub range_there : slice_get map place ≡ range_at map slot
+  range_there = ap (slice_get map) at_place ∙ sym (find_at (covers slot) map)
 
-module _ (slot : ℕ) (node : NodeAddr) where
-  replaced_there : (map : List SlotRange) → has_own_range slot map ≡ true
-      → primary_at (with_range slot (moved slot node) map) slot ≡ Some node
-  replaced_there [] own = cc
-  replaced_there (range ∷ map) own = by_range (covers slot range) refl (replaced_there map)
-    where
-      by_range : (b : Bool) → covers slot range ≡ b
-          → (has_own_range slot map ≡ true → primary_at (with_range slot (moved slot node) map) slot ≡ Some node)
-          → primary_at (with_range slot (moved slot node) (range ∷ map)) slot ≡ Some node
-      by_range true has further_on = rw has (here slot (moved slot node) map (has_itself slot node))
-      by_range false lacks further_on = rw lacks (further slot range (with_range slot (moved slot node) map) lacks
-          ∙ further_on (sym (own_further slot range map lacks) ∙ own))
+  pub own_there : (range : SlotRange) → slice_get map place ≡ Some range → is_of slot range ≡ true
+      → IsOwnPlace slot map (Some place)
+  own_there range is own = (
+    ap (λ found. option_map_or (is_of slot) found false) (sym range_there ∙ is) ∙ own,
+    slice_get_within map place range is,
+    at_place,
+  )
 
-  abbrev Same : ℕ → List SlotRange → Type 0
-  Same other map = has_own_range slot map ≡ true
+  pub own_elsewhere : (range : SlotRange) → slice_get map place ≡ Some range → is_of slot range ≡ false
+      → IsOwnPlace slot map None
+  own_elsewhere range is not_own = ap (λ found. option_map_or (is_of slot) found false) (sym range_there ∙ is) ∙ not_own
+
+  pub own_nowhere : slice_get map place ≡ None → IsOwnPlace slot map None
+  own_nowhere none = ap (λ found. option_map_or (is_of slot) found false) (sym range_there ∙ none)
+
+module _ (slot : ℕ) (node : NodeAddr) (map : List SlotRange) where
+  replaced_there : OwnRange slot map → primary_at (with_range slot (moved slot node) map) slot ≡ Some node
+  replaced_there r = ap (option_and_then (λ range. range.primary))
+      (find-set (covers slot) map (place_in slot map) (moved slot node) refl r.within (has_itself slot node))
+
+  replaced_elsewhere : (other : ℕ) → other ≢ slot → OwnRange slot map
       → primary_at (with_range slot (moved slot node) map) other ≡ primary_at map other
+  replaced_elsewhere other differ r = ap (option_and_then (λ range. range.primary))
+      (find_past (covers other) map (place_in slot map) (moved slot node) r.range
+      (ap (covers other) r.is ∙ has_no_other slot other r.range.first r.range.last differ r.own)
+      (has_no_other slot other slot slot differ (is_of_itself slot)))
 
-  replaced_elsewhere : (other : ℕ) → other ≢ slot → (map : List SlotRange) → has_own_range slot map ≡ true
-      → primary_at (with_range slot (moved slot node) map) other ≡ primary_at map other
-  replaced_elsewhere other differ [] own = refl
-  replaced_elsewhere other differ (range ∷ map) own =
-      by_range (covers slot range) refl (replaced_elsewhere other differ map)
-    where
-      lacked : covers other (moved slot node) ≡ false
-      lacked = has_no_other slot other slot slot differ (is_of_itself slot)
+  -- each slot is where it was
+  pub same_places : (other : ℕ) → OwnRange slot map
+      → place_in other (with_range slot (moved slot node) map) ≡ place_in other map
+  same_places other r = position_or_len-set (covers other) map (place_in slot map) (moved slot node) r.range
+      (has_the_same slot other r.range.first r.range.last r.own ∙ ap (covers other) (sym r.is))
 
-      later : covers slot range ≡ false → Same other map → (b : Bool) → covers other range ≡ b
-          → primary_at (range ∷ with_range slot (moved slot node) map) other ≡ primary_at (range ∷ map) other
-      later lacks same true has = here other range _ has ∙ sym (here other range map has)
-      later lacks same false not_it = further other range _ not_it
-          ∙ same (sym (own_further slot range map lacks) ∙ own) ∙ sym (further other range map not_it)
-
-      by_range : (b : Bool) → covers slot range ≡ b → Same other map
-          → primary_at (with_range slot (moved slot node) (range ∷ map)) other ≡ primary_at (range ∷ map) other
-      by_range true has same = rw has (further other (moved slot node) map lacked
-          ∙ sym (further other range map (has_no_other slot other range.first range.last differ
-          (sym (own_here slot range map has) ∙ own))))
-      by_range false lacks same = rw lacks (later lacks same (covers other range) refl)
-
-  pub there : (map : List SlotRange) → primary_at (with_primary slot node map) slot ≡ Some node
-  there map = by_own (has_own_range slot map) refl
+  there : primary_at (with_primary slot node map) slot ≡ Some node
+  there = by_own (has_own_range slot map) refl
     where
       by_own : (b : Bool) → has_own_range slot map ≡ b → primary_at (with_primary slot node map) slot ≡ Some node
-      by_own true own = rw own (replaced_there map own)
-      by_own false none = rw none (here slot (moved slot node) map (has_itself slot node))
+      by_own true own = rw own (replaced_there (own_range slot map own))
+      by_own false none = rw none (rw (has_itself slot node) refl)
 
-  pub elsewhere : (map : List SlotRange) (other : ℕ) → other ≢ slot
-      → primary_at (with_primary slot node map) other ≡ primary_at map other
-  elsewhere map other differ = by_own (has_own_range slot map) refl
+  elsewhere : (other : ℕ) → other ≢ slot → primary_at (with_primary slot node map) other ≡ primary_at map other
+  elsewhere other differ = by_own (has_own_range slot map) refl
     where
       by_own : (b : Bool) → has_own_range slot map ≡ b
           → primary_at (with_primary slot node map) other ≡ primary_at map other
-      by_own true own = rw own (replaced_elsewhere other differ map own)
-      by_own false none = rw none (further other (moved slot node) map
-          (has_no_other slot other slot slot differ (is_of_itself slot)))
-
--- how far a search has come: no range before this place has the slot
-pub record NoneSoFar (slot : ℕ) (map : List SlotRange) (i : ℕ) : Type 0 where
-  pub within : i ≤ length map
-  pub own : has_own_range slot map ≡ has_own_range slot (drop i map)
-  pub placed : (new : SlotRange) → with_range slot new map ≡ take i map ++ with_range slot new (drop i map)
-
-module _ (slot : ℕ) (map : List SlotRange) where
-  pub none_yet : NoneSoFar slot map 0
-  none_yet = record { within = omega arith; own = refl; placed = λ new. refl }
-
-  pub one_more : (i : ℕ) (range : SlotRange) → NoneSoFar slot map i → i < length map → range ≡ get_or map i range
-      → covers slot range ≡ false → NoneSoFar slot map (i + 1)
-  one_more i range none lt is lacks = record {
-    within = omega (arith, lt);
-    own = none.own ∙ ap (has_own_range slot) at_place ∙ own_further slot range (drop (i + 1) map) lacks;
-    placed = λ new. none.placed new ∙ ap (λ rest. take i map ++ with_range slot new rest) at_place
-        ∙ ap (λ b. take i map ++ cond b (new ∷ drop (i + 1) map) (range ∷ with_range slot new (drop (i + 1) map))) lacks
-        ∙ sym (append_assoc (take i map) (range ∷ []) (with_range slot new (drop (i + 1) map)))
-        ∙ ap (λ front. front ++ with_range slot new (drop (i + 1) map))
-        (sym (take_more map i range lt ∙ ap (λ r. take i map ++ r ∷ []) (sym is)));
-  }
-    where
-      at_place : drop i map ≡ range ∷ drop (i + 1) map
-      at_place = drop_more map i range lt ∙ ap (λ r. r ∷ drop (i + 1) map) (sym is)
-
-  pub found_own : (i : ℕ) (range : SlotRange) → NoneSoFar slot map i → i < length map → range ≡ get_or map i range
-      → covers slot range ≡ true → is_of slot range ≡ true → IsOwnPlace slot map (Some i)
-  found_own i range none lt is has own = (
-    none.own ∙ ap (has_own_range slot) at_place ∙ own_here slot range (drop (i + 1) map) has ∙ own,
-    lt,
-    λ new. none.placed new ∙ ap (λ rest. take i map ++ with_range slot new rest) at_place
-        ∙ ap (λ b. take i map ++ cond b (new ∷ drop (i + 1) map) (range ∷ with_range slot new (drop (i + 1) map))) has
-        ∙ ap (λ back. take i map ++ back) (sym (drop-set map i new lt))
-        ∙ ap (λ front. front ++ drop i (set map i new)) (sym (take-set map i new))
-        ∙ take-append-drop i (set map i new),
-  )
-    where
-      at_place : drop i map ≡ range ∷ drop (i + 1) map
-      at_place = drop_more map i range lt ∙ ap (λ r. r ∷ drop (i + 1) map) (sym is)
-
-  pub found_other : (i : ℕ) (range : SlotRange) → NoneSoFar slot map i → i < length map → range ≡ get_or map i range
-      → covers slot range ≡ true → is_of slot range ≡ false → IsOwnPlace slot map None
-  found_other i range none lt is has not_own =
-      none.own ∙ ap (has_own_range slot) at_place ∙ own_here slot range (drop (i + 1) map) has ∙ not_own
-    where
-      at_place : drop i map ≡ range ∷ drop (i + 1) map
-      at_place = drop_more map i range lt ∙ ap (λ r. r ∷ drop (i + 1) map) (sym is)
-
-  pub found_none : (i : ℕ) → NoneSoFar slot map i → i ≡ length map → IsOwnPlace slot map None
-  found_none i none all = none.own ∙ ap (λ k. has_own_range slot (drop k map)) all
-      ∙ ap (has_own_range slot) (drop_all (length map) map (le_refl (length map)))
+      by_own true own = rw own (replaced_elsewhere other differ (own_range slot map own))
+      by_own false none = rw none (rw (has_no_other slot other slot slot differ (is_of_itself slot)) refl)
 
 -- what is then known of the slots of a map that is such
 module _ (slot : ℕ) (node : NodeAddr) (old new : List SlotRange) (set_is : new ≡ with_primary slot node old) where

@@ -12,6 +12,7 @@ pub mod Replies
 pub mod Routed
 pub mod Routing
 pub mod Shards
+pub mod SlotIndexes
 pub mod Splits
 pub mod Spread
 pub mod Together

@@ -2,6 +2,7 @@
 use Rattle.std.specs.Prelude.{◌≡◌, ℕ, ◌<◌, ◌==◌, Bool, true, false, ◌&&◌, nat_le, List, [], ◌∷◌, Option, None}
 use Rattle.std.specs.Prelude.{Some, find}
 use Rattle.std.specs.Prelude.{◌%◌, length, slice_get, slice_set, if◌then◌else◌}
+use Rattle.std.specs.List.{position_or_len}
 use Rattle.std.specs.Option.{option_and_then, option_map_or}
 use Rattle.resp_cluster.specs.declared.node.NodeAddr.{NodeAddr}
 use Rattle.resp_cluster.specs.declared.node.SlotRange.{SlotRange}
@@ -38,10 +39,13 @@ is_of slot range = (range.first == slot) && (range.last == slot)
 abbrev pub has_own_range : ℕ → List SlotRange → Bool
 has_own_range slot map = option_map_or (is_of slot) (range_at map slot) false
 
+-- the place of the first range that has this slot, or how many ranges there are where none has it
+abbrev pub place_in : ℕ → List SlotRange → ℕ
+place_in slot map = position_or_len (covers slot) map
+
 -- a map with this range in place of the first that has this slot
 abbrev pub with_range : ℕ → SlotRange → List SlotRange → List SlotRange
-with_range slot new [] = []
-with_range slot new (range ∷ map) = if covers slot range then new ∷ map else range ∷ with_range slot new map
+with_range slot new map = slice_set map (place_in slot map) new
 
 -- a map that says that a slot is at this node: in a range of its own, where it had one, or before all others
 abbrev pub with_primary : ℕ → NodeAddr → List SlotRange → List SlotRange
@@ -51,5 +55,4 @@ with_primary slot node map =
 -- the place of the first range that has this slot, if that has no other
 abbrev pub IsOwnPlace : ℕ → List SlotRange → Option ℕ → Type 0
 IsOwnPlace slot map None = has_own_range slot map ≡ false
-IsOwnPlace slot map (Some place) = (has_own_range slot map ≡ true) × (place < length map)
-    × ((new : SlotRange) → with_range slot new map ≡ slice_set map place new)
+IsOwnPlace slot map (Some place) = (has_own_range slot map ≡ true) × (place < length map) × (place ≡ place_in slot map)

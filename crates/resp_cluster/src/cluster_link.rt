@@ -291,7 +291,7 @@ impl<N: Nodes> ClusterLink<N> {
             self.now place) }
     {
         match self.first_node(route, command) {
-            Ok(Some(node)) => self.links.open_place(node),
+            Ok(Some(node)) => self.links.open_place(route, node),
             _ => None,
         }
     }
@@ -370,7 +370,7 @@ impl<N: Nodes> ClusterLink<N> {
         let Some(place) = self.first_place(&route, command) else {
             return self.rounds_anew(&route, command);
         };
-        let answer = self.links.send_at(place, command);
+        let answer = self.links.send_at(place, &route, command);
         if may_redirect(&answer) {
             return self.rounds_on(&route, command, answer);
         }

@@ -16,6 +16,7 @@ mod read_from;
 mod redirect;
 mod router;
 mod shards_reply;
+mod slot_index;
 mod slot_map;
 mod slots_reply;
 mod split;

@@ -1,12 +1,13 @@
 //! Links to the nodes of a cluster.
 
-ghost use Rattle.std.specs.Prelude.{◌≡◌, ◌≢◌, false, IfOk, IfSome, OnOk, Some, None};
+ghost use Rattle.std.specs.Prelude.{◌≡◌, ◌≢◌, ◌<◌, false, IfOk, IfSome, OnOk, Some, None};
 ghost use Rattle.resp_cluster.specs.Links.{IsTold, SendsOver, readonly_bytes, without_reply};
 
 use crate::node::NodeAddr;
 use crate::redirect::{Redirect, redirect_of};
 use crate::router::SendCommand;
 use resp_command::{Cmd, ConnectionLike, Unrouted};
+use resp_routing::Route;
 use resp_value::{RedisError, RedisResult, Value};
 use std::alloc::{AllocError, Global};
 use std::marker::Model;
@@ -41,12 +42,20 @@ pub enum Sent {
     Answered(RedisResult<Value>),
 }
 
+/// How many slots in a row share a guess, and for how many such groups there is one.
+const GROUP: u16 = 16;
+
+const GROUPS: usize = 1024;
+
 /// The links that were opened to nodes, and which of them was used last.
 pub(crate) struct NodeLinks<N: Nodes> {
     pub(crate) alloc: Global,
     nodes: N,
     pub(crate) links: Vec<NodeLink<N::Link>>,
     pub(crate) last: usize,
+    /// For each group of slots the place of the link that one of them was sent over last: where the
+    /// link to the node of another is looked for first.
+    guesses: [u16; GROUPS],
 }
 
 /// By hand, so that the proof of a function that owns one has a call where it is dropped, and not a
@@ -59,6 +68,7 @@ impl<N: Nodes + Drop> Drop for NodeLinks<N> {
             nodes: _,
             links: _,
             last: _,
+            guesses: _,
         } = self;
     }
 }
@@ -88,6 +98,7 @@ impl<N: Nodes> NodeLinks<N> {
             nodes,
             links: Vec::new(alloc),
             last: 0,
+            guesses: [0; GROUPS],
         }
     }
 
@@ -130,13 +141,31 @@ impl<N: Nodes> NodeLinks<N> {
         None
     }
 
-    /// The place of the link to a node, if it works.
-    pub(crate) fn open_place(&self, node: &NodeAddr) -> Option<usize>
+    /// The place of the link to a node, the first of a command with this route, if it works.
+    pub(crate) fn open_place(&self, route: &Route, node: &NodeAddr) -> Option<usize>
         ensures { IfSome result (λ place. IsOpenAt N.Link.connection place node.now self.now) }
     {
-        let place = self.place_of(node)?;
+        let place = self.place_near(self.guess(route), node)?;
         let works = self.links[place].link.is_open();
         if works { Some(place) } else { None }
+    }
+
+    /// Where the link for a command with this route is looked for first.
+    fn guess(&self, route: &Route) -> usize {
+        match route {
+            Route::Slot(slot) => usize::from(self.guesses[group(*slot)]),
+            Route::Keyless(_) => self.last,
+        }
+    }
+
+    /// The place of the link to a node, which may be this one.
+    fn place_near(&self, guess: usize, node: &NodeAddr) -> Option<usize>
+        ensures { IsPlaceOf node.now self.now result }
+    {
+        if guess < self.links.len() && self.links[guess].node.is(node) {
+            return Some(guess);
+        }
+        self.place_of(node)
     }
 
     /// The same of a node whose link is at this place.
@@ -179,13 +208,21 @@ impl<N: Nodes> NodeLinks<N> {
         &mut self.links[last].link
     }
 
-    /// Sends a command over the link at this place.
-    pub(crate) fn send_at(&mut self, place: usize, command: &Cmd) -> RedisResult<Value>
+    /// Sends a command with this route over the link at this place.
+    pub(crate) fn send_at(
+        &mut self,
+        place: usize,
+        route: &Route,
+        command: &Cmd,
+    ) -> RedisResult<Value>
         requires { slice_get self.old.links place ≢ None }
         ensures { UsesLast N.Link.connection (λ before after. SendsOver before after false
             command.now result) (record self.old { last = place }) self.new }
     {
         self.last = place;
+        if let Route::Slot(slot) = route {
+            self.guesses[group(*slot)] = u16::try_from(place).unwrap_or(0);
+        }
         self.send_over_last(command, false)
     }
 
@@ -213,6 +250,13 @@ impl<N: Nodes> NodeLinks<N> {
         let last = self.last;
         self.links[last].link.req_packed_commands(request, 0, count)
     }
+}
+
+/// The group of a slot.
+fn group(slot: u16) -> usize
+    ensures { result < 1024 }
+{
+    usize::from(slot / GROUP) % GROUPS
 }
 
 /// The bytes of the command `ASKING`.

@@ -4,33 +4,50 @@ ghost use Rattle.std.specs.Prelude.{◌≡◌, ◌≢◌, ◌↔◌, ℕ, [], Co
 ghost use Rattle.std.specs.Prelude.{Some};
 ghost use Rattle.resp_cluster.specs.Primaries.{AreNodes, ArePrimaries, AreWithNew, AreWithRange};
 ghost use Rattle.resp_cluster.specs.Primaries.{IsNewPrimary, IsPrimaryIn, IsWithNew, IsWithPrimary};
+ghost use Rattle.resp_cluster.specs.Maps.{place_in};
 ghost use Rattle.std.specs.Option.{option_copied};
 
 use crate::node::{NodeAddr, PortKind, SlotRange, TopologyError};
 use crate::shards_reply::ranges_of_shards;
+use crate::slot_index::SlotIndex;
 use crate::slots_reply::ranges_of;
 use resp_containers::Items;
 use resp_value::Value;
 use std::alloc::{AllocError, Global};
+use std::fmt;
 use std::marker::Model;
 
 /// Which nodes serve which slots: ranges of slots, of which the first that has a slot says where it
 /// is. A slot that none has isn't served.
 ///
+/// A map that a reply gave has an index of 32 KiB beside its ranges: a slot is found in it at once,
+/// however many ranges there are.
+///
 /// Contracts see the list of its ranges.
-#[derive(Debug, Drop)]
+#[derive(Drop)]
 pub struct SlotMap {
     alloc: Global,
     ranges: Vec<SlotRange>,
+    index: SlotIndex,
 }
 
 impl Model for SlotMap {
     ghost use Rattle.std.specs.Prelude.{List};
+    ghost use Rattle.resp_cluster.specs.SlotIndexes.{IsIndex};
     ghost use Rattle.resp_cluster.specs.declared.node.SlotRange.{SlotRange};
 
     ghost Value = { List SlotRange };
 
     ghost view = { λ map. map.ranges.items };
+
+    ghost invariant = { λ map. IsIndex map.ranges.items map.index };
+}
+
+impl fmt::Debug for SlotMap {
+    fn fmt<W: fmt::Write>(&self, f: &mut fmt::Formatter<W>) -> fmt::Result {
+        let ranges = self.ranges();
+        write!(f, "SlotMap {{ ranges: {ranges:?} }}")
+    }
 }
 
 impl SlotMap {
@@ -48,6 +65,7 @@ impl SlotMap {
         SlotMap {
             alloc,
             ranges: Vec::new(alloc),
+            index: SlotIndex::new(alloc),
         }
     }
 
@@ -64,10 +82,10 @@ impl SlotMap {
         ensures { Gives (map_in asked.now reply.now) result }
     {
         match reply {
-            Value::Array(entries) => Ok(SlotMap {
-                alloc,
-                ranges: ranges_of(alloc, asked, entries.as_slice())?.into_vec(),
-            }),
+            Value::Array(entries) => {
+                let ranges = ranges_of(alloc, asked, entries.as_slice())?;
+                Ok(SlotMap::of(alloc, ranges.into_vec())?)
+            }
             _ => Err(TopologyError::BadShape),
         }
     }
@@ -87,12 +105,24 @@ impl SlotMap {
         ensures { Gives (map_of_shards asked.now kind.now reply.now) result }
     {
         match reply {
-            Value::Array(shards) => Ok(SlotMap {
-                alloc,
-                ranges: ranges_of_shards(alloc, asked, kind, shards.as_slice())?.into_vec(),
-            }),
+            Value::Array(shards) => {
+                let ranges = ranges_of_shards(alloc, asked, kind, shards.as_slice())?;
+                Ok(SlotMap::of(alloc, ranges.into_vec())?)
+            }
             _ => Err(TopologyError::BadShape),
         }
+    }
+
+    /// A map of these ranges. Fails only when out of memory.
+    fn of(alloc: Global, ranges: Vec<SlotRange>) -> Result<SlotMap, AllocError>
+        ensures { IfOk result (λ map. map ≡ ranges.items) }
+    {
+        let index = SlotIndex::of(alloc, ranges.as_slice())?;
+        Ok(SlotMap {
+            alloc,
+            ranges,
+            index,
+        })
     }
 
     /// The ranges, in order.
@@ -106,12 +136,18 @@ impl SlotMap {
     pub fn range_at(&self, slot: u16) -> Option<&SlotRange>
         ensures { option_copied result ≡ range_at self.now slot }
     {
-        for range in &self.ranges {
-            if range.covers(slot) {
-                return Some(range);
-            }
+        self.ranges.get(self.place_of(slot))
+    }
+
+    /// The place of the range that says where a slot is, or how many ranges there are where none
+    /// does.
+    fn place_of(&self, slot: u16) -> usize
+        ensures { result ≡ place_in slot self.now }
+    {
+        match self.index.distance(slot) {
+            Some(distance) => self.ranges.len() - distance,
+            None => place_in(self.ranges.as_slice(), slot),
         }
-        None
     }
 
     /// The primary of a slot, if the range that says where it is knows one.
@@ -158,6 +194,7 @@ impl SlotMap {
             }
             None => {
                 self.ranges.insert(0, range)?;
+                self.index.enter(&self.ranges[0], self.ranges.len());
                 Ok(())
             }
         }
@@ -167,12 +204,9 @@ impl SlotMap {
     fn own_place(&self, slot: u16) -> Option<usize>
         ensures { IsOwnPlace slot self.now result }
     {
-        for (place, range) in self.ranges.iter().enumerate() {
-            if range.covers(slot) {
-                return if range.is_of(slot) { Some(place) } else { None };
-            }
-        }
-        None
+        let place = self.place_of(slot);
+        let range = self.ranges.get(place)?;
+        if range.is_of(slot) { Some(place) } else { None }
     }
 
     /// The primary of the range at this place, if it has one that no range before it has.
@@ -209,6 +243,18 @@ impl SlotMap {
         }
         Ok(nodes)
     }
+}
+
+/// The place of the first range that has a slot, or how many ranges there are where none has it.
+fn place_in(ranges: &[SlotRange], slot: u16) -> usize
+    ensures { result ≡ place_in slot ranges.now }
+{
+    for (place, range) in ranges.iter().enumerate() {
+        if range.covers(slot) {
+            return place;
+        }
+    }
+    ranges.len()
 }
 
 /// Whether a node is the primary of one of these ranges.
