@@ -328,3 +328,12 @@ pub if_takes_same : {E : Type 0} (r : Result Taken E) (read others : List ℕ �
     → ((more : List ℕ) → others more ≡ read more) → IfOk r (Takes read new) → IfOk r (Takes others new)
 if_takes_same (Ok t) read others new e h = takes_same read others new t e h
 if_takes_same (Err x) read others new e h = h
+
+-- what a function of `src/requests.rt` is proved by: to take a request, an array's header, its words, or a line
+pub ruleset of_requests = (if_takes_same, goes_on_in_array, array_first, inline_first)
+
+pub ruleset of_arrays = (array_taken, array_wrong, array_unfinished)
+
+pub ruleset of_words = (word_taken, word_wrong, word_unfinished, goes_on_in_array)
+
+pub ruleset of_lines = (inline_taken, inline_unbalanced, inline_long, inline_unended, line_bound)

@@ -65,7 +65,7 @@ impl Requests {
     }
 
     /// Takes the next request.
-    #[tactic(auto, using(crate::proofs::Continuing::if_takes_same, crate::proofs::Continuing::goes_on_in_array, crate::proofs::Continuing::array_first, crate::proofs::Continuing::inline_first))]
+    #[tactic(auto, using(crate::proofs::Continuing::of_requests))]
     pub fn take(&mut self) -> Result<Taken, AllocError>
         ensures { IfOk result (Takes (ahead (pending self.old)) (pending self.new)) }
     {
@@ -95,7 +95,7 @@ fn drop_front(bytes: &mut Vec<u8>, n: usize)
 
 impl Requests {
     /// Takes an array, the first byte of which is there.
-    #[tactic(auto, using(crate::proofs::Continuing::array_taken, crate::proofs::Continuing::array_wrong, crate::proofs::Continuing::array_unfinished))]
+    #[tactic(auto, using(crate::proofs::Continuing::of_arrays))]
     fn take_array(&mut self) -> Result<Taken, AllocError>
         requires { IsArray (pending self.old) }
         ensures { IfOk result (Takes (ahead (pending self.old)) (pending self.new)) }
@@ -113,7 +113,7 @@ impl Requests {
     }
 
     /// Takes the bulk strings that are to come.
-    #[tactic(auto, using(crate::proofs::Continuing::word_taken, crate::proofs::Continuing::word_wrong, crate::proofs::Continuing::word_unfinished, crate::proofs::Continuing::goes_on_in_array))]
+    #[tactic(auto, using(crate::proofs::Continuing::of_words))]
     fn take_words(&mut self) -> Result<Taken, AllocError>
         ensures { IfOk result (Takes (in_array (pending self.old)) (pending self.new)) }
     {
@@ -134,7 +134,7 @@ impl Requests {
     }
 
     /// Takes an inline command.
-    #[tactic(auto, using(crate::proofs::Continuing::inline_taken, crate::proofs::Continuing::inline_unbalanced, crate::proofs::Continuing::inline_long, crate::proofs::Continuing::inline_unended, crate::proofs::Continuing::line_bound))]
+    #[tactic(auto, using(crate::proofs::Continuing::of_lines))]
     fn take_inline(&mut self) -> Result<Taken, AllocError>
         requires missing { self.old.missing ≡ 0 }
         requires is_inline { IsInline (pending self.old) }
