@@ -3,11 +3,12 @@ use Rattle.std.proofs.Common.{◌≡◌, ◌≢◌, ℕ, ◌+◌, ◌-◌, ◌<�
 use Rattle.std.proofs.Common.{refl, sym, ap, ◌∙◌, length, arith, get_or, drop}
 use Rattle.std.specs.List.{slice_get, slice_set}
 use Rattle.std.proofs.lemmas.Bool.Decides.{nat_tests}
-use Rattle.std.proofs.lemmas.Option.{slice_get_within, get_or_from_slice_get, slice_get-get_or}
-use Rattle.std.proofs.lemmas.List.{get_or-set_same, get_or-set_other, length-set, length-drop, drop_more}
+use Rattle.std.proofs.lemmas.Option.{slice_get_within}
+use Rattle.std.proofs.lemmas.List.{length-set, length-drop, drop_more}
 use Rattle.resp_cluster.specs.Maps.{covers, has_own_range, moved, place_in}
 use Rattle.resp_cluster.specs.SlotIndexes.{Enters, IsEntry, IsIndex}
 use Rattle.resp_cluster.proofs.Moves.{own_range, same_places}
+use Rattle.resp_cluster.proofs.OneSet.{what_was_set, what_stayed}
 use Rattle.resp_cluster.specs.declared.node.NodeAddr.{NodeAddr}
 use Rattle.resp_cluster.specs.declared.node.SlotRange.{SlotRange}
 
@@ -55,19 +56,6 @@ same_entries slot node map place index own at_place was other entry is =
     ∙ ap (λ k. entry + k) (same_places slot node map other (own_range slot map own))
     ∙ was other entry is ∙ sym (length-set map place (moved slot node))
 
--- entries after one is set
-entry_set : (xs : List ℕ) (i x entry : ℕ) → slice_get (slice_set xs i x) i ≡ Some entry → entry ≡ x
-entry_set xs i x entry is = sym (get_or_from_slice_get (slice_set xs i x) i entry entry is)
-    ∙ get_or-set_same xs i x entry (omega (arith, slice_get_within (slice_set xs i x) i entry is, length-set xs i x))
-
-entry_beside : (xs : List ℕ) (i j x entry : ℕ) → j ≢ i → slice_get (slice_set xs i x) j ≡ Some entry
-    → slice_get xs j ≡ Some entry
-entry_beside xs i j x entry differ is = slice_get-get_or xs j entry within
-    ∙ ap Some (sym (get_or-set_other xs i j x entry differ) ∙ get_or_from_slice_get (slice_set xs i x) j entry entry is)
-  where
-    within : j < length xs
-    within = omega (arith, slice_get_within (slice_set xs i x) j entry is, length-set xs i x)
-
 same_number : (one other : ℕ) → (one == other) ≡ true → one ≡ other
 same_number one other same = grind (arith, nat_tests)
 
@@ -102,10 +90,10 @@ one_entered end range distance old new has before slot entry is = by_slot (slot 
     by_slot true same = entry_if true (covers slot range && nat_lt slot (end + 1)) distance (slice_get old slot) entry
         (sym (ap (λ k. covers k range && nat_lt k (end + 1)) (same_number slot end same)
         ∙ ap (λ b. b && nat_lt end (end + 1)) has ∙ below_next end))
-        (entry_set new end distance entry (ap (slice_get (slice_set new end distance)) (sym (same_number slot end same)) ∙ is))
+        (what_was_set new end distance entry (ap (slice_get (slice_set new end distance)) (sym (same_number slot end same)) ∙ is))
     by_slot false differ = entry_if (covers slot range && nat_lt slot end) (covers slot range && nat_lt slot (end + 1))
         distance (slice_get old slot) entry (ap (λ b. covers slot range && b) (no_further slot end differ))
-        (before slot entry (entry_beside new end slot distance entry (other_number slot end differ) is))
+        (before slot entry (what_stayed new end slot distance entry (other_number slot end differ) is))
 
 pub all_entered : (end : ℕ) (range : SlotRange) (distance : ℕ) (old new : List ℕ) → EntersBelow end range distance old new
     → ((slot : ℕ) → slot < length new → covers slot range && nat_lt slot end ≡ covers slot range)

@@ -8,6 +8,7 @@ pub mod Entries
 pub mod FanningOut
 pub mod Following
 pub mod Gathers
+pub mod Grouping
 pub mod InGroups
 pub mod Indexing
 pub mod Joining
@@ -15,6 +16,7 @@ pub mod Linking
 pub mod Merging
 pub mod MorePrimaries
 pub mod Moves
+pub mod OneSet
 pub mod OverLinks
 pub mod Parting
 pub mod Parts

@@ -1,9 +1,9 @@
 -- The nodes that commands are sent to.
-use Rattle.std.proofs.Common.{◌≡◌, ◌≢◌, ℕ, zero, suc, ◌+◌, ◌<◌, ◌≤◌, List, [], ◌∷◌, ◌++◌, AllPairs, length, take, get_or, slice_get}
+use Rattle.std.proofs.Common.{◌≡◌, ◌≢◌, ℕ, zero, suc, ◌+◌, ◌<◌, ◌≤◌, List, [], ◌∷◌, ◌++◌, All, AllPairs, length, take, get_or, slice_get}
 use Rattle.std.specs.Global.{Vec}
-use Rattle.std.proofs.Common.{Bool, true, false, ◌||◌, Result, Ok, Err, is_err, subst, refl, sym, ap, ◌∙◌, Some, inl, inr, arith, length-append}
+use Rattle.std.proofs.Common.{Bool, true, false, ◌||◌, Result, Ok, Err, is_err, subst, refl, sym, ap, ◌∙◌, Some, None, inl, inr, arith, length-append}
 use Rattle.std.proofs.lemmas.Bool.{cases_lt}
-use Rattle.std.proofs.lemmas.List.{take_more, get_or_append_left, get_or_push}
+use Rattle.std.proofs.lemmas.List.{take_all, take_more, get_or_append_left, get_or_push}
 use Rattle.std.proofs.lemmas.List.Elements.{All-push}
 use Rattle.std.proofs.lemmas.List.Quantifiers.{all_pairs_push}
 use Rattle.resp_command.specs.Command.{Command}
@@ -14,9 +14,10 @@ use Rattle.resp_value.specs.declared.value.Value.{Value}
 use Rattle.resp_cluster.specs.Cluster.{Cluster, Readies, answer_of, has_failed}
 use Rattle.resp_cluster.specs.Gathered.{Gathered, RefusedGroup, StopsAt}
 use Rattle.resp_cluster.specs.Links.{Links, Reaches, SendsTo, SentRedirects, UsesLast}
-use Rattle.resp_cluster.specs.Routed.{StoppedShort, WentOn, at_once}
+use Rattle.resp_cluster.specs.Routed.{StoppedShort, WentOn, at_once, nowhere}
 use Rattle.resp_cluster.specs.Spread.{AreDestinations, FollowsReply, IsDestination, IsPlaceAmong, SendsGroup, SpreadRefused, awaited}
 use Rattle.resp_cluster.specs.Spread.{at_group, called, on_the_way, stopped, unreached, went}
+use Rattle.resp_cluster.specs.declared.redirect.Redirect.TheVariants.{Stays}
 use Rattle.resp_cluster.specs.declared.links.Sent.{Sent}
 use Rattle.resp_cluster.specs.declared.links.Sent.TheVariants.{Answered}
 use Rattle.resp_cluster.specs.declared.node.SlotRange.{SlotRange}
@@ -39,6 +40,20 @@ got_inside : {A : Type 0} (xs : List A) (x : A) (i : ℕ) → slice_get xs i ≡
 got_inside [] x i e = cc
 got_inside (z ∷ xs) x zero e = omega arith
 got_inside (z ∷ xs) x (suc i) e = let h = got_inside xs x i e in omega arith
+
+got_last : {A : Type 0} (xs : List A) (y : A) → slice_get (xs ++ y ∷ []) (length xs) ≡ Some y
+got_last [] y = refl
+got_last (x ∷ xs) y = got_last xs y
+
+-- a node that was not among others was added
+pub added : (nodes : List NodeAddr) (node it : NodeAddr) (nodes' : List NodeAddr) (seen place : ℕ)
+    → All (λ other. other ≢ node) (take seen nodes) → length nodes ≤ seen → it ≡ node → nodes' ≡ nodes ++ it ∷ []
+    → place ≡ length nodes → IsPlaceAmong nodes node nodes' place
+added nodes node it nodes' seen place none past same grown counted = rw (grown, same, counted) (record {
+  inside = rw (length-append nodes (node ∷ [])) (omega arith);
+  there = got_last nodes node;
+  grown = inr (refl, rw (← take_all seen nodes past) none);
+})
 
 module _ (nodes : List NodeAddr) (node : NodeAddr) (nodes' : List NodeAddr) (place : ℕ) (among : IsPlaceAmong nodes node nodes' place) where
   longer : length nodes ≤ length nodes'
@@ -176,6 +191,13 @@ module _ {L : Type 0} (of_link : L → Connection) (links : Links L) (map : List
   -- memory ran out for the command as one whose reply is waited for
   pub not_followed : (c : Command) (reply : Value) → FollowsReply of_link old (after links map true) node c reply (Ok reply)
   not_followed c reply = of_stopped c reply links map (Answered (Ok reply)) (at_once refl refl refl)
+
+-- a reply that does not redirect is the answer
+pub stays_there : {L : Type 0} (of_link : L → Connection) (old : Cluster L) (node : NodeAddr) (c : Command) (reply : Value)
+    → SentRedirects node (Answered (Ok reply)) Stays → FollowsReply of_link old old node c reply (Ok reply)
+stays_there of_link old node c reply reads = went old.links old.map (Answered (Ok reply))
+    (nowhere None (record { redirect = Stays; reads = reads; learnt = refl; next_is = refl }) (inl refl) refl refl)
+    (ap (λ b. record old { stale = b }) (or_false old.stale)) refl
 
 pub of_awaited : {L : Type 0} (of_link : L → Connection) (old new : Cluster L) (node : NodeAddr) (c : Command) (reply : Value)
     (r : Result Value RedisError) → FollowsReply of_link old new node (awaited c) reply r → FollowsReply of_link old new node c reply r

@@ -1,6 +1,6 @@
 //! A cluster's links, and one command over them.
 
-ghost use Rattle.std.specs.Prelude.{◌≡◌, false, IfOk, IfErr, IfSome};
+ghost use Rattle.std.specs.Prelude.{◌≡◌, false, IfOk, IfErr, IfSome, Ok};
 ghost use Rattle.std.specs.Option.{option_copied};
 ghost use Rattle.resp_cluster.specs.Cluster.{any_node, first_node, first_primary, has_failed};
 ghost use Rattle.resp_cluster.specs.Cluster.{last_link, new_cluster, no_node, node_at, only_reads};
@@ -359,6 +359,8 @@ impl<N: Nodes> ClusterLink<N> {
     /// is asked for before the next command. A link that broke is opened anew before anything is
     /// sent over it. Where that fails, the map is asked for, and the command is sent once more by
     /// it. Where memory runs out for a redirect, that is the answer.
+    // Inlined, so that a caller who has this as a connection is answered by one function.
+    #[inline(always)]
     pub fn req_routed(&mut self, command: &Cmd) -> RedisResult<Value>
         ensures { RoutedCall N.Link.connection command.now self.old self.new result }
     {
@@ -434,13 +436,24 @@ fn ended(outcome: Result<Sent, RouteError<Sent>>) -> (Sent, bool)
     }
 }
 
-/// Whether an answer is a server's error: no other redirects.
+/// Whether an answer is a reply that may redirect its command.
 fn may_redirect(answer: &RedisResult<Value>) -> bool
     ensures { result ≡ false → (node : NodeAddr) → SentRedirects node (Sent.Answered answer.now)
         Redirect.Stays }
 {
     match answer {
-        Ok(Value::ServerError(_)) => true,
+        Ok(reply) => reply_may_redirect(reply),
+        Err(_) => false,
+    }
+}
+
+/// Whether a reply may redirect its command: no other than a server's error does.
+fn reply_may_redirect(reply: &Value) -> bool
+    ensures { result ≡ false → (node : NodeAddr) → SentRedirects node (Sent.Answered (Ok reply.now))
+        Redirect.Stays }
+{
+    match reply {
+        Value::ServerError(_) => true,
         _ => false,
     }
 }

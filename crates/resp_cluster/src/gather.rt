@@ -1,10 +1,11 @@
 //! Several commands over the nodes of a cluster.
 
-ghost use Rattle.std.specs.Prelude.{◌≡◌, ◌<◌, All, IfOk, IfErr, length, map};
+ghost use Rattle.std.specs.Prelude.{◌≡◌, ◌<◌, [], All, IfOk, IfErr, List, length, map};
 ghost use Rattle.resp_errors.specs.Memory.{OnlyMemory};
 ghost use Rattle.resp_cluster.specs.Gathered.{FollowedEach, Gathered, InPlaces, NodeRefuses, RefusedGroup};
-ghost use Rattle.resp_cluster.specs.Gathered.{SentEach, SentGroup, StopsAt, of_node, request_of};
-ghost use Rattle.resp_cluster.specs.Gathering.{Enough, from_last};
+ghost use Rattle.resp_cluster.specs.Gathered.{SentEach, SentGroup, StopsAt};
+ghost use Rattle.resp_cluster.specs.Gathering.{AreGroups, Enough, IsGroupOf, from_last};
+ghost use Rattle.resp_command.specs.Command.{Command};
 
 use crate::node::NodeAddr;
 use resp_command::Cmd;
@@ -103,6 +104,7 @@ fn send_groups<C: SendGroups>(
     commands: &[Cmd],
     targets: &[usize],
 ) -> RedisResult<Vec<Vec<Value>>>
+    requires known { All (λ node. node < length nodes.now) targets.now }
     requires each { length targets.now ≡ length commands.now }
     ensures count { IfOk result (λ groups. length groups.items ≡ length nodes.now) }
     ensures sent { IfOk result (λ groups. SentEach C.sends commands.now targets.now 0 nodes.now
@@ -110,56 +112,73 @@ fn send_groups<C: SendGroups>(
     ensures refused { IfErr result (RefusedGroup C.sends commands.now targets.now nodes.now
         cluster.old cluster.new) }
 {
-    let mut groups = Vec::with_capacity(alloc, nodes.len())?;
+    let groups = groups_of(alloc, nodes.len(), commands, targets)?;
+    let mut all_replies = Vec::with_capacity(alloc, nodes.len())?;
     for place in 0..nodes.len() {
-        let mut replies = send_to(alloc, cluster, &nodes[place], place, commands, targets)?;
+        let mut replies = groups[place].send_to(alloc, cluster, &nodes[place])?;
         replies.reverse();
-        groups.push(replies)?;
+        all_replies.push(replies)?;
+    }
+    Ok(all_replies)
+}
+
+/// The commands that go to each of so many nodes.
+fn groups_of(
+    alloc: Global,
+    nodes: usize,
+    commands: &[Cmd],
+    targets: &[usize],
+) -> RedisResult<Vec<Group>>
+    requires known { All (λ node. node < nodes) targets.now }
+    requires each { length targets.now ≡ length commands.now }
+    ensures count { IfOk result (λ groups. length groups.items ≡ nodes) }
+    ensures parted { IfOk result (λ groups. AreGroups targets.now commands.now groups.items) }
+    ensures memory { OnlyMemory result }
+{
+    let mut groups = no_groups(alloc, nodes)?;
+    for place in 0..commands.len() {
+        let group = &mut groups[targets[place]];
+        commands[place].write_packed_command(&mut group.request)?;
+        group.count += 1;
     }
     Ok(groups)
 }
 
-/// Sends a node, which is at this place among the nodes, the commands that go to it, if there are any.
-fn send_to<C: SendGroups>(
-    alloc: Global,
-    cluster: &mut C,
-    node: &NodeAddr,
-    place: usize,
-    commands: &[Cmd],
-    targets: &[usize],
-) -> RedisResult<Vec<Value>>
-    requires each { length targets.now ≡ length commands.now }
-    ensures sent { IfOk result (λ replies. SentGroup C.sends
-        (of_node place targets.now commands.now) cluster.old node.now replies.items cluster.new) }
-    ensures refused { IfErr result (λ e. NodeRefuses C.sends
-        (of_node place targets.now commands.now) cluster.old node.now e cluster.new) }
-{
-    let group = group_of(alloc, place, commands, targets)?;
-    if group.count == 0 {
-        return Ok(Vec::new(alloc));
-    }
-    let replies = cluster.send_group(node, group.request.as_slice(), group.count)?;
-    Ok(replies)
-}
-
-/// The commands that go to a node.
-fn group_of(alloc: Global, node: usize, commands: &[Cmd], targets: &[usize]) -> RedisResult<Group>
-    requires each { length targets.now ≡ length commands.now }
-    ensures request { IfOk result (λ group. group.request.items
-        ≡ request_of (of_node node targets.now commands.now)) }
-    ensures count { IfOk result (λ group. group.count
-        ≡ length (of_node node targets.now commands.now)) }
+/// So many groups without commands.
+fn no_groups(alloc: Global, count: usize) -> RedisResult<Vec<Group>>
+    ensures count { IfOk result (λ groups. length groups.items ≡ count) }
+    ensures none { IfOk result (λ groups. AreGroups [] [] groups.items) }
     ensures memory { OnlyMemory result }
 {
-    let mut request = Vec::new(alloc);
-    let mut count = 0;
-    for place in 0..commands.len() {
-        if targets[place] == node {
-            commands[place].write_packed_command(&mut request)?;
-            count += 1;
-        }
+    let mut groups = Vec::with_capacity(alloc, count)?;
+    for _ in 0..count {
+        groups.push(Group {
+            request: Vec::new(alloc),
+            count: 0,
+        })?;
     }
-    Ok(Group { request, count })
+    Ok(groups)
+}
+
+impl Group {
+    /// Sends these commands to a node, if there are any.
+    fn send_to<C: SendGroups>(
+        &self,
+        alloc: Global,
+        cluster: &mut C,
+        node: &NodeAddr,
+    ) -> RedisResult<Vec<Value>>
+        ensures sent { (commands : List Command) → IsGroupOf commands self.now
+            → IfOk result (λ replies. SentGroup C.sends commands cluster.old node.now replies.items
+            cluster.new) }
+        ensures refused { (commands : List Command) → IsGroupOf commands self.now
+            → IfErr result (λ e. NodeRefuses C.sends commands cluster.old node.now e cluster.new) }
+    {
+        if self.count == 0 {
+            return Ok(Vec::new(alloc));
+        }
+        cluster.send_group(node, self.request.as_slice(), self.count)
+    }
 }
 
 /// The replies of each node, which stand with the last one first, in the places of its commands.

@@ -5,6 +5,7 @@ mod cluster_connection;
 mod cluster_link;
 mod equality;
 mod gather;
+mod guesses;
 mod link_commands;
 mod links;
 mod map_source;

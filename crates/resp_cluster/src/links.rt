@@ -1,8 +1,9 @@
 //! Links to the nodes of a cluster.
 
-ghost use Rattle.std.specs.Prelude.{◌≡◌, ◌≢◌, ◌<◌, false, IfOk, IfSome, OnOk, Some, None};
+ghost use Rattle.std.specs.Prelude.{◌≡◌, ◌≢◌, false, IfOk, IfSome, OnOk, Some, None};
 ghost use Rattle.resp_cluster.specs.Links.{IsTold, SendsOver, readonly_bytes, without_reply};
 
+use crate::guesses::Guesses;
 use crate::node::NodeAddr;
 use crate::redirect::{Redirect, redirect_of};
 use crate::router::SendCommand;
@@ -42,20 +43,14 @@ pub enum Sent {
     Answered(RedisResult<Value>),
 }
 
-/// How many slots in a row share a guess, and for how many such groups there is one.
-const GROUP: u16 = 16;
-
-const GROUPS: usize = 1024;
-
 /// The links that were opened to nodes, and which of them was used last.
 pub(crate) struct NodeLinks<N: Nodes> {
     pub(crate) alloc: Global,
     nodes: N,
     pub(crate) links: Vec<NodeLink<N::Link>>,
     pub(crate) last: usize,
-    /// For each group of slots the place of the link that one of them was sent over last: where the
-    /// link to the node of another is looked for first.
-    guesses: [u16; GROUPS],
+    /// Where the link to the node of a slot is looked for first, by groups of slots.
+    guesses: Guesses,
 }
 
 /// By hand, so that the proof of a function that owns one has a call where it is dropped, and not a
@@ -98,7 +93,7 @@ impl<N: Nodes> NodeLinks<N> {
             nodes,
             links: Vec::new(alloc),
             last: 0,
-            guesses: [0; GROUPS],
+            guesses: Guesses::new(),
         }
     }
 
@@ -153,7 +148,7 @@ impl<N: Nodes> NodeLinks<N> {
     /// Where the link for a command with this route is looked for first.
     fn guess(&self, route: &Route) -> usize {
         match route {
-            Route::Slot(slot) => usize::from(self.guesses[group(*slot)]),
+            Route::Slot(slot) => self.guesses.of(group(*slot)),
             Route::Keyless(_) => self.last,
         }
     }
@@ -221,7 +216,7 @@ impl<N: Nodes> NodeLinks<N> {
     {
         self.last = place;
         if let Route::Slot(slot) = route {
-            self.guesses[group(*slot)] = u16::try_from(place).unwrap_or(0);
+            self.guesses.set(group(*slot), place);
         }
         self.send_over_last(command, false)
     }
@@ -252,11 +247,9 @@ impl<N: Nodes> NodeLinks<N> {
     }
 }
 
-/// The group of a slot.
-fn group(slot: u16) -> usize
-    ensures { result < 1024 }
-{
-    usize::from(slot / GROUP) % GROUPS
+/// The group of a slot: 16 in a row share a guess.
+fn group(slot: u16) -> usize {
+    usize::from(slot / 16)
 }
 
 /// The bytes of the command `ASKING`.

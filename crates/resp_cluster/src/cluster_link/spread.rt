@@ -10,8 +10,9 @@ ghost use Rattle.resp_cluster.specs.Spread.{HasNoParts, SplitRefused};
 ghost use Rattle.resp_cluster.specs.Spread.{SpreadCall, SpreadQuery, SpreadRefused, awaited};
 ghost use Rattle.resp_cluster.specs.Transactions.{TransactionQuery};
 
-use super::{ClusterLink, answer_of, no_node};
+use super::{ClusterLink, answer_of, no_node, reply_may_redirect};
 use crate::gather::{SendGroups, follow_each, gather};
+use crate::guesses::Guesses;
 use crate::links::{Nodes, Sent};
 use crate::merge::merged;
 use crate::node::NodeAddr;
@@ -106,22 +107,23 @@ impl<N: Nodes> ClusterLink<N> {
     {
         let mut nodes = Vec::new(self.alloc);
         let mut targets = Vec::with_capacity(self.alloc, commands.len())?;
+        let mut guesses = Guesses::new();
         for command in commands {
             let node = self.destination(command)?;
-            targets.push(place_among(&mut nodes, node)?)?;
+            targets.push(place_among(self.alloc, &mut nodes, &mut guesses, node)?)?;
         }
         Ok((nodes, targets))
     }
 
     /// The node that a command is sent to first.
-    fn destination(&self, command: &Cmd) -> RedisResult<NodeAddr>
-        ensures found { IfOk result (IsDestination self.now command.now) }
+    fn destination(&self, command: &Cmd) -> RedisResult<&NodeAddr>
+        ensures found { IfOk result (λ node. IsDestination self.now command.now node.now) }
         ensures none { IfErr result (λ e. e ≢ form.OutOfMemory
             → HasNoDestination self.now command.now e) }
     {
         let route = route_for(self.alloc, command)?;
         match self.first_node(&route, command)? {
-            Some(node) => Ok(node.try_clone(self.alloc)?),
+            Some(node) => Ok(node),
             None => Err(no_node()),
         }
     }
@@ -159,16 +161,37 @@ fn awaited(command: &Cmd) -> Result<Cmd, AllocError>
 }
 
 /// The place of a node among others; it is added where it isn't there.
-fn place_among(nodes: &mut Vec<NodeAddr>, node: NodeAddr) -> Result<usize, AllocError>
-    ensures { IfOk result (IsPlaceAmong nodes.old.items node nodes.new.items) }
+fn place_among(
+    alloc: Global,
+    nodes: &mut Vec<NodeAddr>,
+    guesses: &mut Guesses,
+    node: &NodeAddr,
+) -> Result<usize, AllocError>
+    ensures { IfOk result (IsPlaceAmong nodes.old.items node.now nodes.new.items) }
 {
+    let key = hash_of(node);
+    let guess = guesses.of(key);
+    if guess < nodes.len() && nodes[guess].is(node) {
+        return Ok(guess);
+    }
     for place in 0..nodes.len() {
-        if nodes[place].is(&node) {
+        if nodes[place].is(node) {
             return Ok(place);
         }
     }
-    nodes.push(node)?;
-    Ok(nodes.len() - 1)
+    let place = nodes.len();
+    nodes.push(node.try_clone(alloc)?)?;
+    guesses.set(key, place);
+    Ok(place)
+}
+
+/// A hash of a node's address.
+fn hash_of(node: &NodeAddr) -> usize {
+    let mut hash = usize::from(node.port);
+    for byte in node.host.as_str().as_bytes() {
+        hash = hash.wrapping_mul(31).wrapping_add(usize::from(*byte));
+    }
+    hash
 }
 
 impl<N: Nodes> SendGroups for ClusterLink<N> {
@@ -200,6 +223,9 @@ impl<N: Nodes> SendGroups for ClusterLink<N> {
     }
 
     fn follow_reply(&mut self, node: &NodeAddr, command: &Cmd, reply: Value) -> RedisResult<Value> {
+        if !reply_may_redirect(&reply) {
+            return Ok(reply);
+        }
         if !command.is_no_response() {
             return self.follow_awaited(node, command, reply);
         }

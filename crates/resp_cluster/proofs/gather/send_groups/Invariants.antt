@@ -5,5 +5,5 @@ use Rattle.resp_cluster.proofs.gather.send_groups.Given as goal
 
 abbrev pub invariant-loop-place : goal.invariant-loop-place
 invariant-loop-place g l =
-    (length l.groups.items ≡ l.place)
-    × SentEach g.C.SendGroups.sends l.commands l.targets 0 l.nodes l.initial.cluster (map from_last l.groups.items) l.cluster
+    (length l.all_replies.items ≡ l.place)
+    × SentEach g.C.SendGroups.sends l.commands l.targets 0 l.nodes l.initial.cluster (map from_last l.all_replies.items) l.cluster
