@@ -4,13 +4,15 @@ use Rattle.std.proofs.Common.{Option, Some, None}
 use Rattle.std.proofs.lemmas.Grind.{common_steps}
 use Rattle.std.proofs.lemmas.List.{length-append}
 use Rattle.resp_parse.specs.declared.body.Body.{Body}
+use Rattle.resp_parse.specs.declared.decoder.Decoder.TheInside.{Inside}
 use Rattle.resp_parse.specs.declared.machine.Machine.{Machine}
 use Rattle.resp_parse.specs.Counts.{Counts, nothing_done}
 use Rattle.resp_parse.specs.State.{State}
 use Rattle.resp_parse.specs.Bounds.{Bounded, OneCall}
+use Rattle.resp_parse.specs.Building.{Stands}
 use Rattle.resp_parse.specs.Resume.{fresh_of, IsScanned}
 use Rattle.resp_parse.specs.Costs.{PaidFor, potential, Spent, SpentAtStop}
-use Rattle.resp_parse.specs.Invariant.{Counted, Holds, CountsTaken, limits_of}
+use Rattle.resp_parse.specs.Invariant.{Invariant, Counted, Holds, CountsTaken, limits_of}
 use Rattle.resp_parse.proofs.Holding.{nothing_open}
 
 -- what a call began with, t, of what was counted before it, c, and what it came to, e
@@ -143,6 +145,26 @@ Bounded-from_kept most m u since failed c n l h k p values tokens o = record {
             omega (arith, z.few, j, x, y, s, d));
       };
 }
+
+-- the same of all that a parser keeps
+pub bounded : {B R : Type 0} {S : Stands B} {p : Inside B R} → Invariant S p → (values tokens : ℕ)
+    → (p.failed ≡ false → PaidFor values tokens p.machine.open_aggregates) →
+    Bounded (record {
+      limits = limits_of p.machine p.size_limit p.push_limit;
+      unparsed = drop p.consumed p.buffer.items;
+      looked = p.machine.scanned;
+      since = p.since;
+      value_len = p.value_len;
+      failed = p.failed;
+      fault_offset = p.fault_offset;
+      open_aggregates = length p.machine.open_aggregates;
+      values = values;
+      tokens = tokens;
+      counts = p.counts;
+    })
+bounded {B} {R} {S} {p} kept values tokens paid =
+    Bounded-from_kept p.size_limit p.machine (drop p.consumed p.buffer.items) p.since p.failed p.counts p.taken
+    kept.depth kept.holds kept.counted kept.taken values tokens paid
 
 -- a value was asked for: one call at most, and no byte came
 module _ (old new : State) (same : old.failed ≡ true → new ≡ old)

@@ -16,6 +16,7 @@ pub mod Counting
 pub mod Running
 pub mod Scalars
 pub mod FaultOffsets
+pub mod Feeding
 pub mod FewDigits
 pub mod FilledBodies
 pub mod HeadersInPieces

@@ -1,12 +1,13 @@
-use Rattle.std.proofs.Common.{◌≡◌, ◌≤◌, ◌+◌, ◌-◌, ℕ, length, take, drop, false, ap, sym, ◌∙◌, subst, arith}
+use Rattle.std.proofs.Common.{◌≡◌, ◌≤◌, ◌+◌, ℕ, length, drop, false, ap, sym, ◌∙◌, subst, arith}
 use Rattle.std.proofs.lemmas.Grind.{common_steps}
 use Rattle.resp_parse.specs.State.{State}
 use Rattle.resp_parse.specs.Invariant.{limits_of}
 use Rattle.resp_parse.proofs.BodiesInPieces.{drop-drop}
-use Rattle.resp_parse.proofs.Counting.{Bounded-from_kept}
+use Rattle.resp_parse.proofs.Counting.{bounded}
 use Rattle.resp_parse.proofs.FaultOffsets.{Placed-working}
 use Rattle.resp_parse.proofs.ParserStates.{StandsAfter-works, IsBetweenValues-same, IsBetweenValues-from_same}
 use Rattle.resp_parse.proofs.Skipping.{fresh-between, holds-skipped, counted-skipped, taken-skipped}
+use Rattle.resp_parse.proofs.Taking.{all_from}
 use Rattle.resp_parse.proofs.decoder.Decoder.skip.Goals as goal
 
 pub invariant_of-self : goal.invariant_of-self
@@ -26,9 +27,8 @@ invariant_of-self g c =
     let fresh = fresh-between p.machine u p.since h e in
     let k = c.saturating_sub-self-inside.result in
     let dropped : drop n u ≡ drop at p.buffer.items = drop-drop p.consumed n p.buffer.items in
-    let x : take (length c.deref.result.now - at) (drop at c.deref.result.now) ≡ drop at p.buffer.items = grind
-    (arith, common_steps, c.deref.ensures.value) in
-    let now : c.restart.new.self ≡ drop n u = c.restart.ensures ∙ x ∙ sym dropped in
+    let rest = all_from at c.deref.result.now p.buffer.items c.deref.ensures.value in
+    let now : c.restart.new.self ≡ drop n u = c.restart.ensures ∙ rest ∙ sym dropped in
     record {
       consumed = (let f : p.consumed ≤ length p.buffer.items = kept.consumed in grind (arith, common_steps, f, within));
       limits = kept.limits;
@@ -53,14 +53,9 @@ returns-clause-rest g c =
     let at : ℕ = p.consumed + c.args.n in
     let w : p.failed ≡ false = ap (λ (s : State). s.failed) c.self.view_is
     ∙ StandsAfter-works c.args.self.now _ c.requires.rest.stands in
-    let x : take (length c.deref.result.now - at) (drop at c.deref.result.now) ≡ drop at p.buffer.items = grind
-    (arith, common_steps, c.deref.ensures.value) in
-    IsBetweenValues-from_same _ w (c.restart.ensures ∙ x)
+    let rest = all_from at c.deref.result.now p.buffer.items c.deref.ensures.value in
+    IsBetweenValues-from_same _ w (c.restart.ensures ∙ rest)
 
 pub returns-clause-bounds : goal.returns-clause-bounds
 returns-clause-bounds g c =
-    let k = invariant_of-self g c in
-    Bounded-from_kept c.self.inside.size_limit (record c.self.inside.machine { scanned = c.saturating_sub-self-inside.result })
-    (drop (c.self.inside.consumed + c.args.n) c.self.inside.buffer.items) c.restart.new.self c.self.inside.failed
-    c.examine.new.self c.self.inside.taken k.depth k.holds k.counted k.taken _ _
-    (λ w. g.met.B.Builder.paid_for _ _ _ (k.builds w))
+    let kept = invariant_of-self g c in bounded kept _ _ (λ w. g.met.B.Builder.paid_for _ _ _ (kept.builds w))

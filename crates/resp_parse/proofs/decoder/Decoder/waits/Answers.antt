@@ -1,6 +1,5 @@
-use Rattle.std.proofs.Common.{◌≡◌, ◌≤◌, ◌+◌, ◌-◌, [], length, take, drop, false, refl, ap, sym, ◌∙◌, subst}
+use Rattle.std.proofs.Common.{◌≡◌, ◌≤◌, ◌+◌, ◌-◌, length, take, drop, false, refl, ap, sym, ◌∙◌, subst}
 use Rattle.std.proofs.Common.{arith}
-use Rattle.std.proofs.lemmas.Grind.{common_steps}
 use Rattle.resp_parse.specs.declared.machine.Machine.{Machine}
 use Rattle.resp_parse.specs.State.{State}
 use Rattle.resp_parse.specs.Counts.{Counts}
@@ -9,12 +8,12 @@ use Rattle.resp_parse.specs.Building.{progress_of}
 use Rattle.resp_parse.specs.Limits.{AreLimits}
 use Rattle.resp_parse.specs.Invariant.{limits_of, Resumes, Holds, Counted, CountsTaken}
 use Rattle.resp_parse.proofs.AmortisedCost.{Spent-called}
-use Rattle.resp_parse.proofs.Counting.{Bounded-from_kept, Counted-taken, scanned-within}
+use Rattle.resp_parse.proofs.Counting.{bounded, Counted-taken, scanned-within}
 use Rattle.resp_parse.proofs.CountingTaken.{CountsTaken-waits, within-limit}
 use Rattle.resp_parse.proofs.FaultOffsets.{Placed-working}
 use Rattle.resp_parse.proofs.Holding.{Holds-working, Resumes-waits}
 use Rattle.resp_parse.proofs.ParserStates.{StandsAfter-since}
-use Rattle.resp_parse.proofs.Taking.{waits-takes}
+use Rattle.resp_parse.proofs.Taking.{all_from, not_parted, waits-takes}
 use Rattle.resp_parse.proofs.decoder.Decoder.waits.Goals as goal
 
 pub invariant_of-self : goal.invariant_of-self
@@ -30,7 +29,7 @@ invariant_of-self-2 g c =
     let looked = sym c.looks_on.ensures.looked in
     let w : p.failed ≡ false = ap (λ (s : State). s.failed) c.self.view_is ∙ c.requires.works in
     let u = take (length c.deref.result.now - p.consumed) (drop p.consumed c.deref.result.now) in
-    let f : u ≡ drop p.consumed p.buffer.items = grind (arith, common_steps, c.deref.ensures.value) in
+    let f = all_from p.consumed c.deref.result.now p.buffer.items c.deref.ensures.value in
     let d = c.looks_on.ensures.waits c.if-not-looks_on.false in
     let depth : m.depth ≡ p.machine.depth = ap (λ (x : Machine _). x.depth) c.looks_on.ensures.looked in
     let as_many : least_bytes m ≤ least_bytes p.machine + 0 = omega (arith, ap least_bytes c.looks_on.ensures.looked) in
@@ -66,22 +65,12 @@ invariant_of-self-2 g c =
 pub returns-clause-takes : goal.returns-clause-takes
 returns-clause-takes g c = λ b h _.
     let p = c.self.inside in
-    let kept = c.self.invariant in
-    let w : p.failed ≡ false = ap (λ (s : State). s.failed) c.self.view_is ∙ c.requires.works in
-    let u = take (length c.deref.result.now - p.consumed) (drop p.consumed c.deref.result.now) in
-    let f : u ≡ drop p.consumed p.buffer.items = grind (arith, common_steps, c.deref.ensures.value) in
-    let front : u ≡ take (p.size_limit - p.taken) u = grind (arith, common_steps, c.if-unparsed-self.false) in
-    let later : [] ≡ drop (p.size_limit - p.taken) u = grind (arith, common_steps, c.if-unparsed-self.false) in
-    let depth : c.looks_on.new.self.depth ≡ p.machine.depth = ap (λ (x : Machine _). x.depth)
-    c.looks_on.ensures.looked in
-    waits-takes p.size_limit p.taken p.buffer.items p.since p.consumed p.failed p.machine c.looks_on.new.self
-    kept.consumed kept.holds w (kept.taken w) u u [] f front later depth 0 refl
+    let works = ap (λ (s : State). s.failed) c.self.view_is ∙ c.requires.works in
+    let parted = not_parted p c.deref.result.now works c.deref.ensures.value (omega (arith, c.if-unparsed-self.false)) in
+    waits-takes c.self.invariant parted c.looks_on.new.self (ap (λ (x : Machine _). x.depth) c.looks_on.ensures.looked) 0 refl
     (c.looks_on.ensures.waits c.if-not-looks_on.false) _ refl refl refl b
     (StandsAfter-since c.args.self.now b h ∙ sym (ap (λ (s : State). s.since) c.self.view_is))
 
 pub returns-clause-bounds : goal.returns-clause-bounds
 returns-clause-bounds g c =
-    let p = c.self.inside in
-    let k = invariant_of-self-2 g c in
-    Bounded-from_kept p.size_limit c.looks_on.new.self (drop p.consumed p.buffer.items) p.since p.failed c.call.new.self
-    p.taken k.depth k.holds k.counted k.taken _ _ (λ w. g.met.B.Builder.paid_for _ _ _ (k.builds w))
+    let kept = invariant_of-self-2 g c in bounded kept _ _ (λ w. g.met.B.Builder.paid_for _ _ _ (kept.builds w))

@@ -4,7 +4,7 @@ use Rattle.resp_parse.proofs.Holding.{Holds-new}
 use Rattle.resp_parse.proofs.FaultOffsets.{Placed-none}
 use Rattle.resp_parse.specs.Invariant.{limits_of}
 use Rattle.resp_parse.proofs.CountingTaken.{CountsTaken-fresh}
-use Rattle.resp_parse.proofs.Counting.{Counted-new, depth-fresh, Bounded-from_kept}
+use Rattle.resp_parse.proofs.Counting.{Counted-new, depth-fresh, bounded}
 use Rattle.resp_parse.proofs.decoder.Decoder.within.Goals as goal
 
 pub invariant_of-result : goal.invariant_of-result
@@ -27,6 +27,4 @@ returns-clause-rest g c = IsBetweenValues-from_same _ refl (c.new-3.ensures ∙ 
 
 pub returns-clause-bounds : goal.returns-clause-bounds
 returns-clause-bounds g c =
-    let k = invariant_of-result g c in
-    Bounded-from_kept c.args.limits.bytes c.new-2.result c.new.result.items c.new-3.result false c.new-4.result 0
-    k.depth k.holds k.counted k.taken _ _ (λ w. g.met.B.Builder.paid_for _ _ _ (k.builds w))
+    let kept = invariant_of-result g c in bounded kept _ _ (λ w. g.met.B.Builder.paid_for _ _ _ (kept.builds w))

@@ -1,4 +1,4 @@
-use Rattle.std.proofs.Common.{◌≡◌, ◌≤◌, ◌++◌, ap, sym, ◌∙◌, subst, refl, arith, length, drop, ◌-◌, Ok, None}
+use Rattle.std.proofs.Common.{◌≡◌, ◌≤◌, ◌++◌, ap, sym, ◌∙◌, subst, refl, arith, length, Ok, None}
 use Rattle.std.proofs.lemmas.Result.{err_from_is_err_and}
 use Rattle.resp_parse.specs.Counts.{Counts}
 use Rattle.resp_parse.specs.declared.limits.Limits.{Limits}
